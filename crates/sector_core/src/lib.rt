@@ -1,0 +1,20 @@
+#![tactic(auto)]
+//! The words that the whole host speaks: sectors, blocks, bios, and a configuration within its limits.
+//!
+//! | call | rule that it meets |
+//! |---|---|
+//! | `Config::check` | every number within its limits, or the first that is not, in a fixed order |
+//! | `Range::end` | the sector after the range |
+//! | `Block::new` | a block has exactly 512 bytes |
+
+mod bio;
+mod block;
+mod config;
+mod memory;
+mod range;
+
+pub use bio::{Bio, BioResult, FailKind, Op, Outcome, Slot};
+pub use block::{Block, SECTOR_BYTES};
+pub use config::{Config, ConfigDraft, ConfigFault, Scheduler};
+pub use memory::OutOfMemory;
+pub use range::Range;

@@ -1,0 +1,28 @@
+// Want of memory, the one fault that no caller can rule out.
+use std::alloc::{AllocError, AllocFailed};
+use std::error::Error;
+use std::fmt;
+
+/// A growth was refused: the call that answers this has changed nothing.
+#[derive(Clone, Copy, Debug, PartialEq, Eq)]
+pub struct OutOfMemory;
+
+impl fmt::Display for OutOfMemory {
+    fn fmt<W: fmt::Write>(&self, f: &mut fmt::Formatter<W>) -> fmt::Result {
+        write!(f, "out of memory")
+    }
+}
+
+impl Error for OutOfMemory {}
+
+impl From<AllocError> for OutOfMemory {
+    fn from(_refused: AllocError) -> OutOfMemory {
+        OutOfMemory
+    }
+}
+
+impl<T: Drop> From<AllocFailed<T>> for OutOfMemory {
+    fn from(_refused: AllocFailed<T>) -> OutOfMemory {
+        OutOfMemory
+    }
+}
