@@ -12,9 +12,11 @@ mod block;
 mod config;
 mod memory;
 mod range;
+mod table;
 
 pub use bio::{Bio, BioResult, FailKind, Op, Outcome, Slot};
 pub use block::{Block, SECTOR_BYTES};
 pub use config::{Config, ConfigDraft, ConfigFault, Scheduler};
 pub use memory::OutOfMemory;
 pub use range::Range;
+pub use table::{empty_table, first_free};

@@ -1,0 +1,81 @@
+#![tactic(auto)]
+//! The overlay: what has been stored, in memory, over a read-only image.
+//!
+//! | call | rule that it meets |
+//! |---|---|
+//! | [`Overlay::get`] | the block that the map has at a sector |
+//! | [`Overlay::exchange`] | puts a block or nothing at one sector and hands back what stood there |
+//!
+//! A finite map from sectors to blocks. Replacing and removing a block take no memory; adding one may
+//! be refused, and then the block comes back and nothing has changed.
+
+ghost use Rattle.std.specs.Prelude.{◌≡◌, List, ℕ, OnErr, OnOk, IfOk, IfErr, IsNone, IsSome, IsOk, None, Some};
+ghost use Rattle.std.specs.Option.{option_copied};
+ghost use Rattle.std.specs.FinMap as map;
+ghost use Rattle.overlay.specs.Blocks.{Blocks, exchanged};
+
+use sector_core::{Block, OutOfMemory};
+use std::alloc::Global;
+use std::collections::BTreeMap;
+use std::marker::Model;
+
+/// The blocks that have been stored, by sector.
+#[derive(Drop)]
+pub struct Overlay {
+    blocks: BTreeMap<u64, Block>,
+}
+
+impl Model for Overlay {
+    ghost use Rattle.overlay.specs.Blocks.{Blocks, blocks_code};
+
+    ghost Value = { Blocks };
+
+    ghost coded = { blocks_code };
+
+    ghost use Rattle.std.specs.FinMap as map;
+
+    ghost view = { λ o. map.from_entries o.blocks.entries };
+}
+
+impl Overlay {
+    /// An overlay with no block.
+    pub fn new(alloc: Global) -> Overlay
+        ensures { result ≡ map.empty }
+    {
+        Overlay {
+            blocks: BTreeMap::new(alloc),
+        }
+    }
+
+    /// The block at a sector, if one has been stored there.
+    pub fn get(&self, sector: u64) -> Option<&Block>
+        ensures { option_copied result ≡ map.get self.now sector }
+    {
+        self.blocks.get(&sector)
+    }
+
+    /// Puts a block, or none, at a sector, and hands back what stood there.
+    pub fn exchange(
+        &mut self,
+        sector: u64,
+        block: Option<Block>,
+    ) -> Result<Option<Block>, (Option<Block>, OutOfMemory)>
+        ensures ok { OnOk result (self.new ≡ exchanged self.old sector block) }
+        ensures old { IfOk result (λ left. left ≡ map.get self.old sector) }
+        ensures err { OnErr result (self.new ≡ self.old) }
+        ensures handed_back { IfErr result (λ back. back.0 ≡ block) }
+        // memory is taken only where a block is added
+        ensures adds { OnErr result ((map.get self.old sector ≡ None) × IsSome block) }
+    {
+        match block {
+            None => {
+                let left = self.blocks.remove(&sector);
+                return Ok(left);
+            }
+            Some(block) => match self.blocks.insert(sector, block) {
+                Ok(left) => return Ok(left),
+                Err(refused) => return Err((Some(refused.value.1), OutOfMemory)),
+            },
+        }
+    }
+}

@@ -1,0 +1,2 @@
+pub mod Slots
+pub use Rattle.sector_core.specs.Table

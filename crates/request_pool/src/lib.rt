@@ -1,0 +1,138 @@
+#![tactic(auto)]
+//! The pool of requests and bios: two fixed tables of slots.
+//!
+//! | call | rule that it meets |
+//! |---|---|
+//! | [`RequestPool::request`], [`RequestPool::bio`] | what stands in a slot |
+//! | [`RequestPool::free_request`] | the first free slot of a request |
+//! | [`RequestPool::free_bio`] | the first free slot of a bio among those of a seat |
+//! | [`RequestPool::exchange_request`], [`RequestPool::exchange_bio`] | put a value, or none, in one slot and hand back what stood there |
+//!
+//! As in blk-mq all requests are allocated when the queue is made. A slot that is not there has nothing, and an
+//! exchange there does nothing.
+
+ghost use Rattle.std.specs.Prelude.{◌≡◌, ◌+◌, ◌*◌, ◌<◌, ◌≤◌, None, IfOk, MatchOption, length, replicate, slice_index_or, slice_set};
+ghost use Rattle.std.specs.Option.{option_copied};
+ghost use Rattle.sector_core.specs.Table.{IsFirstFree, AllTaken};
+ghost use Rattle.request_pool.specs.Slots.{seat_slots};
+
+use arrayvec::ArrayVec;
+use sector_core::{Bio, Op, OutOfMemory, Slot, empty_table, first_free};
+use std::alloc::Global;
+use std::marker::Model;
+use std::mem;
+
+/// How many client seats there are.
+pub const SEATS: u8 = 16;
+
+/// How many bios of a session may be submitted and not yet reaped: each seat has as many slots.
+pub const BIOS_PER_SEAT: u16 = 32;
+
+/// What is sent to the device as one: bios of one session and operation, each beginning where the one before ends.
+#[derive(Drop)]
+pub struct Request {
+    /// The session that submitted its bios.
+    pub session: u64,
+    /// What all of its bios ask for.
+    pub op: Op,
+    /// The slots of its bios, in the order of their sectors.
+    pub bios: ArrayVec<Slot, 32>,
+}
+
+/// The slots of requests and of bios.
+#[derive(Drop)]
+pub struct RequestPool {
+    requests: Vec<Option<Request>>,
+    bios: Vec<Option<Bio>>,
+}
+
+impl Model for RequestPool {
+    ghost use Rattle.std.specs.Prelude.{◌≤◌, ◌≡◌, length};
+    ghost use Rattle.request_pool.specs.Slots.{Slots};
+
+    ghost Value = { Slots };
+
+    ghost view = { λ p. record { requests = p.requests.items; bios = p.bios.items } };
+
+    // numbers of slots fit a `Slot`
+    ghost invariant = { λ p. (length p.requests.items ≤ 65535) × (length p.bios.items ≡ 512) };
+}
+
+impl RequestPool {
+    /// A pool of `requests` free slots for requests, and of 32 for the bios of each seat.
+    pub fn new(alloc: Global, requests: u16) -> Result<RequestPool, OutOfMemory>
+        ensures { IfOk result (λ pool. pool ≡ record { requests = replicate requests None; bios = replicate 512 None }) }
+    {
+        Ok(RequestPool {
+            requests: empty_table(alloc, usize::from(requests))?,
+            bios: empty_table(alloc, 512)?,
+        })
+    }
+
+    /// The request in a slot, if there is one.
+    pub fn request(&self, slot: Slot) -> Option<&Request>
+        ensures { option_copied result ≡ slice_index_or self.now.requests slot None }
+    {
+        match self.requests.get(usize::from(slot)) {
+            Some(place) => place.as_ref(),
+            None => None,
+        }
+    }
+
+    /// The bio in a slot, if there is one.
+    pub fn bio(&self, slot: Slot) -> Option<&Bio>
+        ensures { option_copied result ≡ slice_index_or self.now.bios slot None }
+    {
+        match self.bios.get(usize::from(slot)) {
+            Some(place) => place.as_ref(),
+            None => None,
+        }
+    }
+
+    /// The first free slot for a request.
+    pub fn free_request(&self) -> Option<Slot>
+        ensures { MatchOption result (AllTaken self.now.requests) (λ slot. IsFirstFree self.now.requests slot) }
+    {
+        match first_free(self.requests.as_slice()) {
+            Some(slot) => Some(slot as u16),
+            None => None,
+        }
+    }
+
+    /// The first free slot for a bio of a seat: a seat has the 32 slots from `32 * seat` on.
+    pub fn free_bio(&self, seat: u8) -> Option<Slot>
+        requires { seat < 16 }
+        ensures { MatchOption result (AllTaken (seat_slots seat self.now.bios))
+            (λ slot. (32 * seat ≤ slot) × (slot < 32 * seat + 32) × (slice_index_or self.now.bios slot None ≡ None)) }
+    {
+        let start = usize::from(seat) * 32;
+        let end = start + 32;
+        let slots = &self.bios[start..end];
+        match first_free(slots) {
+            Some(place) => Some((start + place) as u16),
+            None => None,
+        }
+    }
+
+    /// Puts a request, or none, in a slot and hands back what stood there.
+    pub fn exchange_request(&mut self, slot: Slot, request: Option<Request>) -> Option<Request>
+        ensures new { self.new ≡ record self.old { requests = slice_set self.old.requests slot request } }
+        ensures old { result ≡ slice_index_or self.old.requests slot request }
+    {
+        match self.requests.get_mut(usize::from(slot)) {
+            Some(place) => mem::replace(place, request),
+            None => request,
+        }
+    }
+
+    /// Puts a bio, or none, in a slot and hands back what stood there.
+    pub fn exchange_bio(&mut self, slot: Slot, bio: Option<Bio>) -> Option<Bio>
+        ensures new { self.new ≡ record self.old { bios = slice_set self.old.bios slot bio } }
+        ensures old { result ≡ slice_index_or self.old.bios slot bio }
+    {
+        match self.bios.get_mut(usize::from(slot)) {
+            Some(place) => mem::replace(place, bio),
+            None => bio,
+        }
+    }
+}

@@ -1,0 +1,27 @@
+use Rattle.std.proofs.Common.{◌≡◌, ◌-◌, inl, inr, Some, ap, sym, ◌∙◌, arith, rules}
+use Rattle.std.specs.List.{find}
+use Rattle.std.specs.Option.{option_or}
+use Rattle.soft_queue.specs.Turn.{numbers, is_waiting}
+use Rattle.soft_queue.proofs.Numbers.{IsAfter, next_seat_is}
+use Rattle.soft_queue.proofs.pick.Goals as goal
+use Rattle.soft_queue.proofs.pick.Goals.{then-last_seat-lt16, else-last_seat-lt16}
+
+pub returns-in-Some : goal.returns-in-Some
+returns-in-Some c =
+    let after = c.if-last_seat-lt16.after in
+    let side : IsAfter c.args.last_seat after = elim c.if-last_seat-lt16.branch [
+      | then-last_seat-lt16 w ↦ inl (w.if-last_seat-lt16.true, w.after-is)
+      | else-last_seat-lt16 w ↦ inr (w.if-last_seat-lt16.false, w.after-is)
+    ] in
+    sym (next_seat_is c.args.last_seat after c.args.queues.now side
+    ∙ ap (λ r. option_or r (find (is_waiting c.args.queues.now) (numbers 0 (after - 0)))) (sym c.in-Some.ensures))
+
+pub returns-in-None : goal.returns-in-None
+returns-in-None c =
+    let after = c.if-last_seat-lt16.after in
+    let side : IsAfter c.args.last_seat after = elim c.if-last_seat-lt16.branch [
+      | then-last_seat-lt16 w ↦ inl (w.if-last_seat-lt16.true, w.after-is)
+      | else-last_seat-lt16 w ↦ inr (w.if-last_seat-lt16.false, w.after-is)
+    ] in
+    c.first_waiting-in-None.ensures ∙ sym (next_seat_is c.args.last_seat after c.args.queues.now side
+    ∙ ap (λ r. option_or r (find (is_waiting c.args.queues.now) (numbers 0 (after - 0)))) (sym c.in-None.ensures))

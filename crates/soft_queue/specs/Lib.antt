@@ -1,0 +1,2 @@
+pub mod Turn
+pub use Rattle.process_queue.specs.Queue

@@ -1,0 +1,1 @@
+pub use Rattle.sector_core.specs.Table
