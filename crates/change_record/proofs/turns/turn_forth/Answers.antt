@@ -1,0 +1,29 @@
+use Rattle.std.proofs.Common.{◌≡◌, ◌+◌, ◌%◌, ◌^◌, ◌++◌, drop, set, ◌∙◌, ap, arith}
+use Rattle.change_record.proofs.Walk.{forth_tables-at, forth_left-at, fits_before, tables_before, changes_before}
+use Rattle.change_record.proofs.turns.turn_forth.Goals as goal
+
+pub turn_back-requires : goal.turn_back-requires
+turn_back-requires c =
+    fits_before c.args.changes.now c.loop-i.changes c.loop-i.i c.index-changes-i.result c.turn.new.change c.args.parts.now.tables c.turn.new.self.tables
+    c.loop-i-test.true c.requires c.loop-i.invariant.changes c.in-Err.ensures.handed_back (ap (λ p. p.tables) c.in-Err.ensures.err ∙ c.loop-i.invariant.tables)
+
+pub returns-in-Err-clause-err : goal.returns-in-Err-clause-err
+returns-in-Err-clause-err c =
+    c.turn_back.ensures.tables
+    ∙ tables_before c.args.changes.now c.loop-i.changes c.loop-i.i c.index-changes-i.result c.turn.new.change c.args.parts.now.tables c.turn.new.self.tables
+    c.loop-i-test.true c.loop-i.invariant.changes c.in-Err.ensures.handed_back (ap (λ p. p.tables) c.in-Err.ensures.err ∙ c.loop-i.invariant.tables)
+
+pub returns-in-Err-clause-handed_back : goal.returns-in-Err-clause-handed_back
+returns-in-Err-clause-handed_back c =
+    ap (λ l. l ++ drop c.loop-i.i (set c.loop-i.changes c.loop-i.i c.turn.new.change)) c.turn_back.ensures.left
+    ∙ changes_before c.args.changes.now c.loop-i.changes c.loop-i.i c.index-changes-i.result c.turn.new.change c.args.parts.now.tables c.turn.new.self.tables
+    c.loop-i-test.true c.loop-i.invariant.changes c.in-Err.ensures.handed_back (ap (λ p. p.tables) c.in-Err.ensures.err ∙ c.loop-i.invariant.tables)
+
+pub loop-i-preserved : goal.loop-i-preserved
+loop-i-preserved c = record {
+  tables = forth_tables-at c.args.changes.now c.loop-i.changes c.loop-i.i c.index-changes-i.result c.args.parts.now.tables c.loop-i.parts.tables c.turn.new.self.tables
+      c.loop-i-test.true c.loop-i.invariant.changes c.loop-i.invariant.tables c.in-Ok.ensures.tables;
+  changes = forth_left-at c.args.changes.now c.loop-i.changes c.loop-i.i c.index-changes-i.result c.turn.new.change c.args.parts.now.tables c.loop-i.parts.tables
+      c.loop-i-test.true c.loop-i.invariant.changes c.loop-i.invariant.tables c.in-Ok.ensures.left;
+  turns = omega (arith, c.in-Ok.ensures.turns, c.loop-i.invariant.turns);
+}

@@ -1,0 +1,11 @@
+pub mod Tables
+pub mod Exchange
+pub mod Trail
+pub mod Tape
+pub mod Machine
+pub use Rattle.overlay.specs.Blocks
+pub use Rattle.request_pool.specs.Slots
+pub use Rattle.process_queue.specs.Queue
+pub use Rattle.soft_queue.specs.Turn
+pub use Rattle.sector_core.specs.Table
+pub use Rattle.sector_core.specs.First

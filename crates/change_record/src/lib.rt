@@ -1,0 +1,25 @@
+#![tactic(auto)]
+//! The tables of the host, and the tape of exchanges by which every step is undone and redone.
+//!
+//! | call | rule that it meets |
+//! |---|---|
+//! | [`Parts::turn`] | the exchange of one place: the new value goes in, the old one stays in its stead |
+//! | [`Parts::turns`] | how many exchanges were made |
+//! | [`Tape::reserve`] | room for some pushes, which then take no memory |
+//! | [`Tape::push`] | one more exchange of the step under way |
+//! | [`Tape::back`] | turns a step's exchanges in reverse order; it cannot fail |
+//! | [`Tape::forth`] | turns a step's exchanges in order again |
+//!
+//! The tables change by `turn` alone. An exchange turned twice leaves the tables as they were, at every point
+//! between two others. An exchange on a place that is not there does nothing.
+
+mod change;
+mod parts;
+mod room;
+mod tape;
+mod turns;
+
+pub use change::{Change, Outbox, Seat};
+pub use parts::Parts;
+pub use room::push_within;
+pub use tape::Tape;

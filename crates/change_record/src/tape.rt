@@ -1,0 +1,206 @@
+// The tape, flat: the changes of all steps one after the other, and where each step ends.
+ghost use Rattle.std.specs.Prelude.{◌≡◌, ◌+◌, ◌≤◌, ◌<◌, ◌%◌, ◌^◌, [], ◌∷◌, ◌++◌, OnOk, OnErr, length, slice_set, slice_index, slice_range, ◌-◌};
+ghost use Rattle.change_record.specs.Exchange.{FitBack, ArePuts, back_tables, back_left, forth_tables, forth_left};
+ghost use Rattle.change_record.specs.Tape.{step_at, begin_of, AreEnds, spliced};
+
+use crate::turns::{turn_back, turn_forth};
+use crate::{Change, Parts, push_within};
+use sector_core::OutOfMemory;
+use std::alloc::Global;
+use std::marker::Model;
+
+/// The change lists of all steps of a line, and of the step under way.
+#[derive(Drop)]
+pub struct Tape {
+    changes: Vec<Change>,
+    ends: Vec<usize>,
+}
+
+impl Model for Tape {
+    ghost use Rattle.std.specs.Prelude.{◌-◌, length, vec_len, vec_capacity};
+    ghost use Rattle.change_record.specs.Tape.{Record, pieces, rest_of, AreEnds};
+
+    ghost Value = { Record };
+
+    ghost view = { λ t. record {
+      steps = pieces 0 t.ends.items t.changes.items;
+      current = rest_of 0 t.ends.items t.changes.items;
+      room = vec_capacity t.changes - vec_len t.changes;
+      spare = vec_capacity t.ends - vec_len t.ends;
+    } };
+
+    ghost invariant = { λ t. AreEnds 0 t.ends.items (length t.changes.items) };
+}
+
+impl Tape {
+    /// An empty tape.
+    pub fn new(alloc: Global) -> Tape
+        ensures steps { result.steps ≡ [] }
+        ensures current { result.current ≡ [] }
+    {
+        Tape {
+            changes: Vec::new(alloc),
+            ends: Vec::new(alloc),
+        }
+    }
+
+    /// How many steps it holds.
+    pub fn len(&self) -> usize
+        ensures { result ≡ length self.now.steps }
+    {
+        self.ends.len()
+    }
+
+    /// Makes room for the changes and the end of a step of at most `count` changes.
+    pub fn reserve(&mut self, count: usize) -> Result<(), OutOfMemory>
+        ensures steps { self.new.steps ≡ self.old.steps }
+        ensures current { self.new.current ≡ self.old.current }
+        ensures room { OnOk result (count ≤ self.new.room) }
+        ensures spare { OnOk result (1 ≤ self.new.spare) }
+    {
+        self.changes.reserve(count)?;
+        self.ends.reserve(1)?;
+        Ok(())
+    }
+
+    /// Adds a change, which has been turned, to the step under way.
+    pub fn push(&mut self, change: Change)
+        requires { 1 ≤ self.old.room }
+        ensures steps { self.new.steps ≡ self.old.steps }
+        ensures current { self.new.current ≡ self.old.current ++ change ∷ [] }
+        ensures room { self.old.room ≤ self.new.room + 1 }
+        ensures spare { self.new.spare ≡ self.old.spare }
+    {
+        push_within(&mut self.changes, change);
+    }
+
+    /// Ends the step under way.
+    pub fn close(&mut self)
+        requires { 1 ≤ self.old.spare }
+        ensures steps { self.new.steps ≡ self.old.steps ++ self.old.current ∷ [] }
+        ensures current { self.new.current ≡ [] }
+    {
+        let end = self.changes.len();
+        push_within(&mut self.ends, end);
+    }
+
+    /// How many changes the step at a number has.
+    pub fn size(&self, at: usize) -> usize
+        requires { at < length self.now.steps }
+        ensures { result ≡ length (step_at self.now.steps at) }
+    {
+        let (start, end) = span_at(self.ends.as_slice(), at, self.changes.len());
+        end - start
+    }
+
+    /// Turns the step under way back, and takes it off the tape.
+    pub fn abandon(&mut self, parts: &mut Parts)
+        requires { FitBack self.old.current parts.old.tables }
+        ensures steps { self.new.steps ≡ self.old.steps }
+        ensures current { self.new.current ≡ [] }
+        ensures tables { parts.new.tables ≡ back_tables self.old.current parts.old.tables }
+    {
+        let end = self.changes.len();
+        let start = last_end(self.ends.as_slice(), end);
+        span_back(parts, self.changes.as_mut_slice(), start, end);
+        self.changes.truncate(start);
+    }
+
+    /// Turns the step at a number back: all its changes, the last one first. It takes no memory.
+    pub fn back(&mut self, parts: &mut Parts, at: usize)
+        requires there { at < length self.old.steps }
+        requires fits { FitBack (step_at self.old.steps at) parts.old.tables }
+        ensures tables { parts.new.tables ≡ back_tables (step_at self.old.steps at) parts.old.tables }
+        ensures turns { parts.new.turns % 2 ^ 64 ≡ (parts.old.turns + length (step_at self.old.steps at)) % 2 ^ 64 }
+        ensures steps { self.new.steps ≡ slice_set self.old.steps at (back_left (step_at self.old.steps at) parts.old.tables) }
+        ensures current { self.new.current ≡ self.old.current }
+    {
+        let (start, end) = span_at(self.ends.as_slice(), at, self.changes.len());
+        span_back(parts, self.changes.as_mut_slice(), start, end);
+    }
+
+    /// Turns the step at a number forth again: all its changes, the first one first.
+    ///
+    /// # Errors
+    ///
+    /// Where there is no memory for a block, what was turned is turned back, and nothing has changed.
+    pub fn forth(&mut self, parts: &mut Parts, at: usize) -> Result<(), OutOfMemory>
+        requires there { at < length self.old.steps }
+        requires puts { ArePuts (step_at self.old.steps at) }
+        ensures tables { OnOk result (parts.new.tables ≡ forth_tables (step_at self.old.steps at) parts.old.tables) }
+        ensures turns { OnOk result (parts.new.turns % 2 ^ 64 ≡ (parts.old.turns + length (step_at self.old.steps at)) % 2 ^ 64) }
+        ensures steps { OnOk result (self.new.steps ≡ slice_set self.old.steps at (forth_left (step_at self.old.steps at) parts.old.tables)) }
+        ensures current { self.new.current ≡ self.old.current }
+        ensures err { OnErr result (parts.new.tables ≡ parts.old.tables) }
+        ensures kept { OnErr result (self.new.steps ≡ self.old.steps) }
+    {
+        let (start, end) = span_at(self.ends.as_slice(), at, self.changes.len());
+        match span_forth(parts, self.changes.as_mut_slice(), start, end) {
+            Ok(()) => return Ok(()),
+            Err(refused) => return Err(refused),
+        }
+    }
+}
+
+// Where the piece with this number begins, and where it ends, in a list of `len` elements.
+fn span_at(ends: &[usize], at: usize, len: usize) -> (usize, usize)
+    requires there { at < length ends.now }
+    requires rising { AreEnds 0 ends.now len }
+    ensures start { result.0 ≡ begin_of 0 ends.now at }
+    ensures end { result.1 ≡ slice_index ends.now at }
+    ensures ordered { result.0 ≤ result.1 }
+    ensures within { result.1 ≤ len }
+{
+    let end = ends[at];
+    if at == 0 {
+        return (0, end);
+    }
+    (ends[at - 1], end)
+}
+
+// Where the rest after the last piece begins, in a list of `len` elements.
+fn last_end(ends: &[usize], len: usize) -> usize
+    requires { AreEnds 0 ends.now len }
+    ensures start { result ≡ begin_of 0 ends.now (length ends.now) }
+    ensures within { result ≤ len }
+{
+    let count = ends.len();
+    if count == 0 {
+        return 0;
+    }
+    ends[count - 1]
+}
+
+// Turns a part of the changes back.
+fn span_back(parts: &mut Parts, changes: &mut [Change], start: usize, end: usize)
+    requires ordered { start ≤ end }
+    requires within { end ≤ length changes.old }
+    requires fits { FitBack (slice_range changes.old start end) parts.old.tables }
+    ensures tables { parts.new.tables ≡ back_tables (slice_range changes.old start end) parts.old.tables }
+    ensures turns { parts.new.turns % 2 ^ 64 ≡ (parts.old.turns + (end - start)) % 2 ^ 64 }
+    ensures changes { changes.new ≡ spliced start end changes.old (back_left (slice_range changes.old start end) parts.old.tables) }
+{
+    turn_back(parts, &mut changes[start..end]);
+}
+
+// Turns a part of the changes forth.
+fn span_forth(
+    parts: &mut Parts,
+    changes: &mut [Change],
+    start: usize,
+    end: usize,
+) -> Result<(), OutOfMemory>
+    requires ordered { start ≤ end }
+    requires within { end ≤ length changes.old }
+    requires puts { ArePuts (slice_range changes.old start end) }
+    ensures tables { OnOk result (parts.new.tables ≡ forth_tables (slice_range changes.old start end) parts.old.tables) }
+    ensures turns { OnOk result (parts.new.turns % 2 ^ 64 ≡ (parts.old.turns + (end - start)) % 2 ^ 64) }
+    ensures changes { OnOk result (changes.new ≡ spliced start end changes.old (forth_left (slice_range changes.old start end) parts.old.tables)) }
+    ensures err { OnErr result (parts.new.tables ≡ parts.old.tables) }
+    ensures kept { OnErr result (changes.new ≡ changes.old) }
+{
+    match turn_forth(parts, &mut changes[start..end]) {
+        Ok(()) => return Ok(()),
+        Err(refused) => return Err(refused),
+    }
+}
