@@ -1,0 +1,59 @@
+-- What each step does to the tables, place by place (our profile).
+use Rattle.std.specs.Prelude.{ℕ, ◌+◌, ◌-◌, List, [], ◌∷◌, ◌++◌, Option, None, Some, slice_set, slice_index_or}
+use Rattle.std.specs.Option.{option_map, option_map_or}
+use Rattle.sector_core.specs.declared.range.Range.{Range}
+use Rattle.sector_core.specs.declared.bio.Op.{Op}
+use Rattle.sector_core.specs.declared.bio.Bio.{Bio}
+use Rattle.sector_core.specs.declared.bio.Outcome.{Outcome}
+use Rattle.request_pool.specs.declared.Request.{Request}
+use Rattle.change_record.specs.declared.change.Seat.{Seat}
+use Rattle.change_record.specs.Tables.{Tables}
+use Rattle.change_record.specs.Machine.{bios_at, outbox_at}
+use Rattle.dispatch_core.specs.Step.{with_unreaped, after_outcome, completed}
+use Rattle.dispatch_core.specs.WellFormed.{at}
+
+abbrev pub unreaped_at : Tables → ℕ → ℕ
+unreaped_at t seat = option_map_or (λ s. s.unreaped) (at t.seats seat) 0
+
+abbrev pub attached_tables : Tables → ℕ → ℕ → ℕ → ℕ → Tables
+attached_tables t n seat group prio = record t {
+  seats = slice_set t.seats seat (Some (record { session = n; group = group; prio = prio; unreaped = 0 }))
+}
+
+-- the bio goes into one slot, the request into another, and that slot to the end of the queue
+abbrev pub submitted_tables : Tables → ℕ → ℕ → Seat → ℕ → ℕ → ℕ → Op → Range → List ℕ → Tables
+submitted_tables t n seat entry slot place session op range payload = record t {
+  bios = slice_set t.bios place (Some (record { serial = n; range = range; payload = payload; result = None }));
+  requests = slice_set t.requests slot (Some (record { session = session; op = op; bios = record { items = place ∷ [] } }));
+  links = slice_set t.links slot (Some (record { seat = seat; serial = n }));
+  seats = slice_set t.seats seat (Some (with_unreaped (entry.unreaped + 1) entry))
+}
+
+abbrev pub reaped_tables : Tables → ℕ → Seat → ℕ → List ℕ → Tables
+reaped_tables t seat entry place rest = record t {
+  outboxes = slice_set t.outboxes seat (record { items = rest });
+  bios = slice_set t.bios place None;
+  seats = slice_set t.seats seat (Some (with_unreaped (entry.unreaped - 1) entry))
+}
+
+abbrev pub sent_tables : Tables → ℕ → ℕ → ℕ → ℕ → Tables
+sent_tables t n seat slot tag = record t {
+  links = slice_set t.links slot None;
+  tags = slice_set t.tags tag (Some (record { issue = n; slot = slot }));
+  served = seat
+}
+
+-- the slots with these bios in them
+abbrev pub with_bios : List (Option Bio) → List ℕ → List Bio → List (Option Bio)
+with_bios table [] bios = table
+with_bios table (slot ∷ slots) [] = table
+with_bios table (slot ∷ slots) (bio ∷ bios) = with_bios (slice_set table slot (Some bio)) slots bios
+
+abbrev pub finished_tables : Tables → ℕ → ℕ → ℕ → List ℕ → Outcome → Tables
+finished_tables t tag slot seat slots outcome = record t {
+  overlay = after_outcome outcome t.overlay (bios_at t.bios slots);
+  bios = with_bios t.bios slots (completed outcome t.overlay (bios_at t.bios slots));
+  requests = slice_set t.requests slot None;
+  tags = slice_set t.tags tag None;
+  outboxes = slice_set t.outboxes seat (record { items = outbox_at t.outboxes seat ++ slots })
+}

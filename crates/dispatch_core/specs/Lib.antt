@@ -1,0 +1,9 @@
+pub mod Numbers
+pub mod Step
+pub mod WellFormed
+pub mod Changes
+pub use Rattle.change_record.specs.Tables
+pub use Rattle.change_record.specs.Exchange
+pub use Rattle.change_record.specs.Trail
+pub use Rattle.change_record.specs.Tape
+pub use Rattle.change_record.specs.Machine

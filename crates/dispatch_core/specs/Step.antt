@@ -1,0 +1,247 @@
+-- The steps of the plain machine, in the order of the table of steps.
+use Rattle.std.specs.Prelude.{◌≡◌, ℕ, zero, suc, ◌+◌, ◌-◌, ◌*◌, ◌==◌, nat_le, nat_lt, Bool, true, false, not, ◌||◌, ◌⊎◌, List, [], ◌∷◌, ◌++◌, length, map, take, drop, sum, Option, None, Some, is_some, unwrap_or, if◌then◌else◌}
+use Rattle.std.specs.List.{find, count_by}
+use Rattle.std.specs.Option.{option_map, option_map_or, is_none}
+use Rattle.std.specs.FinMap as blocks
+use Rattle.sector_core.specs.First.{first_of}
+use Rattle.sector_core.specs.declared.range.Range.{Range}
+use Rattle.sector_core.specs.declared.bio.Op.{Op}
+use Rattle.sector_core.specs.declared.bio.Op.TheVariants.{Fetch, Store}
+use Rattle.sector_core.specs.declared.bio.Bio.{Bio}
+use Rattle.sector_core.specs.declared.bio.BioResult.{BioResult}
+use Rattle.sector_core.specs.declared.bio.BioResult.TheVariants.{Read, Written, IoError}
+use Rattle.sector_core.specs.declared.bio.Outcome.{Outcome}
+use Rattle.sector_core.specs.declared.bio.Outcome.TheVariants.{Fetched, Stored, Failed}
+use Rattle.overlay.specs.Blocks.{Blocks}
+use Rattle.soft_queue.specs.Turn.{numbers, seats}
+use Rattle.process_queue.specs.Queue.{is_empty}
+use Rattle.change_record.specs.declared.change.Seat.{Seat}
+use Rattle.change_record.specs.Machine.{WholeRequest, Flight, Plain, put}
+use Rattle.dispatch_core.specs.declared.answer.Code.TheVariants.{BadSeat, SeatTaken, NoSession, StaleSession, NoGroup, BadPrio, BadCount, BadLength, OutOfRange, TooManyBios, NothingOwed, NothingQueued, NoTag, BadTag, NotInFlight, BadOutcome, HistoryFull, OutOfMemory}
+use Rattle.dispatch_core.specs.declared.answer.Cause.TheVariants.{RequestsFull, NotCompleted}
+use Rattle.dispatch_core.specs.declared.answer.Reply.{Reply}
+use Rattle.dispatch_core.specs.declared.answer.Reply.TheVariants.{Attached, Queued, Completed, Issued, Finished, Done}
+use Rattle.dispatch_core.specs.declared.answer.Answer.{Answer}
+use Rattle.dispatch_core.specs.declared.answer.Answer.TheVariants.{Accepted, Refused, NotYet}
+use Rattle.dispatch_core.specs.declared.step.Step.{Step}
+use Rattle.dispatch_core.specs.declared.step.Step.TheVariants.{Attach, Submit, Reap, Dispatch, Finish}
+
+-- blk-mq: what the queue was made for: the sectors of its image, its requests (`nr_requests`) and the tags of its device
+pub record Limits : Type 0 where
+  pub sectors : ℕ
+  pub requests : ℕ
+  pub tags : ℕ
+
+-- a machine and an answer
+abbrev pub Outcome_of : Type 0
+Outcome_of = Plain × Answer
+
+-- A refused step changes nothing; the first of its own list decides, then a full history (our profile).
+
+-- the step is refused by the first test that holds, and else does this
+abbrev pub unless : List (Bool × Answer) → Plain → Outcome_of → Outcome_of
+unless tests m outcome = elim (first_of tests) [ None ↦ outcome | Some answer ↦ (m, answer) ]
+
+-- with room in the history the step is accepted
+abbrev pub accepted : Bool → Plain → Plain → Reply → Outcome_of
+accepted room m next reply = if room then (next, Accepted reply) else (m, Refused HistoryFull)
+
+-- Sessions.
+
+-- the session at a seat is this one
+abbrev pub is_session : ℕ → Option Seat → Bool
+is_session session None = false
+is_session session (Some seat) = seat.session == session
+
+-- a client's call names a seat that there is, that is taken, and by this session
+abbrev pub seat_tests : Plain → ℕ → ℕ → List (Bool × Answer)
+seat_tests m seat session =
+    (nat_le 16 seat, Refused BadSeat)
+    ∷ (is_none (m.seat seat), Refused NoSession)
+    ∷ (not (is_session session (m.seat seat)), Refused StaleSession)
+    ∷ []
+
+-- how many bios the session at a seat has submitted and not yet reaped
+abbrev pub unreaped : Plain → ℕ → ℕ
+unreaped m seat = option_map_or (λ s. s.unreaped) (m.seat seat) 0
+
+abbrev pub with_unreaped : ℕ → Seat → Seat
+with_unreaped n seat = record seat { unreaped = n }
+
+-- Attach: a session begins, named by the step's serial; the root is the only group.
+abbrev pub attach : Plain → ℕ → Bool → ℕ → ℕ → ℕ → Outcome_of
+attach m n room seat group prio = unless (
+    (nat_le 16 seat, Refused BadSeat)
+    ∷ (is_some (m.seat seat), Refused SeatTaken)
+    ∷ (not (group == 0), Refused NoGroup)
+    ∷ (nat_lt 7 prio, Refused BadPrio)
+    ∷ []) m
+    (accepted room m (record m { seat = put m.seat seat (Some (record { session = n; group = group; prio = prio; unreaped = 0 })) }) (Attached n))
+
+-- Submit: a bio becomes a request of its own at the end of its seat's queue.
+
+-- 512 bytes a sector for a store, none for a fetch
+abbrev pub payload_length : Op → ℕ → ℕ
+payload_length Fetch count = 0
+payload_length Store count = 512 * count
+
+-- how many requests are queued, and how many in flight
+abbrev pub queued : Plain → ℕ
+queued m = sum (map (λ seat. length (m.queue seat)) seats)
+
+abbrev pub in_flight : Limits → Plain → ℕ
+in_flight l m = count_by (λ tag. is_some (m.flight tag)) (numbers 0 l.tags)
+
+abbrev pub submitted : Plain → ℕ → ℕ → ℕ → Op → Range → List ℕ → Plain
+submitted m n seat session op range payload = record m {
+  seat = put m.seat seat (option_map (with_unreaped (unreaped m seat + 1)) (m.seat seat));
+  queue = put m.queue seat (m.queue seat ++ record { session = session; op = op; bios = record { serial = n; range = range; payload = payload; result = None } ∷ [] } ∷ [])
+}
+
+abbrev pub submit : Limits → Plain → ℕ → Bool → ℕ → ℕ → Op → Range → List ℕ → Outcome_of
+submit l m n room seat session op range payload = unless (seat_tests m seat session ++ (
+    (range.count == 0 || nat_lt 64 range.count, Refused BadCount)
+    ∷ (not (length payload == payload_length op range.count), Refused BadLength)
+    ∷ (nat_lt l.sectors (range.start + range.count), Refused OutOfRange)
+    ∷ (nat_le 32 (unreaped m seat), Refused TooManyBios)
+    ∷ (nat_le l.requests (queued m + in_flight l m), NotYet RequestsFull)
+    ∷ [])) m
+    (accepted room m (submitted m n seat session op range payload) (Queued n))
+
+-- Reap: the first completed bio of the session is handed out.
+abbrev pub reaped : Bool → Plain → ℕ → List Bio → Outcome_of
+reaped room m seat [] = (m, NotYet NotCompleted)
+reaped room m seat (bio ∷ bios) = accepted room m
+    (record m {
+      seat = put m.seat seat (option_map (with_unreaped (unreaped m seat - 1)) (m.seat seat));
+      outbox = put m.outbox seat bios
+    }) (Completed bio.serial (unwrap_or bio.result Written))
+
+abbrev pub reap : Plain → Bool → ℕ → ℕ → Outcome_of
+reap m room seat session = unless (seat_tests m seat session ++ (
+    (unreaped m seat == 0, Refused NothingOwed)
+    ∷ [])) m
+    (reaped room m seat (m.outbox seat))
+
+-- Dispatch (blk-mq, scheduler none): the earliest request of the first nonempty queue, in turn from the seat after the
+-- last one, is sent under the lowest free tag.
+abbrev pub next_queue : Plain → Option ℕ
+next_queue m = find (λ seat. not (is_empty (m.queue seat))) (drop (m.served + 1) seats ++ take (m.served + 1) seats)
+
+abbrev pub lowest_free : Limits → Plain → Option ℕ
+lowest_free l m = find (λ tag. is_none (m.flight tag)) (numbers 0 l.tags)
+
+-- the sectors of a request, from its first bio on
+abbrev pub size_of : List Bio → ℕ
+size_of bios = sum (map (λ bio. bio.range.count) bios)
+
+abbrev pub range_of : List Bio → Range
+range_of [] = record { start = 0; count = 0 }
+range_of (bio ∷ bios) = record { start = bio.range.start; count = size_of (bio ∷ bios) }
+
+abbrev pub sent : Plain → ℕ → Bool → ℕ → ℕ → List WholeRequest → Outcome_of
+sent m n room seat tag [] = (m, Refused NothingQueued)
+sent m n room seat tag (request ∷ requests) = accepted room m
+    (record m {
+      queue = put m.queue seat requests;
+      flight = put m.flight tag (Some (record { issue = n; request = request }));
+      served = seat
+    }) (Issued tag n request.op (range_of request.bios))
+
+abbrev pub dispatch_to : Plain → ℕ → Bool → Option ℕ → Option ℕ → Outcome_of
+dispatch_to m n room None tag = (m, Refused NothingQueued)
+dispatch_to m n room (Some seat) None = (m, Refused NoTag)
+dispatch_to m n room (Some seat) (Some tag) = sent m n room seat tag (m.queue seat)
+
+abbrev pub dispatch : Limits → Plain → ℕ → Bool → Outcome_of
+dispatch l m n room = dispatch_to m n room (next_queue m) (lowest_free l m)
+
+-- Finish: every bio of the request gets its result and goes to its session's outbox.
+
+-- the outcome is one of the request's operation and length
+abbrev pub fits : Op → ℕ → Outcome → Bool
+fits Fetch size (Fetched bytes) = length bytes == 512 * size
+fits Fetch size Stored = false
+fits Fetch size (Failed kind) = true
+fits Store size (Fetched bytes) = false
+fits Store size Stored = true
+fits Store size (Failed kind) = false
+
+-- the overlay with `count` blocks from a sector on, cut from these bytes
+abbrev pub with_blocks : Blocks → ℕ → ℕ → List ℕ → Blocks
+with_blocks overlay sector zero bytes = overlay
+with_blocks overlay sector (suc count) bytes = with_blocks (blocks.insert overlay sector (take 512 bytes)) (sector + 1) count (drop 512 bytes)
+
+abbrev pub with_stored : Blocks → List Bio → Blocks
+with_stored overlay [] = overlay
+with_stored overlay (bio ∷ bios) = with_stored (with_blocks overlay bio.range.start bio.range.count bio.payload) bios
+
+-- what the device did to the overlay
+abbrev pub after_outcome : Outcome → Blocks → List Bio → Blocks
+after_outcome (Fetched bytes) overlay bios = overlay
+after_outcome Stored overlay bios = with_stored overlay bios
+after_outcome (Failed kind) overlay bios = overlay
+
+-- the content of `count` sectors: the overlay's block where it has one, else the bytes of the base
+abbrev pub content : Blocks → ℕ → ℕ → List ℕ → List ℕ
+content overlay sector zero base = []
+content overlay sector (suc count) base = unwrap_or (blocks.get overlay sector) (take 512 base) ++ content overlay (sector + 1) count (drop 512 base)
+
+-- a bio's result, where the base's bytes of its own sectors are the first of these
+abbrev pub result_of : Outcome → Blocks → Bio → BioResult
+result_of (Fetched bytes) overlay bio = Read (content overlay bio.range.start bio.range.count bytes)
+result_of Stored overlay bio = Written
+result_of (Failed kind) overlay bio = IoError kind
+
+-- the outcome without the bytes of the first `count` sectors
+abbrev pub rest_of_outcome : ℕ → Outcome → Outcome
+rest_of_outcome count (Fetched bytes) = Fetched (drop (512 * count) bytes)
+rest_of_outcome count Stored = Stored
+rest_of_outcome count (Failed kind) = Failed kind
+
+abbrev pub completed : Outcome → Blocks → List Bio → List Bio
+completed outcome overlay [] = []
+completed outcome overlay (bio ∷ bios) =
+    record bio { result = Some (result_of outcome overlay bio) } ∷ completed (rest_of_outcome bio.range.count outcome) overlay bios
+
+-- the outboxes with these bios at the end of that of the session's seat
+abbrev pub delivered : (ℕ → Option Seat) → (ℕ → List Bio) → ℕ → List Bio → ℕ → List Bio
+delivered seat outbox session bios n = if is_session session (seat n) then outbox n ++ bios else outbox n
+
+abbrev pub finished : Plain → Bool → ℕ → Outcome → WholeRequest → Outcome_of
+finished m room tag outcome request = accepted room m
+    (record m {
+      overlay = after_outcome outcome m.overlay request.bios;
+      outbox = delivered m.seat m.outbox request.session (completed outcome m.overlay request.bios);
+      flight = put m.flight tag None
+    }) (Finished (length request.bios))
+
+abbrev pub finish_of : Plain → Bool → ℕ → ℕ → Outcome → Option Flight → Outcome_of
+finish_of m room tag issue outcome None = (m, Refused NotInFlight)
+finish_of m room tag issue outcome (Some flight) = unless (
+    (not (flight.issue == issue), Refused NotInFlight)
+    ∷ (not (fits flight.request.op (size_of flight.request.bios) outcome), Refused BadOutcome)
+    ∷ []) m
+    (finished m room tag outcome flight.request)
+
+abbrev pub finish : Limits → Plain → Bool → ℕ → ℕ → Outcome → Outcome_of
+finish l m room tag issue outcome = unless ((nat_le l.tags tag, Refused BadTag) ∷ []) m (finish_of m room tag issue outcome (m.flight tag))
+
+-- a step with its serial, on a machine with or without room in its history
+abbrev pub step : Limits → Plain → ℕ → Bool → Step → Outcome_of
+step l m n room (Attach seat group prio) = attach m n room seat group prio
+step l m n room (Submit seat session op range payload) = submit l m n room seat session op range payload
+step l m n room (Reap seat session) = reap m room seat session
+step l m n room Dispatch = dispatch l m n room
+step l m n room (Finish tag issue outcome) = finish l m room tag issue outcome
+
+-- What a step may be answered: the plain step's answer; or want of memory, with no change, where the plain step accepts.
+
+abbrev pub IsAccepted : Answer → Type 0
+IsAccepted (Accepted reply) = Unit {0}
+IsAccepted (Refused code) = ⊥
+IsAccepted (NotYet cause) = ⊥
+
+abbrev pub Applies : Limits → Plain → ℕ → Bool → Step → Plain → Answer → Type 0
+Applies l m n room s next answer =
+    ((next, answer) ≡ step l m n room s) ⊎ (IsAccepted (step l m n room s).1 × (answer ≡ Refused OutOfMemory) × (next ≡ m))
