@@ -1,3 +1,4 @@
 pub mod Exchanges
 pub mod Pieces
 pub mod Walk
+pub mod Trails

@@ -299,3 +299,75 @@ rest_cut es ends xs changes now ys start end e f h s t n =
       ap (take start) (n ∙ ap (λ l. spliced start end l ys) f)
           ∙ take-append-le start (take start xs) (ys ++ drop end xs) (omega (arith, length-take-le start xs within)) ∙ take-take_of start start xs (omega arith) ∙ ap (λ k. take k xs) b,
     )
+
+-- the first ends alone
+take-cons : {A : Type 0} (n : ℕ) (x : A) (xs : List A) → take (suc n) (x ∷ xs) ≡ x ∷ take n xs
+take-cons n x xs = refl
+
+pieces-first : {A : Type 0} (a : ℕ) (es : List ℕ) (xs : List A) (k : ℕ) → pieces a (take k es) xs ≡ take k (pieces a es xs)
+pieces-first a [] xs zero = refl
+pieces-first a [] xs (suc k) = refl
+pieces-first a (e ∷ es) xs zero = refl
+pieces-first a (e ∷ es) xs (suc k) = ap (λ l. take (e - a) xs ∷ l) (pieces-first e es (drop (e - a) xs) k)
+
+begin_of-first : (a : ℕ) (es : List ℕ) (k : ℕ) → k ≤ length es → begin_of a (take k es) (length (take k es)) ≡ begin_of a es k
+begin_of-first a [] zero h = refl
+begin_of-first a [] (suc k) h = refl
+begin_of-first a (e ∷ es) zero h = refl
+begin_of-first a (e ∷ es) (suc k) h = begin_of-first e es k (omega arith)
+
+AreEnds-first : (a : ℕ) (es : List ℕ) (k n : ℕ) → AreEnds a es n → AreEnds a (take k es) n
+AreEnds-first a [] zero n h = h
+AreEnds-first a [] (suc k) n h = h
+AreEnds-first a (e ∷ es) zero n h = AreEnds-le a (e ∷ es) n h
+AreEnds-first a (e ∷ es) (suc k) n h = (h.0, AreEnds-first e es k n h.1)
+
+begin_of-mono : (a : ℕ) (es : List ℕ) (k j n : ℕ) → k ≤ j → j ≤ length es → AreEnds a es n → begin_of a es k ≤ begin_of a es j
+begin_of-mono a es zero j n le h ends = (begin_of-le a es j n h ends).0
+begin_of-mono a [] (suc k) j n le h ends = absurd (omega arith)
+begin_of-mono a (e ∷ es) (suc k) zero n le h ends = absurd (omega arith)
+begin_of-mono a (e ∷ es) (suc k) (suc j) n le h ends = begin_of-mono e es k j n (omega arith) (omega arith) ends.1
+
+-- the first pieces, and the last one after them
+module _ {A : Type 0} (es : List ℕ) (xs : List A) (h : AreEnds 0 es (length xs)) (idle : rest_of 0 es xs ≡ []) (k : ℕ) (lt : k < length es) where
+  pub ordered_begins : (begin_of 0 es k ≤ begin_of 0 es (length es - 1)) × (begin_of 0 es (length es - 1) ≤ length xs)
+  ordered_begins = (begin_of-mono 0 es k (length es - 1) (length xs) (omega arith) (omega arith) h, (begin_of-le 0 es (length es - 1) (length xs) (omega arith) h).1)
+
+  first_cut : AreEnds 0 (take k es) (length (take (begin_of 0 es k) xs))
+  first_cut = AreEnds-cut (take k es) xs (begin_of 0 es k) (sym (begin_of-first 0 es k (omega arith))) (AreEnds-first 0 es k (length xs) h)
+
+  first_pieces : pieces 0 (take k es) (take (begin_of 0 es k) xs) ≡ take k (pieces 0 es xs)
+  first_pieces = pieces-cut (take k es) xs (begin_of 0 es k) (sym (begin_of-first 0 es k (omega arith))) (AreEnds-first 0 es k (length xs) h) ∙ pieces-first 0 es xs k
+
+  first_rest : rest_of 0 (take k es) (take (begin_of 0 es k) xs) ≡ []
+  first_rest = rest_of-cut (take k es) xs (begin_of 0 es k) (sym (begin_of-first 0 es k (omega arith))) (AreEnds-first 0 es k (length xs) h)
+
+  -- the last piece ends with the list
+  last_piece : get_or (pieces 0 es xs) (length (pieces 0 es xs) - 1) [] ≡ drop (begin_of 0 es (length es - 1)) xs
+  last_piece =
+      let b = begin_of 0 es (length es - 1) in
+      let all : length (drop (begin_of 0 es (length es)) xs) ≡ 0 = ap length (sym (rest_is es xs h) ∙ idle) in
+      let end = begin_of-last 0 es (length es) 0 (omega arith) (omega arith) in
+      let long : length (drop b xs) ≤ get_or es (length es - 1) 0 - b =
+      omega (arith, all, end, length-drop b xs, length-drop (begin_of 0 es (length es)) xs) in
+      ap (λ n. get_or (pieces 0 es xs) (n - 1) []) (length-pieces 0 es xs)
+      ∙ piece_is es xs h (length es - 1) (omega arith) ∙ take_all (get_or es (length es - 1) 0 - b) (drop b xs) long
+
+  whole_kept : AreEnds 0 (take k es) (length (take (begin_of 0 es k) xs ++ drop (begin_of 0 es (length es - 1)) xs))
+  whole_kept = ends_more (take k es) (take (begin_of 0 es k) xs) first_cut (drop (begin_of 0 es (length es - 1)) xs)
+
+  pub pieces_kept : pieces 0 (take k es ++ length (take (begin_of 0 es k) xs ++ drop (begin_of 0 es (length es - 1)) xs) ∷ []) (take (begin_of 0 es k) xs ++ drop (begin_of 0 es (length es - 1)) xs)
+      ≡ take k (pieces 0 es xs) ++ get_or (pieces 0 es xs) (length (pieces 0 es xs) - 1) [] ∷ []
+  pieces_kept =
+      let front = take (begin_of 0 es k) xs in
+      let tail = drop (begin_of 0 es (length es - 1)) xs in
+      let more = pieces_more (take k es) front first_cut tail in
+      pieces_closed (take k es) (front ++ tail) whole_kept
+      ∙ ap (λ l. l ++ rest_of 0 (take k es) (front ++ tail) ∷ []) (more.0 ∙ first_pieces)
+      ∙ ap (λ l. take k (pieces 0 es xs) ++ l ∷ []) (more.1 ∙ ap (λ l. l ++ tail) first_rest ∙ sym last_piece)
+
+  pub rest_kept : rest_of 0 (take k es ++ length (take (begin_of 0 es k) xs ++ drop (begin_of 0 es (length es - 1)) xs) ∷ []) (take (begin_of 0 es k) xs ++ drop (begin_of 0 es (length es - 1)) xs) ≡ []
+  rest_kept = rest_closed (take k es) (take (begin_of 0 es k) xs ++ drop (begin_of 0 es (length es - 1)) xs) whole_kept
+
+  pub ends_kept : AreEnds 0 (take k es ++ length (take (begin_of 0 es k) xs ++ drop (begin_of 0 es (length es - 1)) xs) ∷ []) (length (take (begin_of 0 es k) xs ++ drop (begin_of 0 es (length es - 1)) xs))
+  ends_kept = AreEnds-close 0 (take k es) _ whole_kept

@@ -1,9 +1,10 @@
 // The tape, flat: the changes of all steps one after the other, and where each step ends.
-ghost use Rattle.std.specs.Prelude.{◌≡◌, ◌+◌, ◌≤◌, ◌<◌, ◌%◌, ◌^◌, [], ◌∷◌, ◌++◌, OnOk, OnErr, length, slice_set, slice_index, slice_range, ◌-◌};
-ghost use Rattle.change_record.specs.Exchange.{FitBack, ArePuts, back_tables, back_left, forth_tables, forth_left};
+ghost use Rattle.std.specs.Prelude.{◌≡◌, ◌+◌, ◌≤◌, ◌<◌, ◌%◌, ◌^◌, [], ◌∷◌, ◌++◌, OnOk, OnErr, length, slice_set, slice_index, slice_range, take, drop, vec_len, ◌-◌};
+ghost use Rattle.change_record.specs.Exchange.{after, AddsBlock, FitsIn, IsPut, FitBack, ArePuts, back_tables, back_left, forth_tables, forth_left};
+ghost use Rattle.change_record.specs.Trail.{KeepsTrail};
 ghost use Rattle.change_record.specs.Tape.{step_at, begin_of, AreEnds, spliced};
 
-use crate::turns::{turn_back, turn_forth};
+use crate::turns::{turn_back, turn_fitting, turn_forth};
 use crate::{Change, Parts, push_within};
 use sector_core::OutOfMemory;
 use std::alloc::Global;
@@ -74,6 +75,48 @@ impl Tape {
         push_within(&mut self.changes, change);
     }
 
+    /// Makes one exchange of the step under way, and adds what it leaves.
+    ///
+    /// # Errors
+    ///
+    /// It refuses only where it would add a block to the overlay and there is no memory; then nothing has changed.
+    pub fn try_exchange(&mut self, parts: &mut Parts, change: Change) -> Result<(), OutOfMemory>
+        requires room { 1 ≤ self.old.room }
+        requires puts { IsPut change }
+        ensures tables { OnOk result (parts.new.tables ≡ after parts.old.tables change) }
+        ensures err { OnErr result (parts.new.tables ≡ parts.old.tables) }
+        ensures adds { OnErr result (AddsBlock parts.old.tables change) }
+        ensures trail { KeepsTrail self.old.current parts.old.tables self.new.current parts.new.tables }
+        ensures steps { self.new.steps ≡ self.old.steps }
+        ensures room { self.old.room ≤ self.new.room + 1 }
+        ensures spare { self.new.spare ≡ self.old.spare }
+    {
+        let mut change = change;
+        match parts.turn(&mut change) {
+            Ok(()) => {
+                self.push(change);
+                return Ok(());
+            }
+            Err(refused) => return Err(refused),
+        }
+    }
+
+    /// Makes one exchange of the step under way that adds no block, which cannot be refused.
+    pub fn exchange(&mut self, parts: &mut Parts, change: Change)
+        requires room { 1 ≤ self.old.room }
+        requires puts { IsPut change }
+        requires fits { FitsIn parts.old.tables change }
+        ensures tables { parts.new.tables ≡ after parts.old.tables change }
+        ensures trail { KeepsTrail self.old.current parts.old.tables self.new.current parts.new.tables }
+        ensures steps { self.new.steps ≡ self.old.steps }
+        ensures room { self.old.room ≤ self.new.room + 1 }
+        ensures spare { self.new.spare ≡ self.old.spare }
+    {
+        let mut change = change;
+        turn_fitting(parts, &mut change);
+        self.push(change);
+    }
+
     /// Ends the step under way.
     pub fn close(&mut self)
         requires { 1 ≤ self.old.spare }
@@ -82,6 +125,23 @@ impl Tape {
     {
         let end = self.changes.len();
         push_within(&mut self.ends, end);
+    }
+
+    /// Drops the steps from a number on, but for the last one, which takes that number.
+    pub fn keep_last(&mut self, at: usize)
+        requires there { at < length self.old.steps }
+        requires idle { self.old.current ≡ [] }
+        ensures steps { self.new.steps ≡ take at self.old.steps ++ step_at self.old.steps (length self.old.steps - 1) ∷ [] }
+        ensures current { self.new.current ≡ [] }
+    {
+        let count = self.ends.len();
+        let len = self.changes.len();
+        let (start, _) = span_at(self.ends.as_slice(), at, len);
+        let (from, _) = span_at(self.ends.as_slice(), count - 1, len);
+        drop_between(&mut self.changes, start, from);
+        let end = self.changes.len();
+        self.ends[at] = end;
+        self.ends.truncate(at + 1);
     }
 
     /// How many changes the step at a number has.
@@ -140,6 +200,19 @@ impl Tape {
             Err(refused) => return Err(refused),
         }
     }
+}
+
+// Takes out the changes from `start` to before `from`.
+fn drop_between(changes: &mut Vec<Change>, start: usize, from: usize)
+    requires ordered { start ≤ from }
+    requires within { from ≤ vec_len changes.old }
+    ensures { changes.new.items ≡ take start changes.old.items ++ drop from changes.old.items }
+{
+    let count = from - start;
+    let keep = changes.len() - count;
+    let tail = &mut changes[start..];
+    tail.rotate_left(count);
+    changes.truncate(keep);
 }
 
 // Where the piece with this number begins, and where it ends, in a list of `len` elements.

@@ -6,7 +6,7 @@ use crate::{Change, Parts};
 use sector_core::OutOfMemory;
 
 // An exchange that adds no block cannot be refused.
-fn turn_fitting(parts: &mut Parts, change: &mut Change)
+pub fn turn_fitting(parts: &mut Parts, change: &mut Change)
     requires { FitsIn parts.old.tables change.old }
     ensures tables { parts.new.tables ≡ after parts.old.tables change.old }
     ensures left { change.new ≡ left_by parts.old.tables change.old }
