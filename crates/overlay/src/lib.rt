@@ -79,3 +79,6 @@ impl Overlay {
         }
     }
 }
+
+#[cfg(test)]
+mod tests;

@@ -131,3 +131,6 @@ impl ProcessQueue {
         true
     }
 }
+
+#[cfg(test)]
+mod tests;

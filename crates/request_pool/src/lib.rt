@@ -11,7 +11,7 @@
 //! As in blk-mq all requests are allocated when the queue is made. A slot that is not there has nothing, and an
 //! exchange there does nothing.
 
-ghost use Rattle.std.specs.Prelude.{◌≡◌, ◌+◌, ◌*◌, ◌<◌, ◌≤◌, None, IfOk, MatchOption, length, replicate, slice_index_or, slice_set};
+ghost use Rattle.std.specs.Prelude.{◌≡◌, ◌+◌, ◌*◌, ◌<◌, ◌≤◌, ℕ, None, IfOk, IfSome, IsSome, MatchOption, length, replicate, slice_index_or, slice_set};
 ghost use Rattle.std.specs.Option.{option_copied};
 ghost use Rattle.sector_core.specs.Table.{IsFirstFree, AllTaken};
 ghost use Rattle.request_pool.specs.Slots.{seat_slots};
@@ -102,8 +102,9 @@ impl RequestPool {
     /// The first free slot for a bio of a seat: a seat has the 32 slots from `32 * seat` on.
     pub fn free_bio(&self, seat: u8) -> Option<Slot>
         requires { seat < 16 }
-        ensures { MatchOption result (AllTaken (seat_slots seat self.now.bios))
+        ensures slot { MatchOption result (AllTaken (seat_slots seat self.now.bios))
             (λ slot. (32 * seat ≤ slot) × (slot < 32 * seat + 32) × (slice_index_or self.now.bios slot None ≡ None)) }
+        ensures lowest { IfSome result (λ slot. (k : ℕ) → 32 * seat ≤ k → k < slot → IsSome (slice_index_or self.now.bios k None)) }
     {
         let start = usize::from(seat) * 32;
         let end = start + 32;
@@ -136,3 +137,6 @@ impl RequestPool {
         }
     }
 }
+
+#[cfg(test)]
+mod tests;

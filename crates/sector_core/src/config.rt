@@ -33,6 +33,10 @@ pub struct ConfigDraft {
 }
 
 impl Default for ConfigDraft {
+    ghost use Rattle.sector_core.specs.Config.{default_draft};
+
+    ghost is_default = { λ draft. draft ≡ default_draft };
+
     fn default() -> ConfigDraft {
         ConfigDraft {
             scheduler: Scheduler::Plain,

@@ -1,4 +1,6 @@
 // Want of memory, the one fault that no caller can rule out.
+ghost use Rattle.std.specs.Prelude.{Some, codes};
+
 use std::alloc::{AllocError, AllocFailed};
 use std::error::Error;
 use std::fmt;
@@ -8,6 +10,8 @@ use std::fmt;
 pub struct OutOfMemory;
 
 impl fmt::Display for OutOfMemory {
+    ghost output = { λ _. Some (codes "out of memory") };
+
     fn fmt<W: fmt::Write>(&self, f: &mut fmt::Formatter<W>) -> fmt::Result {
         write!(f, "out of memory")
     }

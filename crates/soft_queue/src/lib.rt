@@ -35,3 +35,6 @@ fn first_waiting(queues: &ProcessQueue, from: u8, end: u8) -> Option<u8>
     }
     None
 }
+
+#[cfg(test)]
+mod tests;

@@ -85,3 +85,6 @@ impl TagSet {
         }
     }
 }
+
+#[cfg(test)]
+mod tests;

@@ -1,0 +1,259 @@
+"""The table of bad input, and of good input beside it.
+
+Each case has the words of a run of `bfqhost`, its standard input, and what it must write to standard output and to
+standard error, with its exit status. `./test` runs them. The expected texts come from the rules of scripts, words and
+limits, and not from the program's own output.
+"""
+
+from dataclasses import dataclass
+from typing import Optional
+
+SIM = ["sim", "--scheduler", "none"]
+
+# Statuses of `bfqhost sim`.
+DONE = 0
+BAD_LINE = 2
+READ_FAULT = 3
+WRITE_FAULT = 4
+BAD_WORDS = 6
+
+REFUSED = b"words: refused\n"
+
+U32_PAST = 2**32
+U64_MOST = 2**64 - 1
+U64_PAST = 2**64
+
+
+@dataclass
+class Case:
+    """One run. Where `has` is there, standard output is only asked to contain these texts."""
+
+    name: str
+    words: list
+    stdin: bytes = b""
+    stdout: bytes = b""
+    stderr: bytes = b""
+    status: int = DONE
+    has: Optional[list] = None
+    # Standard input is a directory, so that the first read fails.
+    reads_directory: bool = False
+    # Standard output is /dev/full, so that a write of what is left fails.
+    writes_to_full: bool = False
+
+
+def bad_line(name, line):
+    """A bad line between two good ones: the one before is answered, and the one after is not read."""
+    script = b"attach 0 0 4\n" + line + b"\nattach 1 0 4\n"
+    return Case(f"bad line: {name}", SIM, script, b"attached 1\nbad line 2\n", b"", BAD_LINE)
+
+
+BAD_LINES = [
+    bad_line(name, line)
+    for name, line in [
+        ("unknown word", b"submit 0 1 0 1"),
+        ("a line that is not there yet", b"vtime 0"),
+        ("capital letter", b"Dispatch"),
+        ("part of a word", b"dispatc"),
+        ("a word and more", b"dispatched"),
+        ("two spaces", b"attach 1  0 4"),
+        ("space before the first word", b" dispatch"),
+        ("space after the last word", b"dispatch "),
+        ("one space", b" "),
+        ("space before a comment", b" # here"),
+        ("tab", b"attach 1\t0 4"),
+        ("tab after the last word", b"dispatch\t"),
+        ("carriage return", b"dispatch\r"),
+        ("byte 0", b"dispatch\0"),
+        ("byte above 127", b"dispatch\xff"),
+        ("comment of 257 bytes", b"#" + 256 * b"x"),
+        ("comment of 10,000 bytes", b"#" + 9_999 * b"x"),
+        ("257 bytes", 257 * b"x"),
+        ("a number that fills the line", b"undo " + 251 * b"1"),
+        # Numbers.
+        ("plus sign", b"undo +1"),
+        ("minus sign", b"undo -1"),
+        ("minus zero", b"undo -0"),
+        ("leading zero", b"undo 01"),
+        ("two zeros", b"undo 00"),
+        ("hexadecimal number", b"undo 0x1"),
+        ("digits with a separator", b"undo 1_000"),
+        ("a number with a point", b"undo 1.0"),
+        ("no digit", b"undo x"),
+        ("a digit and a letter", b"undo 1x"),
+        ("seat past u8", b"attach 256 0 4"),
+        ("group past u8", b"attach 0 256 4"),
+        ("priority past u8", b"attach 0 0 256"),
+        ("byte past u8", b"write 0 1 0 1 256"),
+        ("tag past u8", b"finish 256 1 stored"),
+        ("fill past u8", b"finish 0 1 fill 256"),
+        ("count past u16", b"read 0 1 0 65536"),
+        ("undo past u32", b"undo %d" % U32_PAST),
+        ("redo past u32", b"redo %d" % U32_PAST),
+        ("session past u64", b"reap 0 %d" % U64_PAST),
+        ("start past u64", b"read 0 1 %d 1" % U64_PAST),
+        ("issue past u64", b"finish 0 %d stored" % U64_PAST),
+        ("sector past u64", b"sector %d" % U64_PAST),
+        ("a number of 100 digits", b"sector " + 100 * b"9"),
+        # Too few words, and too many.
+        ("attach of two words", b"attach 1 0"),
+        ("attach of four words", b"attach 1 0 4 0"),
+        ("read of three words", b"read 0 1 0"),
+        ("read of five words", b"read 0 1 0 1 65"),
+        ("write with no byte", b"write 0 1 0 1"),
+        ("write of six words", b"write 0 1 0 1 65 0"),
+        ("reap of one word", b"reap 0"),
+        ("reap of three words", b"reap 0 1 2"),
+        ("dispatch of one word", b"dispatch 0"),
+        ("finish with no outcome", b"finish 0 1"),
+        ("finish with an unknown outcome", b"finish 0 1 lost"),
+        ("finish stored of one word", b"finish 0 1 stored 0"),
+        ("finish fill with no byte", b"finish 0 1 fill"),
+        ("finish fill of two words", b"finish 0 1 fill 0 0"),
+        ("finish short of one word", b"finish 0 1 short 0"),
+        ("finish fault of one word", b"finish 0 1 fault 0"),
+        ("hold of one word", b"hold 1"),
+        ("release of one word", b"release 1"),
+        ("undo of no word", b"undo"),
+        ("undo of two words", b"undo 1 1"),
+        ("redo of no word", b"redo"),
+        ("redo of two words", b"redo 1 1"),
+        ("sector of no word", b"sector"),
+        ("sector of two words", b"sector 0 1"),
+        ("line of one word", b"line 0"),
+    ]
+] + [
+    Case("bad line: the first", SIM, b"hold 0\n", b"bad line 1\n", b"", BAD_LINE),
+    Case("bad line: the last, with no newline", SIM, b"hold\nhol", b"moved 0 0\nbad line 2\n", b"", BAD_LINE),
+    Case("bad line: empty lines and comments count", SIM, b"\n# one\n\nhold\nline\n# two\nholds\nline\n",
+         b"moved 0 0\nline 0 0 0\nbad line 7\n", b"", BAD_LINE),
+    Case("bad line: refused calls before it are answered", SIM, b"dispatch\nreap 16 1\nrelease\nundo 1\n-\n",
+         b"refused 17\nrefused 1\nrefused 28\nrefused 28\nbad line 5\n", b"", BAD_LINE),
+    Case("bad line: the one after 1,048,576 lines", SIM, 1_048_577 * b"\n", b"bad line 1048577\n", b"", BAD_LINE),
+]
+
+GOOD_LINES = [
+    Case("good: no input", SIM),
+    Case("good: one newline", SIM, b"\n"),
+    Case("good: 1,048,576 lines", SIM, 1_048_576 * b"\n"),
+    Case("good: comment of 256 bytes", SIM, b"#" + 255 * b"x" + b"\nline\n", b"line 0 0 0\n"),
+    Case("good: any byte in a comment", SIM, b"#\0\t\r\xff  \nline\n", b"line 0 0 0\n"),
+    Case("good: last line without newline", SIM, b"hold\nline", b"moved 0 0\nline 0 0 0\n"),
+    Case("good: last comment without newline", SIM, b"line\n#", b"line 0 0 0\n"),
+    Case("good: attach", SIM, b"attach 0 0 4\n", b"attached 1\n"),
+    Case("good: greatest numbers of each type", SIM,
+         b"attach 0 0 4\nattach 255 255 255\nread 0 1 %d 65535\nreap 0 %d\nfinish 255 %d fill 255\nundo %d\nsector %d\n"
+         % (U64_MOST, U64_MOST, U64_MOST, U32_PAST - 1, U64_MOST),
+         b"attached 1\nrefused 1\nrefused 12\nrefused 4\nrefused 19\nrefused 28\nsector %d none\n" % U64_MOST),
+]
+
+
+def refused(name, words):
+    return Case(f"words: {name}", words, b"", b"", REFUSED, BAD_WORDS)
+
+
+BAD_WORDS_CASES = [
+    refused("none", []),
+    refused("options with no command", SIM[1:]),
+    refused("unknown command", ["run"] + SIM[1:]),
+    refused("no scheduler", ["sim"]),
+    refused("scheduler bfq", ["sim", "--scheduler", "bfq"]),
+    refused("unknown scheduler", ["sim", "--scheduler", "kyber"]),
+    refused("scheduler in capitals", ["sim", "--scheduler", "NONE"]),
+    refused("scheduler with no value", ["sim", "--scheduler"]),
+    refused("scheduler with an empty value", ["sim", "--scheduler="]),
+    refused("scheduler twice", SIM + ["--scheduler", "none"]),
+    refused("tags twice", SIM + ["--tags", "4", "--tags", "4"]),
+    refused("tags twice, once with an equals sign", SIM + ["--tags", "4", "--tags=4"]),
+    refused("tags with no value", SIM + ["--tags"]),
+    refused("tags with an option for a value", ["sim", "--tags", "--scheduler", "none"]),
+    refused("unknown option", SIM + ["--wide", "1"]),
+    refused("option in capitals", SIM + ["--TAGS", "4"]),
+    refused("part of an option", SIM + ["--tag", "4"]),
+    refused("option with one dash", SIM + ["-tags", "4"]),
+    refused("image", SIM + ["--image", "x"]),
+    refused("a word that is no option", SIM + ["fast"]),
+    refused("an empty word", SIM + [""]),
+    refused("words before a fault of the configuration", SIM + ["--nr-requests", "0", "--sectors", "x"]),
+] + [
+    refused(f"{option} {name}", SIM + [f"{option}={value}"])
+    for option in ["--nr-requests", "--tags", "--first-budget", "--max-budget", "--timeout", "--history", "--first-vtime", "--sectors"]
+    for name, value in [("with a sign", "+4"), ("with a leading zero", "04"), ("past u64", str(U64_PAST))]
+] + [
+    refused(f"tags {name}", SIM + [f"--tags={value}"])
+    for name, value in [
+        ("of no digit", ""),
+        ("negative", "-4"),
+        ("of two zeros", "00"),
+        ("of 100 digits", 100 * "9"),
+        ("in hexadecimal", "0x4"),
+        ("with a separator", "1_0"),
+        ("with a space", " 4"),
+        ("with a letter", "4k"),
+    ]
+]
+
+
+def fault(field, *words):
+    return Case(f"config: {field}: {' '.join(words)}", SIM + list(words), b"", b"", b"config: %s\n" % field.encode(), BAD_WORDS)
+
+
+CONFIG_CASES = [
+    fault("nr_requests", "--nr-requests", "0"),
+    fault("nr_requests", "--nr-requests", "257"),
+    fault("nr_requests", "--nr-requests", str(U64_MOST)),
+    fault("tags", "--tags", "0"),
+    fault("tags", "--tags", "65"),
+    fault("tags", "--tags=256"),
+    fault("max_budget", "--max-budget", "255"),
+    fault("max_budget", "--max-budget", "65537"),
+    fault("first_budget", "--first-budget", "255"),
+    fault("first_budget", "--first-budget", "4097"),
+    # The default of the first budget is above this greatest one.
+    fault("first_budget", "--max-budget", "512"),
+    fault("timeout", "--timeout", "0"),
+    fault("timeout", "--timeout", "1001"),
+    fault("history_max", "--history", "0"),
+    fault("history_max", "--history", "16777217"),
+    fault("first_vtime", "--first-vtime", str(2**62 + 1)),
+    fault("first_vtime", "--first-vtime", str(U64_MOST)),
+    fault("sectors", "--sectors", "65537"),
+    fault("sectors", "--sectors", str(U64_MOST)),
+    # The first field in the order is named, whatever the order of the words.
+    fault("nr_requests", "--tags", "0", "--nr-requests", "0"),
+    fault("tags", "--max-budget", "1", "--tags", "0"),
+    fault("max_budget", "--first-budget", "0", "--max-budget", "0"),
+    fault("first_budget", "--timeout", "0", "--first-budget", "0"),
+    fault("timeout", "--history", "0", "--timeout", "0"),
+    fault("history_max", "--first-vtime", str(U64_MOST), "--history", "0"),
+    fault("first_vtime", "--sectors", "65537", "--first-vtime", str(U64_MOST)),
+]
+
+GOOD_WORDS = [
+    Case("good words: equals sign", ["sim", "--tags=4", "--scheduler=none"], b"line\n", b"line 0 0 0\n"),
+    Case("good words: any order", ["sim", "--tags", "4", "--scheduler", "none"], b"line\n", b"line 0 0 0\n"),
+    Case("good words: least numbers",
+         SIM + ["--nr-requests", "1", "--tags", "1", "--first-budget", "256", "--max-budget", "256", "--timeout", "1",
+                "--history", "1", "--first-vtime", "0", "--sectors", "0"],
+         b"attach 0 0 4\nread 0 1 0 1\nattach 1 0 4\n", b"attached 1\nrefused 14\nrefused 33\n"),
+    Case("good words: greatest numbers",
+         SIM + ["--nr-requests", "256", "--tags", "64", "--first-budget", "65536", "--max-budget", "65536", "--timeout", "1000",
+                "--history", "16777216", "--first-vtime", str(2**62), "--sectors", "65536"],
+         b"attach 0 0 4\nread 0 1 65535 1\nread 0 1 65535 2\n", b"attached 1\nqueued 2\nrefused 14\n"),
+    Case("good words: the history's limit holds", SIM + ["--history", "2"], b"attach 0 0 4\nattach 1 0 4\nhold\n",
+         b"attached 1\nattached 2\nrefused 33\n"),
+    Case("good words: the number of tags holds", SIM + ["--tags=1"], b"finish 0 1 stored\nfinish 1 1 stored\n",
+         b"refused 20\nrefused 19\n"),
+    Case("good words: the number of requests holds", SIM + ["--nr-requests=1"], b"attach 0 0 4\nread 0 1 0 8\nread 0 1 100 8\n",
+         b"attached 1\nqueued 2\nnotyet 43\n"),
+    Case("help", ["--help"], has=[b"sim --scheduler none"]),
+]
+
+# More lines than a buffer holds, so that a write fails before the end; and one, that fails at the end.
+FAULTS = [
+    Case("read fault", SIM, b"", b"", b"", READ_FAULT, reads_directory=True),
+    Case("write fault at the end", SIM, b"line\n", b"", b"", WRITE_FAULT, writes_to_full=True),
+    Case("write fault on the way", SIM, 100_000 * b"line\n", b"", b"", WRITE_FAULT, writes_to_full=True),
+    Case("write fault at a bad line", SIM, b"lines\n", b"", b"", WRITE_FAULT, writes_to_full=True),
+]
+
+CASES = BAD_LINES + GOOD_LINES + BAD_WORDS_CASES + CONFIG_CASES + GOOD_WORDS + FAULTS
