@@ -1,0 +1,118 @@
+-- Two lines that are spelled alike are equal.
+use Rattle.std.proofs.Common.{◌≡◌, ℕ, ◌+◌, ◌*◌, List, [], ◌∷◌, ◌++◌, codes, refl, sym, ap, subst, ◌∙◌, arith, rules, inl, inr, take}
+use Rattle.script_line.specs.Words.{numbers}
+use Rattle.script_line.specs.Line.{spelled, ended, Fits, EndingFits}
+use Rattle.script_line.specs.Plain.{IsWordAndNumbers}
+use Rattle.script_line.specs.declared.line.Line.{Line}
+use Rattle.script_line.specs.declared.line.Line.TheVariants.{Attach, Read, Write, Reap, Dispatch, Finish, Hold, Release, Undo, Redo, Sector, Cursor}
+use Rattle.script_line.specs.declared.line.Ending.{Ending}
+use Rattle.script_line.specs.declared.line.Ending.TheVariants.{Stored, Fill, Short, Fault}
+use Rattle.script_line.proofs.Cuts.{one_cut, IsTail-numbers}
+use Rattle.std.specs.Fmt.{decimal}
+use Rattle.script_line.proofs.Finishes.{first_number, two_numbers, IsTail-ended}
+use Rattle.script_line.proofs.Plains.{parts, one_numbers}
+
+-- a number that differs from word to word
+abbrev mark : List ℕ → ℕ
+mark [] = 0
+mark (x ∷ xs) = x + 31 * mark xs
+
+abbrev word_of : Line → List ℕ
+word_of (Attach s g p) = codes "attach"
+word_of (Read s n a c) = codes "read"
+word_of (Write s n a c b) = codes "write"
+word_of (Reap s n) = codes "reap"
+word_of Dispatch = codes "dispatch"
+word_of (Finish t i e) = codes "finish"
+word_of Hold = codes "hold"
+word_of Release = codes "release"
+word_of (Undo k) = codes "undo"
+word_of (Redo k) = codes "redo"
+word_of (Sector n) = codes "sector"
+word_of Cursor = codes "line"
+
+word_is : (w ns : List ℕ) (l : Line) → IsWordAndNumbers w ns l → w ≡ word_of l
+word_is w ns (Finish t i e) h = absurd h
+word_is w ns _ h = h.0
+
+not_finish : (w ns : List ℕ) (l : Line) → IsWordAndNumbers w ns l → w ≡ codes "finish" → ⊥
+not_finish w ns (Finish t i e) h k = h
+not_finish w ns _ h k = omega (arith, ap mark (sym h.0 ∙ k))
+
+one_plain : (w ns : List ℕ) (l m : Line) → IsWordAndNumbers w ns l → IsWordAndNumbers w ns m → l ≡ m
+one_plain w ns (Attach s g p) (Attach s' g' p') one two = let same : s ∷ g ∷ p ∷ [] ≡ s' ∷ g' ∷ p' ∷ [] = sym one.1 ∙ two.1 in cc
+one_plain w ns (Attach s g p) m one two = absurd (omega (arith, ap mark (sym one.0 ∙ word_is w ns m two)))
+one_plain w ns (Read s n a c) (Read s' n' a' c') one two = let same : s ∷ n ∷ a ∷ c ∷ [] ≡ s' ∷ n' ∷ a' ∷ c' ∷ [] = sym one.1 ∙ two.1 in cc
+one_plain w ns (Read s n a c) m one two = absurd (omega (arith, ap mark (sym one.0 ∙ word_is w ns m two)))
+one_plain w ns (Write s n a c b) (Write s' n' a' c' b') one two = let same : s ∷ n ∷ a ∷ c ∷ b ∷ [] ≡ s' ∷ n' ∷ a' ∷ c' ∷ b' ∷ [] = sym one.1 ∙ two.1 in cc
+one_plain w ns (Write s n a c b) m one two = absurd (omega (arith, ap mark (sym one.0 ∙ word_is w ns m two)))
+one_plain w ns (Reap s n) (Reap s' n') one two = let same : s ∷ n ∷ [] ≡ s' ∷ n' ∷ [] = sym one.1 ∙ two.1 in cc
+one_plain w ns (Reap s n) m one two = absurd (omega (arith, ap mark (sym one.0 ∙ word_is w ns m two)))
+one_plain w ns Dispatch Dispatch one two = refl
+one_plain w ns Dispatch m one two = absurd (omega (arith, ap mark (sym one.0 ∙ word_is w ns m two)))
+one_plain w ns (Finish t i e) m one two = absurd one
+one_plain w ns Hold Hold one two = refl
+one_plain w ns Hold m one two = absurd (omega (arith, ap mark (sym one.0 ∙ word_is w ns m two)))
+one_plain w ns Release Release one two = refl
+one_plain w ns Release m one two = absurd (omega (arith, ap mark (sym one.0 ∙ word_is w ns m two)))
+one_plain w ns (Undo k) (Undo k') one two = let same : k ∷ [] ≡ k' ∷ [] = sym one.1 ∙ two.1 in cc
+one_plain w ns (Undo k) m one two = absurd (omega (arith, ap mark (sym one.0 ∙ word_is w ns m two)))
+one_plain w ns (Redo k) (Redo k') one two = let same : k ∷ [] ≡ k' ∷ [] = sym one.1 ∙ two.1 in cc
+one_plain w ns (Redo k) m one two = absurd (omega (arith, ap mark (sym one.0 ∙ word_is w ns m two)))
+one_plain w ns (Sector n) (Sector n') one two = let same : n ∷ [] ≡ n' ∷ [] = sym one.1 ∙ two.1 in cc
+one_plain w ns (Sector n) m one two = absurd (omega (arith, ap mark (sym one.0 ∙ word_is w ns m two)))
+one_plain w ns Cursor Cursor one two = refl
+one_plain w ns Cursor m one two = absurd (omega (arith, ap mark (sym one.0 ∙ word_is w ns m two)))
+
+one_ending : (d e : Ending) → EndingFits d → EndingFits e → ended d ≡ ended e → d ≡ e
+one_ending Stored Stored _ _ _ = refl
+one_ending Short Short _ _ _ = refl
+one_ending Fault Fault _ _ _ = refl
+one_ending (Fill b) (Fill c) hb hc h =
+    let same : numbers (b ∷ []) ≡ numbers (c ∷ []) = cc in
+    let list : b ∷ [] ≡ c ∷ [] = one_numbers (b ∷ []) (c ∷ []) (omega arith, tt) (omega arith, tt) same in
+    cc
+one_ending (Fill b) e hb hc h = absurd (omega (arith, ap (λ xs. mark (take 6 xs)) h))
+one_ending d (Fill c) hb hc h = absurd (omega (arith, ap (λ xs. mark (take 6 xs)) h))
+one_ending _ _ _ _ h = absurd (omega (arith, ap mark h))
+
+one_finish : (t i : ℕ) (e : Ending) (u j : ℕ) (f : Ending) → Fits (Finish t i e) → Fits (Finish u j f)
+    → spelled (Finish t i e) ≡ spelled (Finish u j f) → Finish t i e ≡ Finish u j f
+one_finish t i e u j f h k same =
+    let after : numbers (t ∷ i ∷ []) ++ ended e ≡ numbers (u ∷ j ∷ []) ++ ended f = cc in
+    let flat : 32 ∷ (decimal t ++ (32 ∷ (decimal i ++ ended e))) ≡ 32 ∷ (decimal u ++ (32 ∷ (decimal j ++ ended f)))
+    = sym (two_numbers t i (ended e)) ∙ after ∙ two_numbers u j (ended f) in
+    let first = first_number (32 ∷ (decimal t ++ (32 ∷ (decimal i ++ ended e)))) (32 ∷ (decimal i ++ ended e)) (32 ∷ (decimal j ++ ended f)) t u
+    (omega arith) (omega arith) refl refl refl flat in
+    let second = first_number (32 ∷ (decimal i ++ ended e)) (ended e) (ended f) i j h.1 k.1 (IsTail-ended e) (IsTail-ended f) refl first.1 in
+    let third = one_ending e f h.2 k.2 second.1 in
+    let tag : t ≡ u = first.0 in
+    let issue : i ≡ j = second.0 in
+    cc
+
+pub one_spelling : (l m : Line) → Fits l → Fits m → spelled l ≡ spelled m → l ≡ m
+one_spelling l m f g same =
+    elim (parts l f) [
+      | inl p ↦ elim (parts m g) [
+        | inl q ↦
+            let both : p.0 ++ numbers p.1 ≡ q.0 ++ numbers q.1 = sym p.2.spelling ∙ same ∙ q.2.spelling in
+            let cuts = one_cut p.0 q.0 (numbers p.1) (numbers q.1) p.2.space q.2.space (IsTail-numbers p.1) (IsTail-numbers q.1) both in
+            one_plain p.0 p.1 l m (p.2.is p.0 p.1 refl refl) (q.2.is p.0 p.1 cuts.0 (one_numbers p.1 q.1 p.2.fits q.2.fits cuts.1))
+        | inr q ↦
+            let both : p.0 ++ numbers p.1 ≡ codes "finish" ++ q.0 = sym p.2.spelling ∙ same ∙ q.1 in
+            absurd (not_finish p.0 p.1 l (p.2.is p.0 p.1 refl refl)
+            (one_cut p.0 (codes "finish") (numbers p.1) q.0 p.2.space (search rules) (IsTail-numbers p.1) q.2 both).0)
+      ]
+      | inr p ↦ elim (parts m g) [
+        | inl q ↦
+            let both : q.0 ++ numbers q.1 ≡ codes "finish" ++ p.0 = sym q.2.spelling ∙ sym same ∙ p.1 in
+            absurd (not_finish q.0 q.1 m (q.2.is q.0 q.1 refl refl)
+            (one_cut q.0 (codes "finish") (numbers q.1) p.0 q.2.space (search rules) (IsTail-numbers q.1) p.2 both).0)
+        | inr q ↦
+            let a = p.3 in
+            let b = q.3 in
+            let F : Line → Type 0 = λ x. Fits x in
+            let both : spelled (Finish a.0 a.1 a.2) ≡ spelled (Finish b.0 b.1 b.2) = ap spelled (sym a.3) ∙ same ∙ ap spelled b.3 in
+            a.3 ∙ one_finish a.0 a.1 a.2 b.0 b.1 b.2 (subst F a.3 f) (subst F b.3 g) both ∙ sym b.3
+      ]
+    ]

@@ -1,0 +1,51 @@
+-- The lines of a script, as they are spelled: words joined by one space.
+use Rattle.std.specs.Prelude.{ℕ, ◌<◌, ◌^◌, List, [], ◌∷◌, ◌++◌, codes}
+use Rattle.script_line.specs.Words.{numbers}
+use Rattle.script_line.specs.declared.line.Line.{Line}
+use Rattle.script_line.specs.declared.line.Line.TheVariants.{Attach, Read, Write, Reap, Dispatch, Finish, Hold, Release, Undo, Redo, Sector, Cursor}
+use Rattle.script_line.specs.declared.line.Ending.{Ending}
+use Rattle.script_line.specs.declared.line.Ending.TheVariants.{Stored, Fill, Short, Fault}
+
+-- how a `finish` line ends
+abbrev pub ended : Ending → List ℕ
+ended Stored = codes " stored"
+ended (Fill byte) = codes " fill" ++ numbers (byte ∷ [])
+ended Short = codes " short"
+ended Fault = codes " fault"
+
+-- the bytes of a line
+abbrev pub spelled : Line → List ℕ
+spelled (Attach seat group prio) = codes "attach" ++ numbers (seat ∷ group ∷ prio ∷ [])
+spelled (Read seat session start count) = codes "read" ++ numbers (seat ∷ session ∷ start ∷ count ∷ [])
+spelled (Write seat session start count byte) = codes "write" ++ numbers (seat ∷ session ∷ start ∷ count ∷ byte ∷ [])
+spelled (Reap seat session) = codes "reap" ++ numbers (seat ∷ session ∷ [])
+spelled Dispatch = codes "dispatch"
+spelled (Finish tag issue ending) = codes "finish" ++ (numbers (tag ∷ issue ∷ []) ++ ended ending)
+spelled Hold = codes "hold"
+spelled Release = codes "release"
+spelled (Undo k) = codes "undo" ++ numbers (k ∷ [])
+spelled (Redo k) = codes "redo" ++ numbers (k ∷ [])
+spelled (Sector number) = codes "sector" ++ numbers (number ∷ [])
+spelled Cursor = codes "line"
+
+-- the byte of an ending is a byte
+abbrev pub EndingFits : Ending → Type 0
+EndingFits Stored = Unit {0}
+EndingFits (Fill byte) = byte < 2 ^ 8
+EndingFits Short = Unit {0}
+EndingFits Fault = Unit {0}
+
+-- each number of a line is within its type
+abbrev pub Fits : Line → Type 0
+Fits (Attach seat group prio) = (seat < 2 ^ 8) × (group < 2 ^ 8) × (prio < 2 ^ 8)
+Fits (Read seat session start count) = (seat < 2 ^ 8) × (session < 2 ^ 64) × (start < 2 ^ 64) × (count < 2 ^ 16)
+Fits (Write seat session start count byte) = (seat < 2 ^ 8) × (session < 2 ^ 64) × (start < 2 ^ 64) × (count < 2 ^ 16) × (byte < 2 ^ 8)
+Fits (Reap seat session) = (seat < 2 ^ 8) × (session < 2 ^ 64)
+Fits Dispatch = Unit {0}
+Fits (Finish tag issue ending) = (tag < 2 ^ 8) × (issue < 2 ^ 64) × EndingFits ending
+Fits Hold = Unit {0}
+Fits Release = Unit {0}
+Fits (Undo k) = k < 2 ^ 32
+Fits (Redo k) = k < 2 ^ 32
+Fits (Sector number) = number < 2 ^ 64
+Fits Cursor = Unit {0}

@@ -1,0 +1,30 @@
+-- Lines that are a word and then numbers.
+use Rattle.std.specs.Prelude.{◌≡◌, ℕ, List, [], ◌∷◌, codes, Option, MatchOption}
+use Rattle.script_line.specs.Line.{Fits}
+use Rattle.script_line.specs.declared.line.Line.{Line}
+use Rattle.script_line.specs.declared.line.Line.TheVariants.{Attach, Read, Write, Reap, Dispatch, Finish, Hold, Release, Undo, Redo, Sector, Cursor}
+
+-- the line is this word and then these numbers
+abbrev pub IsWordAndNumbers : List ℕ → List ℕ → Line → Type 0
+IsWordAndNumbers word given (Attach seat group prio) = (word ≡ codes "attach") × (given ≡ seat ∷ group ∷ prio ∷ [])
+IsWordAndNumbers word given (Read seat session start count) = (word ≡ codes "read") × (given ≡ seat ∷ session ∷ start ∷ count ∷ [])
+IsWordAndNumbers word given (Write seat session start count byte) = (word ≡ codes "write") × (given ≡ seat ∷ session ∷ start ∷ count ∷ byte ∷ [])
+IsWordAndNumbers word given (Reap seat session) = (word ≡ codes "reap") × (given ≡ seat ∷ session ∷ [])
+IsWordAndNumbers word given Dispatch = (word ≡ codes "dispatch") × (given ≡ [])
+IsWordAndNumbers word given (Finish tag issue ending) = ⊥
+IsWordAndNumbers word given Hold = (word ≡ codes "hold") × (given ≡ [])
+IsWordAndNumbers word given Release = (word ≡ codes "release") × (given ≡ [])
+IsWordAndNumbers word given (Undo k) = (word ≡ codes "undo") × (given ≡ k ∷ [])
+IsWordAndNumbers word given (Redo k) = (word ≡ codes "redo") × (given ≡ k ∷ [])
+IsWordAndNumbers word given (Sector number) = (word ≡ codes "sector") × (given ≡ number ∷ [])
+IsWordAndNumbers word given Cursor = (word ≡ codes "line") × (given ≡ [])
+
+-- what a word and numbers are read to: the line that they are, or none where no line is
+abbrev pub Reads : List ℕ → List ℕ → Option Line → Type 0
+Reads word given found = MatchOption found
+    ((l : Line) → Fits l → IsWordAndNumbers word given l → ⊥)
+    (λ l. Fits l × IsWordAndNumbers word given l)
+
+-- the line where its numbers are within their types, else none
+abbrev pub FitsOrNone : Line → Option Line → Type 0
+FitsOrNone line found = MatchOption found (Fits line → ⊥) (λ l. Fits line × (l ≡ line))

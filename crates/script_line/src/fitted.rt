@@ -1,0 +1,69 @@
+// Lines from numbers, where each number is within its type.
+ghost use Rattle.script_line.specs.Plain.{FitsOrNone};
+
+use super::line::Line;
+
+pub fn attach(seat: u64, group: u64, prio: u64) -> Option<Line>
+    ensures { FitsOrNone (Line.Attach seat group prio) result }
+{
+    match (u8::try_from(seat), u8::try_from(group), u8::try_from(prio)) {
+        (Ok(seat), Ok(group), Ok(prio)) => Some(Line::Attach { seat, group, prio }),
+        _ => None,
+    }
+}
+
+pub fn read(seat: u64, session: u64, start: u64, count: u64) -> Option<Line>
+    ensures { FitsOrNone (Line.Read seat session start count) result }
+{
+    match (u8::try_from(seat), u16::try_from(count)) {
+        (Ok(seat), Ok(count)) => Some(Line::Read {
+            seat,
+            session,
+            start,
+            count,
+        }),
+        _ => None,
+    }
+}
+
+pub fn write(seat: u64, session: u64, start: u64, count: u64, byte: u64) -> Option<Line>
+    ensures { FitsOrNone (Line.Write seat session start count byte) result }
+{
+    match (u8::try_from(seat), u16::try_from(count), u8::try_from(byte)) {
+        (Ok(seat), Ok(count), Ok(byte)) => Some(Line::Write {
+            seat,
+            session,
+            start,
+            count,
+            byte,
+        }),
+        _ => None,
+    }
+}
+
+pub fn reap(seat: u64, session: u64) -> Option<Line>
+    ensures { FitsOrNone (Line.Reap seat session) result }
+{
+    match u8::try_from(seat) {
+        Ok(seat) => Some(Line::Reap { seat, session }),
+        Err(_) => None,
+    }
+}
+
+pub fn undo(k: u64) -> Option<Line>
+    ensures { FitsOrNone (Line.Undo k) result }
+{
+    match u32::try_from(k) {
+        Ok(k) => Some(Line::Undo { k }),
+        Err(_) => None,
+    }
+}
+
+pub fn redo(k: u64) -> Option<Line>
+    ensures { FitsOrNone (Line.Redo k) result }
+{
+    match u32::try_from(k) {
+        Ok(k) => Some(Line::Redo { k }),
+        Err(_) => None,
+    }
+}

@@ -1,0 +1,71 @@
+// The lines of a script.
+
+/// A line of a script that is not empty and no comment.
+#[derive(Clone, Copy, Debug, PartialEq, Eq)]
+pub enum Line {
+    /// `attach SEAT GROUP PRIO`
+    Attach {
+        seat: u8,
+        group: u8,
+        prio: u8,
+    },
+    /// `read SEAT SESSION START COUNT`
+    Read {
+        seat: u8,
+        session: u64,
+        start: u64,
+        count: u16,
+    },
+    /// `write SEAT SESSION START COUNT BYTE`
+    Write {
+        seat: u8,
+        session: u64,
+        start: u64,
+        count: u16,
+        byte: u8,
+    },
+    /// `reap SEAT SESSION`
+    Reap {
+        seat: u8,
+        session: u64,
+    },
+    /// `dispatch`
+    Dispatch,
+    /// `finish TAG ISSUE` and how it ended
+    Finish {
+        tag: u8,
+        issue: u64,
+        ending: Ending,
+    },
+    /// `hold`
+    Hold,
+    /// `release`
+    Release,
+    /// `undo K`
+    Undo {
+        k: u32,
+    },
+    /// `redo K`
+    Redo {
+        k: u32,
+    },
+    /// `sector N`, a query
+    Sector {
+        number: u64,
+    },
+    /// `line`, a query
+    Cursor,
+}
+
+/// How a request of a `finish` line ended.
+#[derive(Clone, Copy, Debug, PartialEq, Eq)]
+pub enum Ending {
+    /// `stored`
+    Stored,
+    /// `fill BYTE`
+    Fill(u8),
+    /// `short`
+    Short,
+    /// `fault`
+    Fault,
+}

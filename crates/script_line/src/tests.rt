@@ -1,0 +1,173 @@
+use super::{Ending, Line, line_of, number};
+
+// A line, as it is spelled and as it is.
+const FORMS: [(&[u8], Line); 16] = [
+    (
+        b"attach 0 1 4",
+        Line::Attach {
+            seat: 0,
+            group: 1,
+            prio: 4,
+        },
+    ),
+    (
+        b"attach 255 255 255",
+        Line::Attach {
+            seat: 255,
+            group: 255,
+            prio: 255,
+        },
+    ),
+    (
+        b"read 3 18446744073709551615 0 65535",
+        Line::Read {
+            seat: 3,
+            session: 18446744073709551615,
+            start: 0,
+            count: 65535,
+        },
+    ),
+    (
+        b"write 3 1 100 8 171",
+        Line::Write {
+            seat: 3,
+            session: 1,
+            start: 100,
+            count: 8,
+            byte: 171,
+        },
+    ),
+    (
+        b"reap 15 2",
+        Line::Reap {
+            seat: 15,
+            session: 2,
+        },
+    ),
+    (b"dispatch", Line::Dispatch),
+    (
+        b"finish 0 1 stored",
+        Line::Finish {
+            tag: 0,
+            issue: 1,
+            ending: Ending::Stored,
+        },
+    ),
+    (
+        b"finish 7 10 fill 0",
+        Line::Finish {
+            tag: 7,
+            issue: 10,
+            ending: Ending::Fill(0),
+        },
+    ),
+    (
+        b"finish 7 10 short",
+        Line::Finish {
+            tag: 7,
+            issue: 10,
+            ending: Ending::Short,
+        },
+    ),
+    (
+        b"finish 255 10 fault",
+        Line::Finish {
+            tag: 255,
+            issue: 10,
+            ending: Ending::Fault,
+        },
+    ),
+    (b"hold", Line::Hold),
+    (b"release", Line::Release),
+    (b"undo 4294967295", Line::Undo { k: 4294967295 }),
+    (b"redo 0", Line::Redo { k: 0 }),
+    (b"sector 1024", Line::Sector { number: 1024 }),
+    (b"line", Line::Cursor),
+];
+
+#[test]
+fn each_form_is_read(rt: HostRuntime) {
+    for (text, want) in FORMS {
+        assert_eq!(rt; line_of(text), Some(want));
+    }
+}
+
+// Lines that are none.
+const BAD: [&[u8]; 47] = [
+    b"",
+    b" ",
+    b"#",
+    b"hold ",
+    b" hold",
+    b"Hold",
+    b"hold\r",
+    b"hol",
+    b"holds",
+    b"hold 1",
+    b"undo",
+    b"undo ",
+    b"undo  1",
+    b"undo\t1",
+    b"undo 1 ",
+    b"undo 1 2",
+    b"undo 01",
+    b"undo 00",
+    b"undo +1",
+    b"undo -1",
+    b"undo 0x1",
+    b"undo 1\xff",
+    b"undo 4294967296",
+    b"sector 18446744073709551616",
+    b"sector 99999999999999999999999",
+    b"attach 256 0 0",
+    b"attach 0 256 0",
+    b"attach 0 0 256",
+    b"attach 0 0",
+    b"attach 0 0 0 0",
+    b"read 0 0 0 65536",
+    b"read 0 0 0",
+    b"write 0 0 0 1",
+    b"write 0 0 0 1 256",
+    b"write 0 0 0 1 2 3",
+    b"finish 0 1",
+    b"finish 0 1 2",
+    b"finish 0 1  stored",
+    b"finish 0 1 stored ",
+    b"finish 0 1 fill",
+    b"finish 0 1 fill ",
+    b"finish 0 1 fill 256",
+    b"finish 0 1 fill 1 2",
+    b"finish 0 1 filled",
+    b"finish 256 1 stored",
+    b"finish stored",
+    b"finish",
+];
+
+#[test]
+fn bad_lines_are_none(rt: HostRuntime) {
+    for text in BAD {
+        assert_eq!(rt; line_of(text), None);
+    }
+}
+
+#[test]
+fn numbers_are_read(rt: HostRuntime) {
+    let words = [
+        (b"0".as_slice(), Some(0)),
+        (b"10".as_slice(), Some(10)),
+        (
+            b"18446744073709551615".as_slice(),
+            Some(18446744073709551615),
+        ),
+        (b"18446744073709551616".as_slice(), None),
+        (b"".as_slice(), None),
+        (b"05".as_slice(), None),
+        (b"+5".as_slice(), None),
+        (b"-5".as_slice(), None),
+        (b"5 ".as_slice(), None),
+        (b"5a".as_slice(), None),
+    ];
+    for (word, want) in words {
+        assert_eq!(rt; number(word), want);
+    }
+}

@@ -1,0 +1,17 @@
+// What runs lines.
+ghost use Rattle.std.specs.Prelude.{◌≡◌, ℕ, List, ◌++◌, OnOk};
+ghost use Rattle.script_line.specs.declared.line.Line.{Line};
+
+use script_line::Line;
+use sector_core::OutOfMemory;
+use std::alloc::Global;
+
+/// Where the lines of a script run.
+pub trait Console {
+    /// What the line may print at a console, with its last byte 0A, and what the console is then.
+    ghost prints: { Self → Line → List ℕ → Self → Type 0 };
+
+    /// Runs the line, and appends what it prints.
+    fn run(&mut self, alloc: Global, line: Line, out: &mut Vec<u8>) -> Result<(), OutOfMemory>
+        ensures { OnOk result ((text : List ℕ) × (out.new.items ≡ out.old.items ++ text) × prints self.old line text self.new) };
+}
