@@ -333,13 +333,13 @@ module _ {A : Type 0} (es : List ℕ) (xs : List A) (h : AreEnds 0 es (length xs
   pub ordered_begins : (begin_of 0 es k ≤ begin_of 0 es (length es - 1)) × (begin_of 0 es (length es - 1) ≤ length xs)
   ordered_begins = (begin_of-mono 0 es k (length es - 1) (length xs) (omega arith) (omega arith) h, (begin_of-le 0 es (length es - 1) (length xs) (omega arith) h).1)
 
-  first_cut : AreEnds 0 (take k es) (length (take (begin_of 0 es k) xs))
+  pub first_cut : AreEnds 0 (take k es) (length (take (begin_of 0 es k) xs))
   first_cut = AreEnds-cut (take k es) xs (begin_of 0 es k) (sym (begin_of-first 0 es k (omega arith))) (AreEnds-first 0 es k (length xs) h)
 
-  first_pieces : pieces 0 (take k es) (take (begin_of 0 es k) xs) ≡ take k (pieces 0 es xs)
+  pub first_pieces : pieces 0 (take k es) (take (begin_of 0 es k) xs) ≡ take k (pieces 0 es xs)
   first_pieces = pieces-cut (take k es) xs (begin_of 0 es k) (sym (begin_of-first 0 es k (omega arith))) (AreEnds-first 0 es k (length xs) h) ∙ pieces-first 0 es xs k
 
-  first_rest : rest_of 0 (take k es) (take (begin_of 0 es k) xs) ≡ []
+  pub first_rest : rest_of 0 (take k es) (take (begin_of 0 es k) xs) ≡ []
   first_rest = rest_of-cut (take k es) xs (begin_of 0 es k) (sym (begin_of-first 0 es k (omega arith))) (AreEnds-first 0 es k (length xs) h)
 
   -- the last piece ends with the list

@@ -144,6 +144,20 @@ impl Tape {
         self.ends.truncate(at + 1);
     }
 
+    /// Drops the last step.
+    pub fn drop_last(&mut self)
+        requires there { 0 < length self.old.steps }
+        requires idle { self.old.current ≡ [] }
+        ensures steps { self.new.steps ≡ take (length self.old.steps - 1) self.old.steps }
+        ensures current { self.new.current ≡ [] }
+    {
+        let count = self.ends.len();
+        let len = self.changes.len();
+        let (from, _) = span_at(self.ends.as_slice(), count - 1, len);
+        self.changes.truncate(from);
+        self.ends.truncate(count - 1);
+    }
+
     /// How many changes the step at a number has.
     pub fn size(&self, at: usize) -> usize
         requires { at < length self.now.steps }

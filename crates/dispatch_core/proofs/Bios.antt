@@ -1,6 +1,7 @@
 -- Seats, bios and outboxes through each step.
-use Rattle.std.proofs.Common.{◌≡◌, ◌≢◌, ℕ, zero, suc, ◌+◌, ◌-◌, ◌*◌, ◌<◌, ◌≤◌, List, [], ◌∷◌, ◌++◌, length, Option, Some, None, set, get_or, refl, sym, ap, ◌∙◌, subst, arith, rules}
-use Rattle.std.specs.Option.{option_map}
+use Rattle.std.proofs.Common.{◌≡◌, ℕ, ◌+◌, ◌-◌, ◌<◌, ◌≤◌, List, [], ◌∷◌, inl, inr, length, Some, set, refl, sym, ap, ◌∙◌, arith}
+use Rattle.std.specs.Option.{option_map, option_map_or}
+use Rattle.std.proofs.lemmas.List.Elements.{All-head}
 use Rattle.sector_core.specs.declared.range.Range.{Range}
 use Rattle.sector_core.specs.declared.bio.Op.{Op}
 use Rattle.sector_core.specs.declared.bio.Bio.{Bio}
@@ -11,97 +12,141 @@ use Rattle.sector_core.specs.Table.{AllTaken}
 use Rattle.change_record.specs.declared.change.Seat.{Seat}
 use Rattle.change_record.specs.Tables.{Tables}
 use Rattle.change_record.specs.Machine.{meaning, bios_at, outbox_at, put}
-use Rattle.dispatch_core.specs.Step.{Limits, with_unreaped, completed, delivered, unreaped}
-use Rattle.dispatch_core.specs.WellFormed.{at, WellFormed, Seated, Kept}
-use Rattle.dispatch_core.specs.Changes.{attached_tables, submitted_tables, reaped_tables, sent_tables, finished_tables, with_bios}
+use Rattle.plain_machine.specs.Step.{Limits, with_unreaped, completed, delivered, unreaped}
+use Rattle.dispatch_core.specs.WellFormed.{at, taken, WellFormed, Seated, Kept, IsCompleted}
+use Rattle.dispatch_core.specs.Changes.{attached_tables, submitted_tables, reaped_tables, sent_tables, finished_tables}
 use Rattle.dispatch_core.proofs.Sides.{CanAttach, CanSubmit, CanReap, CanSend, CanFinish}
+use Rattle.dispatch_core.proofs.Times.{set_cases}
+use Rattle.dispatch_core.proofs.SlotCounts.{all_taken}
+use Rattle.dispatch_core.proofs.Keeping.{put-set, sessions_same, sessions_free, early_set, apart_set, owned_by}
+use Rattle.dispatch_core.proofs.Submits as submit
+use Rattle.dispatch_core.proofs.Reaps as reap
+use Rattle.dispatch_core.proofs.Finishes as finish
+use Rattle.dispatch_core.proofs.Reaps.{first_done, counted_once, entry_of}
 
 -- Attach
 pub attached-seated : (l : Limits) (n : ℕ) (t : Tables) (seat group prio : ℕ) → WellFormed l n t → CanAttach t seat → Seated (n + 1) (attached_tables t n seat group prio)
-attached-seated l n t seat group prio w can = ?
+attached-seated l n t seat group prio w can = record {
+  early = early_set n t.seats seat entry within (omega arith) w.seated.early;
+  apart = apart_set t.seats seat entry within w.seated.apart (λ j a h e. let early = w.seated.early j a h in absurd (omega arith));
+  counted = λ k h. counted_attach k h;
+} where
+  entry : Seat
+  entry = record { session = n; group = group; prio = prio; unreaped = 0 }
+
+  within : seat < length t.seats
+  within = omega (arith, can.within, w.sized.seats)
+
+  counted_attach : (k : ℕ) → k < 16 → option_map_or (λ s. s.unreaped) (at (set t.seats seat (Some entry)) k) 0 ≡ taken (seat_slots k t.bios)
+  counted_attach k h = elim (set_cases t.seats seat k (Some entry) within) [
+    | inl here ↦ ap (λ o. option_map_or (λ s. s.unreaped) o 0) here.1 ∙ sym (ap (λ j. option_map_or (λ s. s.unreaped) (at t.seats j) 0) here.0 ∙ ap (λ o. option_map_or (λ s. s.unreaped) o 0) can.free) ∙ w.seated.counted k h
+    | inr other ↦ ap (λ o. option_map_or (λ s. s.unreaped) o 0) other.1 ∙ w.seated.counted k h
+  ]
 
 pub attached-kept : (l : Limits) (n : ℕ) (t : Tables) (seat group prio : ℕ) → WellFormed l n t → CanAttach t seat → Kept l (attached_tables t n seat group prio)
-attached-kept l n t seat group prio w can = ?
+attached-kept l n t seat group prio w can = record {
+  bio = w.kept.bio;
+  request = λ k r h. owned_by t (attached_tables t n seat group prio) r
+      (sessions_free t.seats seat (record { session = n; group = group; prio = prio; unreaped = 0 }) (omega (arith, can.within, w.sized.seats)) can.free) (λ j all. all) (w.kept.request k r h);
+  outbox = w.kept.outbox;
+  once = w.kept.once;
+}
 
 pub attached-seat : (l : Limits) (n : ℕ) (t : Tables) (seat group prio : ℕ) → WellFormed l n t → CanAttach t seat
     → (meaning (attached_tables t n seat group prio)).seat ≡ put (meaning t).seat seat (Some (record { session = n; group = group; prio = prio; unreaped = 0 }))
-attached-seat l n t seat group prio w can = ?
+attached-seat l n t seat group prio w can = put-set t.seats seat (Some (record { session = n; group = group; prio = prio; unreaped = 0 })) (omega (arith, can.within, w.sized.seats))
 
 -- Submit: where fewer than 32 bios are not yet reaped, the seat has a free slot
 pub free_place : (l : Limits) (n : ℕ) (t : Tables) (seat : ℕ) (entry : Seat) → WellFormed l n t → seat < 16 → at t.seats seat ≡ Some entry → entry.unreaped < 32
     → AllTaken (seat_slots seat t.bios) → ⊥
-free_place l n t seat entry w h s few = ?
+free_place l n t seat entry w h s few = λ all.
+    let counted : option_map_or (λ e. e.unreaped) (at t.seats seat) 0 ≡ taken (seat_slots seat t.bios) = w.seated.counted seat h in
+    let was : option_map_or (λ e. e.unreaped) (at t.seats seat) 0 ≡ entry.unreaped = ap (λ o. option_map_or (λ e. e.unreaped) o 0) s in
+    let full : taken (seat_slots seat t.bios) ≡ 32 = all_taken seat t.bios h w.sized.bios all in
+    absurd (omega (arith, counted, was, full, few))
 
 pub submitted-seated : (l : Limits) (n : ℕ) (t : Tables) (seat : ℕ) (entry : Seat) (slot place session : ℕ) (op : Op) (range : Range) (payload : List ℕ)
     → WellFormed l n t → CanSubmit l t seat entry slot place session op range payload → Seated (n + 1) (submitted_tables t n seat entry slot place session op range payload)
-submitted-seated l n t seat entry slot place session op range payload w can = ?
+submitted-seated l n t seat entry slot place session op range payload w can = submit.seated l n t seat entry slot place session op range payload w can
 
 pub submitted-kept : (l : Limits) (n : ℕ) (t : Tables) (seat : ℕ) (entry : Seat) (slot place session : ℕ) (op : Op) (range : Range) (payload : List ℕ)
     → WellFormed l n t → CanSubmit l t seat entry slot place session op range payload → Kept l (submitted_tables t n seat entry slot place session op range payload)
-submitted-kept l n t seat entry slot place session op range payload w can = ?
+submitted-kept l n t seat entry slot place session op range payload w can = submit.kept l n t seat entry slot place session op range payload w can
 
 pub submitted-seat : (l : Limits) (n : ℕ) (t : Tables) (seat : ℕ) (entry : Seat) (slot place session : ℕ) (op : Op) (range : Range) (payload : List ℕ)
     → WellFormed l n t → CanSubmit l t seat entry slot place session op range payload
     → (meaning (submitted_tables t n seat entry slot place session op range payload)).seat
-      ≡ put (meaning t).seat seat (option_map (with_unreaped (unreaped (meaning t) seat + 1)) ((meaning t).seat seat))
-submitted-seat l n t seat entry slot place session op range payload w can = ?
+    ≡ put (meaning t).seat seat (option_map (with_unreaped (unreaped (meaning t) seat + 1)) ((meaning t).seat seat))
+submitted-seat l n t seat entry slot place session op range payload w can = submit.seat_is l n t seat entry slot place session op range payload w can
 
 pub submitted-outbox : (l : Limits) (n : ℕ) (t : Tables) (seat : ℕ) (entry : Seat) (slot place session : ℕ) (op : Op) (range : Range) (payload : List ℕ)
     → WellFormed l n t → CanSubmit l t seat entry slot place session op range payload
     → (meaning (submitted_tables t n seat entry slot place session op range payload)).outbox ≡ (meaning t).outbox
-submitted-outbox l n t seat entry slot place session op range payload w can = ?
+submitted-outbox l n t seat entry slot place session op range payload w can = submit.outbox_is l n t seat entry slot place session op range payload w can
 
 -- Reap: where nothing is unreaped the outbox is empty
 pub nothing_owed : (l : Limits) (n : ℕ) (t : Tables) (seat : ℕ) (entry : Seat) → WellFormed l n t → seat < 16 → at t.seats seat ≡ Some entry → entry.unreaped ≡ 0
     → outbox_at t.outboxes seat ≡ []
-nothing_owed l n t seat entry w h s none = ?
+nothing_owed l n t seat entry w h s none = (elim (outbox_at t.outboxes seat) as (λ xs. outbox_at t.outboxes seat ≡ xs → xs ≡ []) [
+  | [] ↦ λ o. refl
+  | place ∷ rest ↦ λ o.
+      let le = counted_once l n t seat entry place w h s (All-head (IsCompleted t.bios seat) place rest (first_done l n t seat place rest w h o)) in
+      absurd (omega arith)
+]) refl
 
 -- a bio in the outbox stands in its slot, and is counted
 pub reap_finds : (l : Limits) (n : ℕ) (t : Tables) (seat place : ℕ) (rest : List ℕ) → WellFormed l n t → seat < 16 → outbox_at t.outboxes seat ≡ place ∷ rest
     → (bio : Bio) × (at t.bios place ≡ Some bio) × (entry : Seat) × (at t.seats seat ≡ Some entry) × (1 ≤ entry.unreaped)
-reap_finds l n t seat place rest w h o = ?
+reap_finds l n t seat place rest w h o = let done : IsCompleted t.bios seat place = All-head (IsCompleted t.bios seat) place rest (first_done l n t seat place rest w h o) in
+    let found = entry_of l n t seat place w h done in
+    (done.bio, done.here, found.0, found.1, counted_once l n t seat found.0 place w h found.1 done)
 
 pub reaped-outbox_was : (l : Limits) (n : ℕ) (t : Tables) (seat : ℕ) (entry : Seat) (place : ℕ) (rest : List ℕ) (bio : Bio) → WellFormed l n t → CanReap t seat entry place rest bio
     → (meaning t).outbox seat ≡ bio ∷ bios_at t.bios rest
-reaped-outbox_was l n t seat entry place rest bio w can = ?
+reaped-outbox_was l n t seat entry place rest bio w can = reap.outbox_was l n t seat entry place rest bio w can
 
 pub reaped-seated : (l : Limits) (n : ℕ) (t : Tables) (seat : ℕ) (entry : Seat) (place : ℕ) (rest : List ℕ) (bio : Bio) → WellFormed l n t → CanReap t seat entry place rest bio
     → Seated (n + 1) (reaped_tables t seat entry place rest)
-reaped-seated l n t seat entry place rest bio w can = ?
+reaped-seated l n t seat entry place rest bio w can = reap.seated l n t seat entry place rest bio w can
 
 pub reaped-kept : (l : Limits) (n : ℕ) (t : Tables) (seat : ℕ) (entry : Seat) (place : ℕ) (rest : List ℕ) (bio : Bio) → WellFormed l n t → CanReap t seat entry place rest bio
     → Kept l (reaped_tables t seat entry place rest)
-reaped-kept l n t seat entry place rest bio w can = ?
+reaped-kept l n t seat entry place rest bio w can = reap.kept l n t seat entry place rest bio w can
 
 pub reaped-seat : (l : Limits) (n : ℕ) (t : Tables) (seat : ℕ) (entry : Seat) (place : ℕ) (rest : List ℕ) (bio : Bio) → WellFormed l n t → CanReap t seat entry place rest bio
     → (meaning (reaped_tables t seat entry place rest)).seat ≡ put (meaning t).seat seat (option_map (with_unreaped (unreaped (meaning t) seat - 1)) ((meaning t).seat seat))
-reaped-seat l n t seat entry place rest bio w can = ?
+reaped-seat l n t seat entry place rest bio w can = reap.seat_is l n t seat entry place rest bio w can
 
 pub reaped-outbox : (l : Limits) (n : ℕ) (t : Tables) (seat : ℕ) (entry : Seat) (place : ℕ) (rest : List ℕ) (bio : Bio) → WellFormed l n t → CanReap t seat entry place rest bio
     → (meaning (reaped_tables t seat entry place rest)).outbox ≡ put (meaning t).outbox seat (bios_at t.bios rest)
-reaped-outbox l n t seat entry place rest bio w can = ?
+reaped-outbox l n t seat entry place rest bio w can = reap.outbox_is l n t seat entry place rest bio w can
 
 -- Dispatch
 pub sent-seated : (l : Limits) (n : ℕ) (t : Tables) (seat slot tag : ℕ) (request : Request) → WellFormed l n t → CanSend l t seat slot tag request → Seated (n + 1) (sent_tables t n seat slot tag)
-sent-seated l n t seat slot tag request w can = ?
+sent-seated l n t seat slot tag request w can = record { early = λ k s h. let early = w.seated.early k s h in omega arith; apart = w.seated.apart; counted = w.seated.counted }
 
 pub sent-kept : (l : Limits) (n : ℕ) (t : Tables) (seat slot tag : ℕ) (request : Request) → WellFormed l n t → CanSend l t seat slot tag request → Kept l (sent_tables t n seat slot tag)
-sent-kept l n t seat slot tag request w can = ?
+sent-kept l n t seat slot tag request w can = record {
+  bio = w.kept.bio;
+  request = λ k r h. owned_by t (sent_tables t n seat slot tag) r (sessions_same t.seats) (λ j all. all) (w.kept.request k r h);
+  outbox = w.kept.outbox;
+  once = w.kept.once;
+}
 
 -- Finish: the request's bios fit into the outbox
 pub outbox_room : (l : Limits) (n : ℕ) (t : Tables) (tag issue slot seat : ℕ) (entry : Seat) (request : Request) → WellFormed l n t → CanFinish t tag issue slot seat entry request
     → length (outbox_at t.outboxes seat) + length request.bios.items ≤ 32
-outbox_room l n t tag issue slot seat entry request w can = ?
+outbox_room l n t tag issue slot seat entry request w can = finish.outbox_room l n t tag issue slot seat entry request w can
 
 pub finished-seated : (l : Limits) (n : ℕ) (t : Tables) (tag issue slot seat : ℕ) (entry : Seat) (request : Request) (outcome : Outcome) → WellFormed l n t → CanFinish t tag issue slot seat entry request
     → Seated (n + 1) (finished_tables t tag slot seat request.bios.items outcome)
-finished-seated l n t tag issue slot seat entry request outcome w can = ?
+finished-seated l n t tag issue slot seat entry request outcome w can = finish.seated l n t tag issue slot seat entry request w can outcome
 
 pub finished-kept : (l : Limits) (n : ℕ) (t : Tables) (tag issue slot seat : ℕ) (entry : Seat) (request : Request) (outcome : Outcome) → WellFormed l n t → CanFinish t tag issue slot seat entry request
     → Kept l (finished_tables t tag slot seat request.bios.items outcome)
-finished-kept l n t tag issue slot seat entry request outcome w can = ?
+finished-kept l n t tag issue slot seat entry request outcome w can = finish.kept l n t tag issue slot seat entry request w can outcome
 
 pub finished-outbox : (l : Limits) (n : ℕ) (t : Tables) (tag issue slot seat : ℕ) (entry : Seat) (request : Request) (outcome : Outcome) → WellFormed l n t → CanFinish t tag issue slot seat entry request
     → (meaning (finished_tables t tag slot seat request.bios.items outcome)).outbox
-      ≡ delivered (meaning t).seat (meaning t).outbox request.session (completed outcome t.overlay (bios_at t.bios request.bios.items))
-finished-outbox l n t tag issue slot seat entry request outcome w can = ?
+    ≡ delivered (meaning t).seat (meaning t).outbox request.session (completed outcome t.overlay (bios_at t.bios request.bios.items))
+finished-outbox l n t tag issue slot seat entry request outcome w can = finish.outbox_is l n t tag issue slot seat entry request w can outcome

@@ -1,3 +1,15 @@
 pub mod Sides
+pub mod Times
+pub mod SlotCounts
+pub mod Keeping
+pub mod Submits
+pub mod Reaps
+pub mod Room
+pub mod Written
+pub mod Finishes
 pub mod Bios
+pub mod QueueLists
+pub mod Counts
+pub mod QueueFacts
 pub mod Queues
+pub mod Laws

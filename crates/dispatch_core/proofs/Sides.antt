@@ -8,7 +8,7 @@ use Rattle.process_queue.specs.Queue.{first_slot}
 use Rattle.change_record.specs.declared.change.Seat.{Seat}
 use Rattle.change_record.specs.Tables.{Tables}
 use Rattle.change_record.specs.Machine.{outbox_at}
-use Rattle.dispatch_core.specs.Step.{Limits, payload_length}
+use Rattle.plain_machine.specs.Step.{Limits, payload_length}
 use Rattle.dispatch_core.specs.WellFormed.{at, IsSlotOf}
 
 pub record CanAttach (t : Tables) (seat : ℕ) : Type 0 where

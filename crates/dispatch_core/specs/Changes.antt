@@ -9,7 +9,7 @@ use Rattle.request_pool.specs.declared.Request.{Request}
 use Rattle.change_record.specs.declared.change.Seat.{Seat}
 use Rattle.change_record.specs.Tables.{Tables}
 use Rattle.change_record.specs.Machine.{bios_at, outbox_at}
-use Rattle.dispatch_core.specs.Step.{with_unreaped, after_outcome, completed}
+use Rattle.plain_machine.specs.Step.{with_unreaped, after_outcome, completed}
 use Rattle.dispatch_core.specs.WellFormed.{at}
 
 abbrev pub unreaped_at : Tables → ℕ → ℕ

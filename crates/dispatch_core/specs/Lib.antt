@@ -1,9 +1,11 @@
-pub mod Numbers
-pub mod Step
 pub mod WellFormed
 pub mod Changes
+pub mod Relation
 pub use Rattle.change_record.specs.Tables
 pub use Rattle.change_record.specs.Exchange
 pub use Rattle.change_record.specs.Trail
 pub use Rattle.change_record.specs.Tape
 pub use Rattle.change_record.specs.Machine
+pub use Rattle.plain_machine.specs.Step
+pub use Rattle.plain_machine.specs.Numbers
+pub use Rattle.plain_machine.specs.Keeper

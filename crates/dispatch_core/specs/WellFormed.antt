@@ -12,7 +12,7 @@ use Rattle.process_queue.specs.declared.Link.{Link}
 use Rattle.change_record.specs.declared.change.Seat.{Seat}
 use Rattle.change_record.specs.Tables.{Tables}
 use Rattle.change_record.specs.Machine.{outbox_at}
-use Rattle.dispatch_core.specs.Step.{Limits, payload_length}
+use Rattle.plain_machine.specs.Step.{Limits, payload_length}
 
 -- what a table has at a place
 abbrev pub at : {A : Type 0} → List (Option A) → ℕ → Option A

@@ -1,8 +1,13 @@
 #![tactic(auto)]
 //! The machine: every step applied in place, by exchanges alone.
 
-mod answer;
-mod step;
+mod attach;
+mod complete;
+mod finish;
+mod machine;
+mod reap;
+mod send;
+mod submit;
 
-pub use answer::{Answer, Cause, Code, Reply, Work};
-pub use step::Step;
+pub use machine::{Machine, SectorView, View};
+pub use plain_machine::{Answer, Cause, Code, Reply, Sizes, Step, Work};

@@ -1,9 +1,9 @@
 -- The numbers that a client reads (our profile).
 use Rattle.std.specs.Prelude.{ℕ}
-use Rattle.dispatch_core.specs.declared.answer.Code.{Code}
-use Rattle.dispatch_core.specs.declared.answer.Code.TheVariants.{BadSeat, SeatTaken, NoSession, StaleSession, NoGroup, RootGroup, BadWeight, BadPrio, TooDeep, GroupsFull, GroupInUse, BadCount, BadLength, OutOfRange, TooManyBios, NothingOwed, NothingQueued, NoTag, BadTag, NotInFlight, BadOutcome, AlreadyFrozen, NotFrozen, NotDrained, SameScheduler, NoneInService, VtimeFull, NotHeld, AlreadyHeld, ZeroCount, NothingToUndo, NothingToRedo, HistoryFull, OutOfMemory, BadWorker}
-use Rattle.dispatch_core.specs.declared.answer.Cause.{Cause}
-use Rattle.dispatch_core.specs.declared.answer.Cause.TheVariants.{Held, Frozen, RequestsFull, NotCompleted, NothingToTake}
+use Rattle.plain_machine.specs.declared.answer.Code.{Code}
+use Rattle.plain_machine.specs.declared.answer.Code.TheVariants.{BadSeat, SeatTaken, NoSession, StaleSession, NoGroup, RootGroup, BadWeight, BadPrio, TooDeep, GroupsFull, GroupInUse, BadCount, BadLength, OutOfRange, TooManyBios, NothingOwed, NothingQueued, NoTag, BadTag, NotInFlight, BadOutcome, AlreadyFrozen, NotFrozen, NotDrained, SameScheduler, NoneInService, VtimeFull, NotHeld, AlreadyHeld, ZeroCount, NothingToUndo, NothingToRedo, HistoryFull, OutOfMemory, BadWorker}
+use Rattle.plain_machine.specs.declared.answer.Cause.{Cause}
+use Rattle.plain_machine.specs.declared.answer.Cause.TheVariants.{Held, Frozen, RequestsFull, NotCompleted, NothingToTake}
 
 abbrev pub code_number : Code → ℕ
 code_number BadSeat = 1

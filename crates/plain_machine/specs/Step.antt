@@ -17,14 +17,15 @@ use Rattle.soft_queue.specs.Turn.{numbers, seats}
 use Rattle.process_queue.specs.Queue.{is_empty}
 use Rattle.change_record.specs.declared.change.Seat.{Seat}
 use Rattle.change_record.specs.Machine.{WholeRequest, Flight, Plain, put}
-use Rattle.dispatch_core.specs.declared.answer.Code.TheVariants.{BadSeat, SeatTaken, NoSession, StaleSession, NoGroup, BadPrio, BadCount, BadLength, OutOfRange, TooManyBios, NothingOwed, NothingQueued, NoTag, BadTag, NotInFlight, BadOutcome, HistoryFull, OutOfMemory}
-use Rattle.dispatch_core.specs.declared.answer.Cause.TheVariants.{RequestsFull, NotCompleted}
-use Rattle.dispatch_core.specs.declared.answer.Reply.{Reply}
-use Rattle.dispatch_core.specs.declared.answer.Reply.TheVariants.{Attached, Queued, Completed, Issued, Finished, Done}
-use Rattle.dispatch_core.specs.declared.answer.Answer.{Answer}
-use Rattle.dispatch_core.specs.declared.answer.Answer.TheVariants.{Accepted, Refused, NotYet}
-use Rattle.dispatch_core.specs.declared.step.Step.{Step}
-use Rattle.dispatch_core.specs.declared.step.Step.TheVariants.{Attach, Submit, Reap, Dispatch, Finish}
+use Rattle.plain_machine.specs.declared.answer.Code.TheVariants.{BadSeat, SeatTaken, NoSession, StaleSession, NoGroup, BadPrio, BadCount, BadLength, OutOfRange, TooManyBios, NothingOwed, NothingQueued, NoTag, BadTag, NotInFlight, BadOutcome, HistoryFull, OutOfMemory}
+use Rattle.plain_machine.specs.declared.answer.Cause.TheVariants.{RequestsFull, NotCompleted}
+use Rattle.plain_machine.specs.declared.answer.Reply.{Reply}
+use Rattle.plain_machine.specs.declared.answer.Reply.TheVariants.{Attached, Queued, Completed, Issued, Finished, Done}
+use Rattle.plain_machine.specs.declared.answer.Answer.{Answer}
+use Rattle.plain_machine.specs.declared.answer.Answer.TheVariants.{Accepted, Refused, NotYet}
+use Rattle.plain_machine.specs.declared.sizes.Sizes.{Sizes}
+use Rattle.plain_machine.specs.declared.step.Step.{Step}
+use Rattle.plain_machine.specs.declared.step.Step.TheVariants.{Attach, Submit, Reap, Dispatch, Finish}
 
 -- blk-mq: what the queue was made for: the sectors of its image, its requests (`nr_requests`) and the tags of its device
 pub record Limits : Type 0 where
@@ -245,3 +246,7 @@ IsAccepted (NotYet cause) = ⊥
 abbrev pub Applies : Limits → Plain → ℕ → Bool → Step → Plain → Answer → Type 0
 Applies l m n room s next answer =
     ((next, answer) ≡ step l m n room s) ⊎ (IsAccepted (step l m n room s).1 × (answer ≡ Refused OutOfMemory) × (next ≡ m))
+
+-- the limits of a machine, from the sizes that it was made for
+abbrev pub of_sizes : Sizes → Limits
+of_sizes sizes = record { sectors = sizes.sectors; requests = sizes.requests; tags = sizes.tags }

@@ -144,7 +144,7 @@ pub enum Answer {
 
 impl Code {
     ghost use Rattle.std.specs.Prelude.{◌≡◌};
-    ghost use Rattle.dispatch_core.specs.Numbers.{code_number};
+    ghost use Rattle.plain_machine.specs.Numbers.{code_number};
 
     /// Its number, 1 to 35.
     pub fn number(self) -> u8
@@ -192,7 +192,7 @@ impl Code {
 
 impl Cause {
     ghost use Rattle.std.specs.Prelude.{◌≡◌};
-    ghost use Rattle.dispatch_core.specs.Numbers.{cause_number};
+    ghost use Rattle.plain_machine.specs.Numbers.{cause_number};
 
     /// Its number, 41 to 45.
     pub fn number(self) -> u8

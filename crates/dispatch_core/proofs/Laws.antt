@@ -1,0 +1,143 @@
+-- Each step leaves a machine for later serials, and means what the plain step does.
+use Rattle.std.proofs.Common.{◌≡◌, ℕ, ◌+◌, ◌<◌, ◌≤◌, List, [], ◌∷◌, ◌++◌, length, Option, Some, None, set, get_or, refl, sym, ap, ◌∙◌, subst, arith, rules, length-set}
+use Rattle.sector_core.specs.declared.range.Range.{Range}
+use Rattle.sector_core.specs.declared.bio.Op.{Op}
+use Rattle.sector_core.specs.declared.bio.Bio.{Bio}
+use Rattle.sector_core.specs.declared.bio.Outcome.{Outcome}
+use Rattle.request_pool.specs.declared.Request.{Request}
+use Rattle.tag_set.specs.declared.Issue.{Issue}
+use Rattle.process_queue.specs.declared.Link.{Link}
+use Rattle.change_record.specs.declared.change.Seat.{Seat}
+use Rattle.change_record.specs.Tables.{Tables}
+use Rattle.change_record.specs.Machine.{Plain, meaning, bios_at, outbox_at, put}
+use Rattle.plain_machine.specs.Step.{Limits, submitted, completed, delivered, after_outcome}
+use Rattle.dispatch_core.specs.WellFormed.{at, WellFormed, Sized, Seated, Kept, Placed}
+use Rattle.dispatch_core.specs.Changes.{attached_tables, submitted_tables, reaped_tables, sent_tables, finished_tables, with_bios}
+use Rattle.dispatch_core.proofs.Sides.{CanAttach, CanSubmit, CanReap, CanSend, CanFinish}
+use Rattle.dispatch_core.proofs.Bios.{attached-seated, attached-kept, attached-seat, submitted-seated, submitted-kept, submitted-seat, submitted-outbox, reaped-seated, reaped-kept, reaped-seat, reaped-outbox, sent-seated, sent-kept, finished-seated, finished-kept, finished-outbox}
+use Rattle.dispatch_core.proofs.Queues.{whole, attached-placed, submitted-placed, submitted-queue, submitted-flight, reaped-placed, reaped-queue, reaped-flight, sent-placed, sent-queue, sent-flight, finished-placed, finished-queue, finished-flight}
+
+-- serials that are earlier stay earlier
+pub WellFormed-later : (l : Limits) (n : ℕ) (t : Tables) → WellFormed l n t → WellFormed l (n + 1) t
+WellFormed-later l n t w = record {
+  sized = w.sized;
+  seated = record {
+    early = λ k s e. let h = w.seated.early k s e in omega arith;
+    apart = w.seated.apart;
+    counted = w.seated.counted
+  };
+  kept = w.kept;
+  placed = record {
+    link = λ slot link e. let q = w.placed.link slot link e in record {
+      early = let h = q.early in omega arith;
+      within = q.within;
+      request = q.request;
+      here = q.here;
+      entry = q.entry;
+      sits = q.sits;
+      session = q.session
+    };
+    apart = w.placed.apart;
+    tag = λ tag issue e. let h = w.placed.tag tag issue e in (omega (arith, h.0), h.1);
+    once = w.placed.once;
+    counted = w.placed.counted
+  };
+  first = let h = w.first in omega arith;
+  served = w.served
+}
+
+length-with_bios : (table : List (Option Bio)) (slots : List ℕ) (bios : List Bio) → length (with_bios table slots bios) ≡ length table
+length-with_bios table [] bios = refl
+length-with_bios table (slot ∷ slots) [] = refl
+length-with_bios table (slot ∷ slots) (bio ∷ bios) = length-with_bios (set table slot (Some bio)) slots bios ∙ length-set table slot (Some bio)
+
+pub attached-well : (l : Limits) (n : ℕ) (t : Tables) (seat group prio : ℕ) → WellFormed l n t → CanAttach t seat → WellFormed l (n + 1) (attached_tables t n seat group prio)
+attached-well l n t seat group prio w can = record {
+  sized = record {
+    requests = w.sized.requests; bios = w.sized.bios; tags = w.sized.tags; links = w.sized.links; outboxes = w.sized.outboxes;
+    seats = length-set t.seats seat _ ∙ w.sized.seats;
+    few_tags = w.sized.few_tags; small_image = w.sized.small_image
+  };
+  seated = attached-seated l n t seat group prio w can;
+  kept = attached-kept l n t seat group prio w can;
+  placed = attached-placed l n t seat group prio w can;
+  first = let h = w.first in omega arith;
+  served = w.served
+}
+
+pub submitted-well : (l : Limits) (n : ℕ) (t : Tables) (seat : ℕ) (entry : Seat) (slot place session : ℕ) (op : Op) (range : Range) (payload : List ℕ)
+    → WellFormed l n t → CanSubmit l t seat entry slot place session op range payload → WellFormed l (n + 1) (submitted_tables t n seat entry slot place session op range payload)
+submitted-well l n t seat entry slot place session op range payload w can = record {
+  sized = record {
+    requests = length-set t.requests slot _ ∙ w.sized.requests; bios = length-set t.bios place _ ∙ w.sized.bios; tags = w.sized.tags;
+    links = length-set t.links slot _ ∙ w.sized.links; outboxes = w.sized.outboxes;
+    seats = length-set t.seats seat _ ∙ w.sized.seats;
+    few_tags = w.sized.few_tags; small_image = w.sized.small_image
+  };
+  seated = submitted-seated l n t seat entry slot place session op range payload w can;
+  kept = submitted-kept l n t seat entry slot place session op range payload w can;
+  placed = submitted-placed l n t seat entry slot place session op range payload w can;
+  first = let h = w.first in omega arith;
+  served = w.served
+}
+
+pub submitted-meaning : (l : Limits) (n : ℕ) (t : Tables) (seat : ℕ) (entry : Seat) (slot place session : ℕ) (op : Op) (range : Range) (payload : List ℕ)
+    → WellFormed l n t → CanSubmit l t seat entry slot place session op range payload
+    → meaning (submitted_tables t n seat entry slot place session op range payload) ≡ submitted (meaning t) n seat session op range payload
+submitted-meaning l n t seat entry slot place session op range payload w can i = record {
+  overlay = t.overlay;
+  seat = submitted-seat l n t seat entry slot place session op range payload w can i;
+  queue = submitted-queue l n t seat entry slot place session op range payload w can i;
+  outbox = submitted-outbox l n t seat entry slot place session op range payload w can i;
+  flight = submitted-flight l n t seat entry slot place session op range payload w can i;
+  served = t.served
+}
+
+pub reaped-well : (l : Limits) (n : ℕ) (t : Tables) (seat : ℕ) (entry : Seat) (place : ℕ) (rest : List ℕ) (bio : Bio) → WellFormed l n t → CanReap t seat entry place rest bio
+    → WellFormed l (n + 1) (reaped_tables t seat entry place rest)
+reaped-well l n t seat entry place rest bio w can = record {
+  sized = record {
+    requests = w.sized.requests; bios = length-set t.bios place _ ∙ w.sized.bios; tags = w.sized.tags; links = w.sized.links;
+    outboxes = length-set t.outboxes seat _ ∙ w.sized.outboxes;
+    seats = length-set t.seats seat _ ∙ w.sized.seats;
+    few_tags = w.sized.few_tags; small_image = w.sized.small_image
+  };
+  seated = reaped-seated l n t seat entry place rest bio w can;
+  kept = reaped-kept l n t seat entry place rest bio w can;
+  placed = reaped-placed l n t seat entry place rest bio w can;
+  first = let h = w.first in omega arith;
+  served = w.served
+}
+
+pub sent-well : (l : Limits) (n : ℕ) (t : Tables) (seat slot tag : ℕ) (request : Request) → WellFormed l n t → CanSend l t seat slot tag request → WellFormed l (n + 1) (sent_tables t n seat slot tag)
+sent-well l n t seat slot tag request w can = record {
+  sized = record {
+    requests = w.sized.requests; bios = w.sized.bios; tags = length-set t.tags tag _ ∙ w.sized.tags; links = length-set t.links slot _ ∙ w.sized.links;
+    outboxes = w.sized.outboxes; seats = w.sized.seats;
+    few_tags = w.sized.few_tags; small_image = w.sized.small_image
+  };
+  seated = sent-seated l n t seat slot tag request w can;
+  kept = sent-kept l n t seat slot tag request w can;
+  placed = sent-placed l n t seat slot tag request w can;
+  first = let h = w.first in omega arith;
+  served = can.within
+}
+
+pub finished-well : (l : Limits) (n : ℕ) (t : Tables) (tag issue slot seat : ℕ) (entry : Seat) (request : Request) (outcome : Outcome) → WellFormed l n t → CanFinish t tag issue slot seat entry request
+    → WellFormed l (n + 1) (finished_tables t tag slot seat request.bios.items outcome)
+finished-well l n t tag issue slot seat entry request outcome w can = record {
+  sized = record {
+    requests = length-set t.requests slot _ ∙ w.sized.requests;
+    bios = length-with_bios t.bios request.bios.items _ ∙ w.sized.bios;
+    tags = length-set t.tags tag _ ∙ w.sized.tags; links = w.sized.links;
+    outboxes = length-set t.outboxes seat _ ∙ w.sized.outboxes;
+    seats = w.sized.seats;
+    few_tags = w.sized.few_tags; small_image = w.sized.small_image
+  };
+  seated = finished-seated l n t tag issue slot seat entry request outcome w can;
+  kept = finished-kept l n t tag issue slot seat entry request outcome w can;
+  placed = finished-placed l n t tag issue slot seat entry request outcome w can;
+  first = let h = w.first in omega arith;
+  served = w.served
+}
+

@@ -1,0 +1,83 @@
+// What becomes of the bios of a finished request.
+ghost use Rattle.std.specs.Prelude.{◌≡◌, ◌+◌, ◌*◌, ◌≤◌, ◌<◌, ◌^◌, IfOk, OnOk, length};
+ghost use Rattle.change_record.specs.Trail.{KeepsTrail};
+ghost use Rattle.plain_machine.specs.Step.{content, with_blocks, result_of, rest_of_outcome};
+
+use bytes::Bytes;
+use change_record::{Change, Parts, Tape};
+use overlay::Overlay;
+use sector_core::{Bio, BioResult, Block, Outcome, OutOfMemory, Range, Slot};
+use std::alloc::Global;
+
+/// Gives every bio in these slots its result, and stores the blocks of a store.
+pub fn complete(alloc: Global, parts: &mut Parts, tape: &mut Tape, slots: &[Slot], outcome: &Outcome) -> Result<(), OutOfMemory> {
+    let mut rest = outcome.clone()?;
+    for slot in slots {
+        let Some(bio) = parts.pool().bio(*slot) else {
+            unreachable!()
+        };
+        let range = bio.range;
+        let payload = bio.payload.clone()?;
+        let done = completed_bio(alloc, parts.overlay(), bio, &rest)?;
+        if matches!(rest, Outcome::Stored) {
+            store(parts, tape, range, payload)?;
+        }
+        tape.exchange(parts, Change::BioSlot { slot: *slot, bio: Some(done) });
+        rest = without_first(rest, range.count);
+    }
+    Ok(())
+}
+
+// The bio with its result.
+fn completed_bio(alloc: Global, overlay: &Overlay, bio: &Bio, outcome: &Outcome) -> Result<Bio, OutOfMemory>
+    requires { bio.now.range.start + bio.now.range.count < 2 ^ 64 }
+{
+    let result = match outcome {
+        Outcome::Fetched(bytes) => BioResult::Read(content_of(alloc, overlay, bio.range, bytes.as_slice())?),
+        Outcome::Stored => BioResult::Written,
+        Outcome::Failed(kind) => BioResult::IoError(*kind),
+    };
+    Ok(Bio {
+        serial: bio.serial,
+        range: bio.range,
+        payload: bio.payload.clone()?,
+        result: Some(result),
+    })
+}
+
+// The content of some sectors: the overlay's block where it has one, else the bytes of the image.
+fn content_of(alloc: Global, overlay: &Overlay, range: Range, bytes: &[u8]) -> Result<Bytes, OutOfMemory> {
+    let mut found = Vec::with_capacity(alloc, bytes.len())?;
+    let mut rest = bytes;
+    for sector in range.start..range.end() {
+        let (first, others) = rest.split_at(rest.len().min(512));
+        match overlay.get(sector) {
+            Some(block) => found.extend_from_slice(block.as_slice())?,
+            None => found.extend_from_slice(first)?,
+        }
+        rest = others;
+    }
+    Ok(Bytes::from_vec(found)?)
+}
+
+// Puts the blocks of a store into the overlay.
+fn store(parts: &mut Parts, tape: &mut Tape, range: Range, payload: Bytes) -> Result<(), OutOfMemory> {
+    let mut rest = payload;
+    for sector in range.start..range.end() {
+        let block = Block::new(rest.split_to(512)?);
+        tape.try_exchange(parts, Change::Sector { sector, block: Some(block) })?;
+    }
+    Ok(())
+}
+
+// The outcome without the bytes of its first sectors.
+fn without_first(outcome: Outcome, count: u32) -> Outcome {
+    match outcome {
+        Outcome::Fetched(bytes) => {
+            let mut bytes = bytes;
+            bytes.advance(512 * count as usize);
+            Outcome::Fetched(bytes)
+        }
+        other => other,
+    }
+}

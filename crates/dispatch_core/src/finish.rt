@@ -1,0 +1,103 @@
+// Finish: every bio of the request gets its result and goes to its session's outbox.
+ghost use Rattle.std.specs.Prelude.{◌≡◌, ◌+◌, ◌≤◌, IfOk};
+ghost use Rattle.change_record.specs.Trail.{KeepsTrail};
+ghost use Rattle.plain_machine.specs.Step.{finish, fits, of_sizes};
+ghost use Rattle.dispatch_core.specs.Relation.{Answers, Leaves};
+ghost use Rattle.dispatch_core.specs.WellFormed.{WellFormed};
+
+use crate::complete::complete;
+use crate::send::range_of_request;
+use crate::{Answer, Code, Reply, Sizes};
+use arrayvec::ArrayVec;
+use change_record::{Change, Outbox, Parts, Tape};
+use sector_core::{Op, Outcome, OutOfMemory, Slot};
+use std::alloc::Global;
+
+/// A fetch needs all its bytes or a failure, a store needs to be stored; the issue tells one use of a tag from the next.
+pub fn run_finish(alloc: Global, sizes: Sizes, parts: &mut Parts, tape: &mut Tape, serial: u64, room: bool, tag: u8, issue: u64, outcome: &Outcome) -> Result<Answer, OutOfMemory>
+    requires { WellFormed (of_sizes sizes) serial parts.old.tables }
+    ensures answers { Answers (λ m. finish (of_sizes sizes) m room tag issue outcome.now) parts.old.tables result parts.new.tables }
+    ensures leaves { IfOk result (λ answer. Leaves (of_sizes sizes) serial answer parts.old.tables tape.old.current parts.new.tables tape.new.current tape.new.spare) }
+    ensures trail { KeepsTrail tape.old.current parts.old.tables tape.new.current parts.new.tables }
+    ensures steps { tape.new.steps ≡ tape.old.steps }
+{
+    if tag >= sizes.tags {
+        return Ok(Answer::Refused(Code::BadTag));
+    }
+    let Some(borne) = parts.tags().get(tag) else {
+        return Ok(Answer::Refused(Code::NotInFlight));
+    };
+    if borne.issue != issue {
+        return Ok(Answer::Refused(Code::NotInFlight));
+    }
+    let Some(request) = parts.pool().request(borne.slot) else {
+        unreachable!()
+    };
+    let size = range_of_request(parts.pool(), request).count;
+    if !fits_outcome(request.op, size, outcome) {
+        return Ok(Answer::Refused(Code::BadOutcome));
+    }
+    if !room {
+        return Ok(Answer::Refused(Code::HistoryFull));
+    }
+    let Some(seat) = seat_of(parts, request.session) else {
+        unreachable!()
+    };
+    let slots = slots_of(&request.bios);
+    let bios = slots.len() as u32;
+    tape.reserve(size as usize + slots.len() + 3)?;
+    complete(alloc, parts, tape, slots.as_slice(), outcome)?;
+    deliver(parts, tape, tag, borne.slot, seat, &slots);
+    Ok(Answer::Accepted(Reply::Finished { bios }))
+}
+
+// Whether the outcome is one of the operation and the size in sectors.
+fn fits_outcome(op: Op, size: u32, outcome: &Outcome) -> bool
+    ensures { result ≡ fits op size outcome.now }
+{
+    match (op, outcome) {
+        (Op::Fetch, Outcome::Fetched(bytes)) => bytes.len() as u64 == 512 * u64::from(size),
+        (Op::Fetch, Outcome::Failed(_)) => true,
+        (Op::Fetch, Outcome::Stored) => false,
+        (Op::Store, Outcome::Stored) => true,
+        (Op::Store, Outcome::Fetched(_)) => false,
+        (Op::Store, Outcome::Failed(_)) => false,
+    }
+}
+
+// The seat of a session.
+fn seat_of(parts: &Parts, session: u64) -> Option<u8> {
+    for seat in 0..16u8 {
+        if let Some(entry) = parts.seat(seat) {
+            if entry.session == session {
+                return Some(seat);
+            }
+        }
+    }
+    None
+}
+
+// The slots of a request's bios, as a list of their own.
+fn slots_of(bios: &Outbox) -> Outbox
+    ensures { result.items ≡ bios.now.items }
+{
+    let mut slots = ArrayVec::new();
+    for slot in bios.iter() {
+        slots.push(*slot);
+    }
+    slots
+}
+
+// Frees the request's slot and its tag, and puts its bios at the end of the seat's outbox.
+fn deliver(parts: &mut Parts, tape: &mut Tape, tag: u8, slot: Slot, seat: u8, slots: &Outbox) {
+    let mut outbox = match parts.outbox(seat) {
+        Some(outbox) => slots_of(outbox),
+        None => ArrayVec::new(),
+    };
+    for place in slots.iter() {
+        outbox.push(*place);
+    }
+    tape.exchange(parts, Change::RequestSlot { slot, request: None });
+    tape.exchange(parts, Change::Tag { tag, issue: None });
+    tape.exchange(parts, Change::OutboxWhole { seat, outbox });
+}

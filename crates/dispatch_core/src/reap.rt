@@ -1,0 +1,107 @@
+// Reap: the first completed bio of a session is handed out.
+ghost use Rattle.std.specs.Prelude.{◌≡◌, ◌+◌, ◌-◌, ◌≤◌, IfOk, None, Some, drop, slice_set};
+ghost use Rattle.change_record.specs.Trail.{KeepsTrail};
+ghost use Rattle.change_record.specs.Machine.{outbox_at};
+ghost use Rattle.plain_machine.specs.Step.{reap, with_unreaped, of_sizes};
+ghost use Rattle.dispatch_core.specs.Relation.{Answers, Leaves};
+ghost use Rattle.dispatch_core.specs.WellFormed.{WellFormed};
+
+use crate::{Answer, Cause, Code, Reply, Sizes};
+use arrayvec::ArrayVec;
+use change_record::{Change, Outbox, Parts, Seat, Tape};
+use sector_core::{Bio, BioResult, OutOfMemory, Slot};
+
+/// The session's bios come in the order in which they were completed.
+pub fn run_reap(sizes: Sizes, parts: &mut Parts, tape: &mut Tape, serial: u64, room: bool, seat: u8, session: u64) -> Result<Answer, OutOfMemory>
+    requires { WellFormed (of_sizes sizes) serial parts.old.tables }
+    ensures answers { Answers (λ m. reap m room seat session) parts.old.tables result parts.new.tables }
+    ensures leaves { IfOk result (λ answer. Leaves (of_sizes sizes) serial answer parts.old.tables tape.old.current parts.new.tables tape.new.current tape.new.spare) }
+    ensures trail { KeepsTrail tape.old.current parts.old.tables tape.new.current parts.new.tables }
+    ensures steps { tape.new.steps ≡ tape.old.steps }
+{
+    if seat >= 16 {
+        return Ok(Answer::Refused(Code::BadSeat));
+    }
+    let Some(entry) = parts.seat(seat) else {
+        return Ok(Answer::Refused(Code::NoSession));
+    };
+    if entry.session != session {
+        return Ok(Answer::Refused(Code::StaleSession));
+    }
+    if entry.unreaped == 0 {
+        return Ok(Answer::Refused(Code::NothingOwed));
+    }
+    let Some(place) = first_completed(parts, seat) else {
+        return Ok(Answer::NotYet(Cause::NotCompleted));
+    };
+    if !room {
+        return Ok(Answer::Refused(Code::HistoryFull));
+    }
+    let Some(bio) = parts.pool().bio(place) else {
+        unreachable!()
+    };
+    let reply = Reply::Completed {
+        bio: bio.serial,
+        result: result_of_bio(bio)?,
+    };
+    tape.reserve(3)?;
+    take_out(parts, tape, seat, entry, place);
+    Ok(Answer::Accepted(reply))
+}
+
+// The slot of the first bio in a seat's outbox.
+fn first_completed(parts: &Parts, seat: u8) -> Option<Slot>
+    ensures { MatchOption result (outbox_at parts.now.tables.outboxes seat ≡ [])
+        (λ place. outbox_at parts.now.tables.outboxes seat ≡ place ∷ drop 1 (outbox_at parts.now.tables.outboxes seat)) }
+{
+    match parts.outbox(seat) {
+        Some(outbox) => outbox.first().copied(),
+        None => None,
+    }
+}
+
+// What became of a completed bio.
+fn result_of_bio(bio: &Bio) -> Result<BioResult, OutOfMemory>
+    ensures { IfOk result (λ copy. copy ≡ unwrap_or bio.now.result Written) }
+{
+    match &bio.result {
+        Some(result) => Ok(result.clone()?),
+        None => Ok(BioResult::Written),
+    }
+}
+
+// Takes the first bio out of the outbox and out of its slot.
+fn take_out(parts: &mut Parts, tape: &mut Tape, seat: u8, entry: Seat, place: Slot)
+    requires room { 3 ≤ tape.old.room }
+    requires some { 1 ≤ entry.unreaped }
+    ensures tables { parts.new.tables ≡ record parts.old.tables {
+        outboxes = slice_set parts.old.tables.outboxes seat (record { items = drop 1 (outbox_at parts.old.tables.outboxes seat) });
+        bios = slice_set parts.old.tables.bios place None;
+        seats = slice_set parts.old.tables.seats seat (Some (with_unreaped (entry.unreaped - 1) entry))
+    } }
+    ensures trail { KeepsTrail tape.old.current parts.old.tables tape.new.current parts.new.tables }
+    ensures steps { tape.new.steps ≡ tape.old.steps }
+    ensures spare { tape.new.spare ≡ tape.old.spare }
+{
+    let outbox = without_first(parts, seat);
+    let entry = Seat {
+        unreaped: entry.unreaped - 1,
+        ..entry
+    };
+    tape.exchange(parts, Change::OutboxWhole { seat, outbox });
+    tape.exchange(parts, Change::BioSlot { slot: place, bio: None });
+    tape.exchange(parts, Change::SeatEntry { seat, entry: Some(entry) });
+}
+
+// A seat's outbox without its first bio.
+fn without_first(parts: &Parts, seat: u8) -> Outbox
+    ensures { result.items ≡ drop 1 (outbox_at parts.now.tables.outboxes seat) }
+{
+    let mut rest = ArrayVec::new();
+    if let Some(outbox) = parts.outbox(seat) {
+        for slot in outbox.iter().skip(1) {
+            rest.push(*slot);
+        }
+    }
+    rest
+}

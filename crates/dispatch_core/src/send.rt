@@ -1,0 +1,62 @@
+// Dispatch: the next request is sent to the device under the lowest free tag.
+ghost use Rattle.std.specs.Prelude.{◌≡◌, ◌+◌, ◌≤◌, IfOk};
+ghost use Rattle.change_record.specs.Trail.{KeepsTrail};
+ghost use Rattle.plain_machine.specs.Step.{dispatch, of_sizes};
+ghost use Rattle.dispatch_core.specs.Relation.{Answers, Leaves};
+ghost use Rattle.dispatch_core.specs.WellFormed.{WellFormed};
+
+use crate::{Answer, Code, Reply, Sizes};
+use change_record::{Change, Parts, Tape};
+use request_pool::{Request, RequestPool};
+use sector_core::{OutOfMemory, Range};
+use tag_set::Issue;
+
+/// Seats are tried in turn from the one after the seat last served; of a queue the earliest request is sent.
+pub fn run_dispatch(sizes: Sizes, parts: &mut Parts, tape: &mut Tape, serial: u64, room: bool) -> Result<Answer, OutOfMemory>
+    requires { WellFormed (of_sizes sizes) serial parts.old.tables }
+    ensures answers { Answers (λ m. dispatch (of_sizes sizes) m serial room) parts.old.tables result parts.new.tables }
+    ensures leaves { IfOk result (λ answer. Leaves (of_sizes sizes) serial answer parts.old.tables tape.old.current parts.new.tables tape.new.current tape.new.spare) }
+    ensures trail { KeepsTrail tape.old.current parts.old.tables tape.new.current parts.new.tables }
+    ensures steps { tape.new.steps ≡ tape.old.steps }
+{
+    let Some(seat) = soft_queue::pick(parts.queues(), parts.served()) else {
+        return Ok(Answer::Refused(Code::NothingQueued));
+    };
+    let Some(tag) = parts.tags().lowest_free() else {
+        return Ok(Answer::Refused(Code::NoTag));
+    };
+    if !room {
+        return Ok(Answer::Refused(Code::HistoryFull));
+    }
+    let Some(slot) = parts.queues().first(seat) else {
+        unreachable!()
+    };
+    let Some(request) = parts.pool().request(slot) else {
+        unreachable!()
+    };
+    let reply = Reply::Issued {
+        tag,
+        issue: serial,
+        op: request.op,
+        range: range_of_request(parts.pool(), request),
+    };
+    tape.reserve(3)?;
+    tape.exchange(parts, Change::QueueLink { slot, link: None });
+    tape.exchange(parts, Change::Tag { tag, issue: Some(Issue { issue: serial, slot }) });
+    tape.exchange(parts, Change::Served { seat });
+    Ok(Answer::Accepted(reply))
+}
+
+/// The sectors of a request, from its first bio to its last.
+pub fn range_of_request(pool: &RequestPool, request: &Request) -> Range {
+    let mut range = Range { start: 0, count: 0 };
+    for slot in request.bios.iter().rev() {
+        if let Some(bio) = pool.bio(*slot) {
+            range = Range {
+                start: bio.range.start,
+                count: bio.range.count + range.count,
+            };
+        }
+    }
+    range
+}

@@ -1,0 +1,4 @@
+pub mod Numbers
+pub mod Step
+pub mod Keeper
+pub use Rattle.change_record.specs.Machine

@@ -1,0 +1,19 @@
+#![tactic(auto)]
+//! What is asked and what is answered: the steps of the machine, the calls of its keeper, and their answers.
+//!
+//! The rules stand in `specs/`: `Step` has the steps of the plain machine, one definition for each, in the order of
+//! the table of steps; `Keeper` has the line, the cursor and the journal. No code stands on anything else for its meaning.
+//!
+//! | call | rule that it meets |
+//! |---|---|
+//! | [`Code::number`], [`Cause::number`] | the numbers that a client reads |
+
+mod answer;
+mod call;
+mod sizes;
+mod step;
+
+pub use answer::{Answer, Cause, Code, Reply, Work};
+pub use call::{Call, Stamped};
+pub use sizes::Sizes;
+pub use step::Step;
