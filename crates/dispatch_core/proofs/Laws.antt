@@ -1,5 +1,5 @@
 -- Each step leaves a machine for later serials, and means what the plain step does.
-use Rattle.std.proofs.Common.{◌≡◌, ℕ, ◌+◌, ◌<◌, ◌≤◌, List, [], ◌∷◌, ◌++◌, length, Option, Some, None, set, get_or, refl, sym, ap, ◌∙◌, subst, arith, rules, length-set}
+use Rattle.std.proofs.Common.{◌≡◌, ℕ, ◌+◌, ◌-◌, ◌<◌, ◌≤◌, List, [], ◌∷◌, ◌++◌, length, Option, Some, None, set, get_or, refl, sym, ap, ◌∙◌, subst, arith, rules, length-set}
 use Rattle.sector_core.specs.declared.range.Range.{Range}
 use Rattle.sector_core.specs.declared.bio.Op.{Op}
 use Rattle.sector_core.specs.declared.bio.Bio.{Bio}
@@ -10,7 +10,8 @@ use Rattle.process_queue.specs.declared.Link.{Link}
 use Rattle.change_record.specs.declared.change.Seat.{Seat}
 use Rattle.change_record.specs.Tables.{Tables}
 use Rattle.change_record.specs.Machine.{Plain, meaning, bios_at, outbox_at, put}
-use Rattle.plain_machine.specs.Step.{Limits, submitted, completed, delivered, after_outcome}
+use Rattle.plain_machine.specs.Step.{Limits, submitted, unreaped, with_unreaped, completed, delivered, after_outcome}
+use Rattle.std.specs.Option.{option_map}
 use Rattle.dispatch_core.specs.WellFormed.{at, WellFormed, Sized, Seated, Kept, Placed}
 use Rattle.dispatch_core.specs.Changes.{attached_tables, submitted_tables, reaped_tables, sent_tables, finished_tables, with_bios}
 use Rattle.dispatch_core.proofs.Sides.{CanAttach, CanSubmit, CanReap, CanSend, CanFinish}
@@ -141,3 +142,47 @@ finished-well l n t tag issue slot seat entry request outcome w can = record {
   served = w.served
 }
 
+
+pub reaped-meaning : (l : Limits) (n : ℕ) (t : Tables) (seat : ℕ) (entry : Seat) (place : ℕ) (rest : List ℕ) (bio : Bio) → WellFormed l n t → CanReap t seat entry place rest bio
+    → meaning (reaped_tables t seat entry place rest) ≡ record (meaning t) {
+        seat = put (meaning t).seat seat (option_map (with_unreaped (unreaped (meaning t) seat - 1)) ((meaning t).seat seat));
+        outbox = put (meaning t).outbox seat (bios_at t.bios rest)
+      }
+reaped-meaning l n t seat entry place rest bio w can i = record {
+  overlay = t.overlay;
+  seat = reaped-seat l n t seat entry place rest bio w can i;
+  queue = reaped-queue l n t seat entry place rest bio w can i;
+  outbox = reaped-outbox l n t seat entry place rest bio w can i;
+  flight = reaped-flight l n t seat entry place rest bio w can i;
+  served = t.served
+}
+
+pub sent-meaning : (l : Limits) (n : ℕ) (t : Tables) (seat slot tag : ℕ) (request : Request) → WellFormed l n t → CanSend l t seat slot tag request
+    → meaning (sent_tables t n seat slot tag) ≡ record (meaning t) {
+        queue = put (meaning t).queue seat ((meaning (sent_tables t n seat slot tag)).queue seat);
+        flight = put (meaning t).flight tag (Some (record { issue = n; request = whole t request }));
+        served = seat
+      }
+sent-meaning l n t seat slot tag request w can i = record {
+  overlay = t.overlay;
+  seat = (meaning t).seat;
+  queue = sent-queue l n t seat slot tag request w can i;
+  outbox = (meaning t).outbox;
+  flight = sent-flight l n t seat slot tag request w can i;
+  served = seat
+}
+
+pub finished-meaning : (l : Limits) (n : ℕ) (t : Tables) (tag issue slot seat : ℕ) (entry : Seat) (request : Request) (outcome : Outcome) → WellFormed l n t → CanFinish t tag issue slot seat entry request
+    → meaning (finished_tables t tag slot seat request.bios.items outcome) ≡ record (meaning t) {
+        overlay = after_outcome outcome t.overlay (bios_at t.bios request.bios.items);
+        outbox = delivered (meaning t).seat (meaning t).outbox request.session (completed outcome t.overlay (bios_at t.bios request.bios.items));
+        flight = put (meaning t).flight tag None
+      }
+finished-meaning l n t tag issue slot seat entry request outcome w can i = record {
+  overlay = after_outcome outcome t.overlay (bios_at t.bios request.bios.items);
+  seat = (meaning t).seat;
+  queue = finished-queue l n t tag issue slot seat entry request outcome w can i;
+  outbox = finished-outbox l n t tag issue slot seat entry request outcome w can i;
+  flight = finished-flight l n t tag issue slot seat entry request outcome w can i;
+  served = t.served
+}

@@ -13,3 +13,5 @@ pub mod Counts
 pub mod QueueFacts
 pub mod Queues
 pub mod Laws
+pub mod Decided
+pub mod Sectors

@@ -22,7 +22,7 @@ one-le None = omega arith
 one-le (Some a) = omega arith
 
 -- where one is counted there is something
-some_of : {A : Type 0} (o : Option A) → one o ≡ 1 → (a : A) × (o ≡ Some a)
+pub some_of : {A : Type 0} (o : Option A) → one o ≡ 1 → (a : A) × (o ≡ Some a)
 some_of None e = absurd (omega arith)
 some_of (Some a) e = (a, refl)
 

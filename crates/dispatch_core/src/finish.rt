@@ -1,5 +1,7 @@
 // Finish: every bio of the request gets its result and goes to its session's outbox.
-ghost use Rattle.std.specs.Prelude.{◌≡◌, ◌+◌, ◌≤◌, IfOk};
+ghost use Rattle.std.specs.Prelude.{◌≡◌, ◌+◌, ◌≤◌, ◌<◌, ◌++◌, ◌≢◌, ℕ, IfOk, MatchOption, None, Some, length, slice_set, slice_index_or};
+ghost use Rattle.change_record.specs.Machine.{outbox_at};
+ghost use Rattle.change_record.specs.declared.change.Seat.{Seat};
 ghost use Rattle.change_record.specs.Trail.{KeepsTrail};
 ghost use Rattle.plain_machine.specs.Step.{finish, fits, of_sizes};
 ghost use Rattle.dispatch_core.specs.Relation.{Answers, Leaves};
@@ -8,8 +10,8 @@ ghost use Rattle.dispatch_core.specs.WellFormed.{WellFormed};
 use crate::complete::complete;
 use crate::send::range_of_request;
 use crate::{Answer, Code, Reply, Sizes};
-use arrayvec::ArrayVec;
-use change_record::{Change, Outbox, Parts, Tape};
+use crate::outbox::{outbox_from, outbox_joined, outbox_slots};
+use change_record::{Change, Parts, Tape};
 use sector_core::{Op, Outcome, OutOfMemory, Slot};
 use std::alloc::Global;
 
@@ -43,11 +45,12 @@ pub fn run_finish(alloc: Global, sizes: Sizes, parts: &mut Parts, tape: &mut Tap
     let Some(seat) = seat_of(parts, request.session) else {
         unreachable!()
     };
-    let slots = slots_of(&request.bios);
+    let slots = outbox_from(request.bios.as_slice());
+    let slots = slots.as_slice();
     let bios = slots.len() as u32;
     tape.reserve(size as usize + slots.len() + 3)?;
-    complete(alloc, parts, tape, slots.as_slice(), outcome)?;
-    deliver(parts, tape, tag, borne.slot, seat, &slots);
+    complete(alloc, parts, tape, slots, outcome)?;
+    deliver(parts, tape, tag, borne.slot, seat, slots);
     Ok(Answer::Accepted(Reply::Finished { bios }))
 }
 
@@ -66,7 +69,11 @@ fn fits_outcome(op: Op, size: u32, outcome: &Outcome) -> bool
 }
 
 // The seat of a session.
-fn seat_of(parts: &Parts, session: u64) -> Option<u8> {
+fn seat_of(parts: &Parts, session: u64) -> Option<u8>
+    ensures { MatchOption result
+        ((k : ℕ) (s : Seat) → k < 16 → slice_index_or parts.now.tables.seats k None ≡ Some s → s.session ≢ session)
+        (λ seat. (seat < 16) × (entry : Seat) × (slice_index_or parts.now.tables.seats seat None ≡ Some entry) × (entry.session ≡ session)) }
+{
     for seat in 0..16u8 {
         if let Some(entry) = parts.seat(seat) {
             if entry.session == session {
@@ -77,26 +84,20 @@ fn seat_of(parts: &Parts, session: u64) -> Option<u8> {
     None
 }
 
-// The slots of a request's bios, as a list of their own.
-fn slots_of(bios: &Outbox) -> Outbox
-    ensures { result.items ≡ bios.now.items }
-{
-    let mut slots = ArrayVec::new();
-    for slot in bios.iter() {
-        slots.push(*slot);
-    }
-    slots
-}
-
 // Frees the request's slot and its tag, and puts its bios at the end of the seat's outbox.
-fn deliver(parts: &mut Parts, tape: &mut Tape, tag: u8, slot: Slot, seat: u8, slots: &Outbox) {
-    let mut outbox = match parts.outbox(seat) {
-        Some(outbox) => slots_of(outbox),
-        None => ArrayVec::new(),
-    };
-    for place in slots.iter() {
-        outbox.push(*place);
-    }
+fn deliver(parts: &mut Parts, tape: &mut Tape, tag: u8, slot: Slot, seat: u8, slots: &[Slot])
+    requires room { 3 ≤ tape.old.room }
+    requires fits { length (outbox_at parts.old.tables.outboxes seat) + length slots.now ≤ 32 }
+    ensures tables { parts.new.tables ≡ record parts.old.tables {
+        requests = slice_set parts.old.tables.requests slot None;
+        tags = slice_set parts.old.tables.tags tag None;
+        outboxes = slice_set parts.old.tables.outboxes seat (record { items = outbox_at parts.old.tables.outboxes seat ++ slots.now })
+    } }
+    ensures trail { KeepsTrail tape.old.current parts.old.tables tape.new.current parts.new.tables }
+    ensures steps { tape.new.steps ≡ tape.old.steps }
+    ensures spare { tape.new.spare ≡ tape.old.spare }
+{
+    let outbox = outbox_joined(outbox_slots(parts, seat), slots);
     tape.exchange(parts, Change::RequestSlot { slot, request: None });
     tape.exchange(parts, Change::Tag { tag, issue: None });
     tape.exchange(parts, Change::OutboxWhole { seat, outbox });

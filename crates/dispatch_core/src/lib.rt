@@ -5,6 +5,7 @@ mod attach;
 mod complete;
 mod finish;
 mod machine;
+mod outbox;
 mod reap;
 mod send;
 mod submit;

@@ -1,14 +1,15 @@
 // Reap: the first completed bio of a session is handed out.
-ghost use Rattle.std.specs.Prelude.{◌≡◌, ◌+◌, ◌-◌, ◌≤◌, IfOk, None, Some, drop, slice_set};
+ghost use Rattle.std.specs.Prelude.{◌≡◌, ◌+◌, ◌-◌, ◌≤◌, IfOk, unwrap_or, None, Some, drop, length, slice_set};
 ghost use Rattle.change_record.specs.Trail.{KeepsTrail};
 ghost use Rattle.change_record.specs.Machine.{outbox_at};
+ghost use Rattle.sector_core.specs.declared.bio.BioResult.TheVariants.{Written};
 ghost use Rattle.plain_machine.specs.Step.{reap, with_unreaped, of_sizes};
 ghost use Rattle.dispatch_core.specs.Relation.{Answers, Leaves};
 ghost use Rattle.dispatch_core.specs.WellFormed.{WellFormed};
 
 use crate::{Answer, Cause, Code, Reply, Sizes};
-use arrayvec::ArrayVec;
-use change_record::{Change, Outbox, Parts, Seat, Tape};
+use crate::outbox::{outbox_from, outbox_slots};
+use change_record::{Change, Parts, Seat, Tape};
 use sector_core::{Bio, BioResult, OutOfMemory, Slot};
 
 /// The session's bios come in the order in which they were completed.
@@ -31,7 +32,7 @@ pub fn run_reap(sizes: Sizes, parts: &mut Parts, tape: &mut Tape, serial: u64, r
     if entry.unreaped == 0 {
         return Ok(Answer::Refused(Code::NothingOwed));
     }
-    let Some(place) = first_completed(parts, seat) else {
+    let Some(place) = outbox_slots(parts, seat).first().copied() else {
         return Ok(Answer::NotYet(Cause::NotCompleted));
     };
     if !room {
@@ -49,17 +50,6 @@ pub fn run_reap(sizes: Sizes, parts: &mut Parts, tape: &mut Tape, serial: u64, r
     Ok(Answer::Accepted(reply))
 }
 
-// The slot of the first bio in a seat's outbox.
-fn first_completed(parts: &Parts, seat: u8) -> Option<Slot>
-    ensures { MatchOption result (outbox_at parts.now.tables.outboxes seat ≡ [])
-        (λ place. outbox_at parts.now.tables.outboxes seat ≡ place ∷ drop 1 (outbox_at parts.now.tables.outboxes seat)) }
-{
-    match parts.outbox(seat) {
-        Some(outbox) => outbox.first().copied(),
-        None => None,
-    }
-}
-
 // What became of a completed bio.
 fn result_of_bio(bio: &Bio) -> Result<BioResult, OutOfMemory>
     ensures { IfOk result (λ copy. copy ≡ unwrap_or bio.now.result Written) }
@@ -74,6 +64,7 @@ fn result_of_bio(bio: &Bio) -> Result<BioResult, OutOfMemory>
 fn take_out(parts: &mut Parts, tape: &mut Tape, seat: u8, entry: Seat, place: Slot)
     requires room { 3 ≤ tape.old.room }
     requires some { 1 ≤ entry.unreaped }
+    requires waits { 1 ≤ length (outbox_at parts.old.tables.outboxes seat) }
     ensures tables { parts.new.tables ≡ record parts.old.tables {
         outboxes = slice_set parts.old.tables.outboxes seat (record { items = drop 1 (outbox_at parts.old.tables.outboxes seat) });
         bios = slice_set parts.old.tables.bios place None;
@@ -83,7 +74,9 @@ fn take_out(parts: &mut Parts, tape: &mut Tape, seat: u8, entry: Seat, place: Sl
     ensures steps { tape.new.steps ≡ tape.old.steps }
     ensures spare { tape.new.spare ≡ tape.old.spare }
 {
-    let outbox = without_first(parts, seat);
+    let slots = outbox_slots(parts, seat);
+    let (_, rest) = slots.split_at(1);
+    let outbox = outbox_from(rest);
     let entry = Seat {
         unreaped: entry.unreaped - 1,
         ..entry
@@ -91,17 +84,4 @@ fn take_out(parts: &mut Parts, tape: &mut Tape, seat: u8, entry: Seat, place: Sl
     tape.exchange(parts, Change::OutboxWhole { seat, outbox });
     tape.exchange(parts, Change::BioSlot { slot: place, bio: None });
     tape.exchange(parts, Change::SeatEntry { seat, entry: Some(entry) });
-}
-
-// A seat's outbox without its first bio.
-fn without_first(parts: &Parts, seat: u8) -> Outbox
-    ensures { result.items ≡ drop 1 (outbox_at parts.now.tables.outboxes seat) }
-{
-    let mut rest = ArrayVec::new();
-    if let Some(outbox) = parts.outbox(seat) {
-        for slot in outbox.iter().skip(1) {
-            rest.push(*slot);
-        }
-    }
-    rest
 }

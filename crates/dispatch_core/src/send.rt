@@ -1,5 +1,6 @@
 // Dispatch: the next request is sent to the device under the lowest free tag.
 ghost use Rattle.std.specs.Prelude.{◌≡◌, ◌+◌, ◌≤◌, IfOk};
+ghost use Rattle.dispatch_core.specs.Ranges.{start_at, count_at, first_start, total_count, HasFewSectors};
 ghost use Rattle.change_record.specs.Trail.{KeepsTrail};
 ghost use Rattle.plain_machine.specs.Step.{dispatch, of_sizes};
 ghost use Rattle.dispatch_core.specs.Relation.{Answers, Leaves};
@@ -8,7 +9,7 @@ ghost use Rattle.dispatch_core.specs.WellFormed.{WellFormed};
 use crate::{Answer, Code, Reply, Sizes};
 use change_record::{Change, Parts, Tape};
 use request_pool::{Request, RequestPool};
-use sector_core::{OutOfMemory, Range};
+use sector_core::{OutOfMemory, Range, Slot};
 use tag_set::Issue;
 
 /// Seats are tried in turn from the one after the seat last served; of a queue the earliest request is sent.
@@ -48,15 +49,39 @@ pub fn run_dispatch(sizes: Sizes, parts: &mut Parts, tape: &mut Tape, serial: u6
 }
 
 /// The sectors of a request, from its first bio to its last.
-pub fn range_of_request(pool: &RequestPool, request: &Request) -> Range {
-    let mut range = Range { start: 0, count: 0 };
-    for slot in request.bios.iter().rev() {
-        if let Some(bio) = pool.bio(*slot) {
-            range = Range {
-                start: bio.range.start,
-                count: bio.range.count + range.count,
-            };
-        }
+pub fn range_of_request(pool: &RequestPool, request: &Request) -> Range
+    ensures start { result.start ≡ first_start pool.now.bios request.now.bios.items }
+    ensures count { HasFewSectors pool.now.bios → result.count ≡ total_count pool.now.bios request.now.bios.items }
+    ensures small { HasFewSectors pool.now.bios → result.count ≤ 2048 }
+{
+    let slots = request.bios.as_slice();
+    let start = match slots.first() {
+        Some(slot) => start_of(pool, *slot),
+        None => 0,
+    };
+    let mut count: u32 = 0;
+    for slot in slots {
+        count = count.saturating_add(count_of(pool, *slot));
     }
-    range
+    Range { start, count }
+}
+
+// The first sector of the bio in a slot.
+fn start_of(pool: &RequestPool, slot: Slot) -> u64
+    ensures { result ≡ start_at pool.now.bios slot }
+{
+    match pool.bio(slot) {
+        Some(bio) => bio.range.start,
+        None => 0,
+    }
+}
+
+// How many sectors the bio in a slot has.
+fn count_of(pool: &RequestPool, slot: Slot) -> u32
+    ensures { result ≡ count_at pool.now.bios slot }
+{
+    match pool.bio(slot) {
+        Some(bio) => bio.range.count,
+        None => 0,
+    }
 }

@@ -1,0 +1,184 @@
+-- What the plain step says where the code has made its tests.
+use Rattle.std.proofs.Common.{◌≡◌, ◌≢◌, ℕ, ◌+◌, ◌-◌, ◌*◌, ◌<◌, ◌≤◌, List, [], ◌∷◌, ◌++◌, length, Option, Some, None, Bool, true, false, not, ◌||◌, is_some, nat_le, nat_lt, nat_eq, eqb, cond, drop, unwrap_or, Result, Ok, Err, IsErr, refl, sym, ap, ◌∙◌, subst, arith, rules}
+use Rattle.std.specs.Option.{is_none, option_map}
+use Rattle.std.specs.Prelude.{slice_get}
+use Rattle.std.proofs.lemmas.Bool.Decides.{nat_tests}
+use Rattle.sector_core.specs.First.{first_of}
+use Rattle.sector_core.specs.declared.range.Range.{Range}
+use Rattle.sector_core.specs.declared.bio.Op.{Op}
+use Rattle.sector_core.specs.declared.bio.Bio.{Bio}
+use Rattle.sector_core.specs.declared.bio.BioResult.TheVariants.{Written}
+use Rattle.sector_core.specs.declared.bio.Outcome.{Outcome}
+use Rattle.change_record.specs.declared.change.Seat.{Seat}
+use Rattle.sector_core.specs.declared.memory.OutOfMemory.{OutOfMemory as WantOfMemory}
+use Rattle.change_record.specs.Tables.{Tables}
+use Rattle.dispatch_core.specs.Relation.{Answers}
+use Rattle.change_record.specs.Machine.{WholeRequest, Flight, Plain, put, meaning}
+use Rattle.plain_machine.specs.declared.answer.Code.TheVariants.{BadSeat, NoSession, StaleSession, BadCount, BadLength, OutOfRange, TooManyBios, NothingOwed, NothingQueued, NoTag, BadTag, NotInFlight, BadOutcome, HistoryFull}
+use Rattle.plain_machine.specs.declared.answer.Cause.TheVariants.{RequestsFull, NotCompleted}
+use Rattle.plain_machine.specs.declared.answer.Reply.{Reply}
+use Rattle.plain_machine.specs.declared.answer.Reply.TheVariants.{Queued, Completed, Issued, Finished}
+use Rattle.plain_machine.specs.declared.answer.Answer.{Answer}
+use Rattle.plain_machine.specs.declared.answer.Answer.TheVariants.{Accepted, Refused, NotYet}
+use Rattle.plain_machine.specs.Step.{Limits, Outcome_of, unless, accepted, is_session, seat_tests, unreaped, payload_length, queued, in_flight, submitted, submit, with_unreaped, reaped, reap, next_queue, lowest_free, sent, dispatch_to, dispatch, fits, size_of, range_of, after_outcome, delivered, completed, finished, finish_of, finish, IsAccepted}
+
+lt_16 : (seat : ℕ) → seat < 16 → nat_le 16 seat ≡ false
+lt_16 seat h = grind (arith, nat_tests)
+
+not_lt : (a b : ℕ) → a ≤ b → nat_lt b a ≡ false
+not_lt a b h = grind (arith, nat_tests)
+
+not_le : (a b : ℕ) → a < b → nat_le b a ≡ false
+not_le a b h = grind (arith, nat_tests)
+
+is_le : (a b : ℕ) → a ≤ b → nat_le a b ≡ true
+is_le a b h = grind (arith, nat_tests)
+
+same_number : (a b : ℕ) → a ≡ b → not (nat_eq a b) ≡ false
+same_number a b e = grind (arith, nat_tests)
+
+other_number : (a b : ℕ) → a ≢ b → not (nat_eq a b) ≡ true
+other_number a b e = grind (arith, nat_tests)
+
+not_zero : (a : ℕ) → 1 ≤ a → nat_eq a 0 ≡ false
+not_zero a h = grind (arith, nat_tests)
+
+neither : (a b : Bool) → a ≡ false → b ≡ false → (a || b) ≡ false
+neither a b e f = ap (λ x. x || b) e ∙ f
+
+module _ (l : Limits) (m : Plain) (n : ℕ) (room : Bool) (seat session : ℕ) (op : Op) (range : Range) (payload : List ℕ) (s : Seat)
+    (h : seat < 16) (sits : m.seat seat ≡ Some s) (same : s.session ≡ session) (some_sectors : 1 ≤ range.count) (few_sectors : range.count ≤ 64)
+    (fits_payload : length payload ≡ payload_length op range.count) (in_image : range.start + range.count ≤ l.sectors) (few : s.unreaped < 32) where
+  pub submit_full : nat_le l.requests (queued m + in_flight l m) ≡ true → submit l m n room seat session op range payload ≡ (m, NotYet RequestsFull)
+  submit_full full =
+      let e1 = lt_16 seat h in
+      let e3 = same_number s.session session same in
+      let e4 = neither (nat_eq range.count 0) (nat_lt 64 range.count) (not_zero range.count some_sectors) (not_lt range.count 64 few_sectors) in
+      let e5 = same_number (length payload) (payload_length op range.count) fits_payload in
+      let e6 = not_lt (range.start + range.count) l.sectors in_image in
+      let e7 = not_le s.unreaped 32 few in
+      rw (e1, sits, e3, e4, e5, e6, e7, full) refl
+
+  pub submit_goes : nat_le l.requests (queued m + in_flight l m) ≡ false
+      → submit l m n room seat session op range payload ≡ accepted room m (submitted m n seat session op range payload) (Queued n)
+  submit_goes free =
+      let e1 = lt_16 seat h in
+      let e3 = same_number s.session session same in
+      let e4 = neither (nat_eq range.count 0) (nat_lt 64 range.count) (not_zero range.count some_sectors) (not_lt range.count 64 few_sectors) in
+      let e5 = same_number (length payload) (payload_length op range.count) fits_payload in
+      let e6 = not_lt (range.start + range.count) l.sectors in_image in
+      let e7 = not_le s.unreaped 32 few in
+      rw (e1, sits, e3, e4, e5, e6, e7, free) refl
+
+-- memory was wanting where the plain step accepts
+pub Answers-err : (plain : Plain → Outcome_of) (t u : Tables) (r : Result Answer WantOfMemory) → IsErr r → IsAccepted (plain (meaning t)).1 → Answers plain t r u
+Answers-err plain t u (Ok a) e h = absurd (search rules)
+Answers-err plain t u (Err w) e h = h
+
+module _ (m : Plain) (room : Bool) (seat session : ℕ) (s : Seat) (h : seat < 16) (sits : m.seat seat ≡ Some s) (same : s.session ≡ session) (some_owed : s.unreaped ≢ 0) where
+  owed : nat_eq s.unreaped 0 ≡ false
+  owed = not_zero s.unreaped (omega arith)
+
+  pub reap_waits : m.outbox seat ≡ [] → reap m room seat session ≡ (m, NotYet NotCompleted)
+  reap_waits none =
+      let e1 = lt_16 seat h in
+      let e3 = same_number s.session session same in
+      let e4 = owed in
+      rw (none, e1, sits, e3, e4) refl
+
+  pub reap_goes : (bio : Bio) (bios : List Bio) → m.outbox seat ≡ bio ∷ bios → reap m room seat session
+      ≡ accepted room m (record m { seat = put m.seat seat (option_map (with_unreaped (unreaped m seat - 1)) (m.seat seat)); outbox = put m.outbox seat bios }) (Completed bio.serial (unwrap_or bio.result Written))
+  reap_goes bio bios first =
+      let e1 = lt_16 seat h in
+      let e3 = same_number s.session session same in
+      let e4 = owed in
+      rw (first, e1, sits, e3, e4) refl
+
+  pub reap_does : (bio : Bio) (bios : List Bio) → m.outbox seat ≡ bio ∷ bios → room ≡ true → reap m room seat session
+      ≡ (record m { seat = put m.seat seat (option_map (with_unreaped (unreaped m seat - 1)) (m.seat seat)); outbox = put m.outbox seat bios }, Accepted (Completed bio.serial (unwrap_or bio.result Written)))
+  reap_does bio bios first e = reap_goes bio bios first
+      ∙ ap (λ b. accepted b m (record m { seat = put m.seat seat (option_map (with_unreaped (unreaped m seat - 1)) (m.seat seat)); outbox = put m.outbox seat bios }) (Completed bio.serial (unwrap_or bio.result Written))) e
+
+module _ (l : Limits) (m : Plain) (n : ℕ) (room : Bool) where
+  pub dispatch_idle : next_queue m ≡ None → dispatch l m n room ≡ (m, Refused NothingQueued)
+  dispatch_idle none = ap (λ q. dispatch_to m n room q (lowest_free l m)) none
+
+  pub dispatch_full : (seat : ℕ) → next_queue m ≡ Some seat → lowest_free l m ≡ None → dispatch l m n room ≡ (m, Refused NoTag)
+  dispatch_full seat next none = ap (λ q. dispatch_to m n room q (lowest_free l m)) next ∙ ap (dispatch_to m n room (Some seat)) none
+
+  pub dispatch_goes : (seat tag : ℕ) (r : WholeRequest) (rs : List WholeRequest) → next_queue m ≡ Some seat → lowest_free l m ≡ Some tag → m.queue seat ≡ r ∷ rs
+      → dispatch l m n room ≡ accepted room m (record m { queue = put m.queue seat rs; flight = put m.flight tag (Some (record { issue = n; request = r })); served = seat })
+          (Issued tag n r.op (range_of r.bios))
+  dispatch_goes seat tag r rs next lowest first =
+      ap (λ q. dispatch_to m n room q (lowest_free l m)) next ∙ ap (dispatch_to m n room (Some seat)) lowest ∙ ap (sent m n room seat tag) first
+
+  module _ (seat tag : ℕ) (r : WholeRequest) (rs : List WholeRequest) (next : next_queue m ≡ Some seat) (lowest : lowest_free l m ≡ Some tag) (first : m.queue seat ≡ r ∷ rs) where
+    pub dispatch_does : room ≡ true → dispatch l m n room
+        ≡ (record m { queue = put m.queue seat rs; flight = put m.flight tag (Some (record { issue = n; request = r })); served = seat }, Accepted (Issued tag n r.op (range_of r.bios)))
+    dispatch_does e = dispatch_goes seat tag r rs next lowest first
+        ∙ ap (λ b. accepted b m (record m { queue = put m.queue seat rs; flight = put m.flight tag (Some (record { issue = n; request = r })); served = seat }) (Issued tag n r.op (range_of r.bios))) e
+
+    pub dispatch_late : room ≡ false → dispatch l m n room ≡ (m, Refused HistoryFull)
+    dispatch_late e = dispatch_goes seat tag r rs next lowest first
+        ∙ ap (λ b. accepted b m (record m { queue = put m.queue seat rs; flight = put m.flight tag (Some (record { issue = n; request = r })); served = seat }) (Issued tag n r.op (range_of r.bios))) e
+
+    pub dispatch_accepts : room ≡ true → IsAccepted (dispatch l m n room).1
+    dispatch_accepts e = let P : Plain × Answer → Type 0 = λ o. IsAccepted o.1 in subst P (sym (dispatch_does e)) tt
+
+module _ (l : Limits) (m : Plain) (room : Bool) (tag issue : ℕ) (outcome : Outcome) (within : tag < l.tags) where
+  not_past : nat_le l.tags tag ≡ false
+  not_past = not_le tag l.tags within
+
+  pub finish_free : m.flight tag ≡ None → finish l m room tag issue outcome ≡ (m, Refused NotInFlight)
+  finish_free none =
+      let e1 = not_past in
+      rw (e1, none) refl
+
+  pub finish_stale : (f : Flight) → m.flight tag ≡ Some f → f.issue ≢ issue → finish l m room tag issue outcome ≡ (m, Refused NotInFlight)
+  finish_stale f here other =
+      let e1 = not_past in
+      let e2 = other_number f.issue issue other in
+      rw (e1, here, e2) refl
+
+  pub finish_bad : (f : Flight) → m.flight tag ≡ Some f → f.issue ≡ issue → fits f.request.op (size_of f.request.bios) outcome ≡ false
+      → finish l m room tag issue outcome ≡ (m, Refused BadOutcome)
+  finish_bad f here same bad =
+      let e1 = not_past in
+      let e2 = same_number f.issue issue same in
+      rw (e1, here, e2, bad) refl
+
+  pub finish_goes : (f : Flight) → m.flight tag ≡ Some f → f.issue ≡ issue → fits f.request.op (size_of f.request.bios) outcome ≡ true
+      → finish l m room tag issue outcome ≡ finished m room tag outcome f.request
+  finish_goes f here same good =
+      let e1 = not_past in
+      let e2 = same_number f.issue issue same in
+      rw (e1, here, e2, good) refl
+
+  -- the machine after a finished request
+  after_finish : WholeRequest → Plain
+  after_finish r = record m {
+    overlay = after_outcome outcome m.overlay r.bios;
+    outbox = delivered m.seat m.outbox r.session (completed outcome m.overlay r.bios);
+    flight = put m.flight tag None
+  }
+
+  module _ (f : Flight) (here : m.flight tag ≡ Some f) (same : f.issue ≡ issue) (good : fits f.request.op (size_of f.request.bios) outcome ≡ true) where
+    pub finish_does : room ≡ true → finish l m room tag issue outcome ≡ (record m {
+        overlay = after_outcome outcome m.overlay f.request.bios;
+        outbox = delivered m.seat m.outbox f.request.session (completed outcome m.overlay f.request.bios);
+        flight = put m.flight tag None
+      }, Accepted (Finished (length f.request.bios)))
+    unfolding after_finish
+    finish_does e = finish_goes f here same good ∙ ap (λ b. accepted b m (after_finish f.request) (Finished (length f.request.bios))) e
+
+    pub finish_late : room ≡ false → finish l m room tag issue outcome ≡ (m, Refused HistoryFull)
+    unfolding after_finish
+    finish_late e = finish_goes f here same good ∙ ap (λ b. accepted b m (after_finish f.request) (Finished (length f.request.bios))) e
+
+    pub finish_accepts : room ≡ true → IsAccepted (finish l m room tag issue outcome).1
+    finish_accepts e = let P : Plain × Answer → Type 0 = λ o. IsAccepted o.1 in subst P (sym (finish_does e)) tt
+
+-- a list whose first element is known
+pub first_of_list : {A : Type 0} (xs : List A) (x : A) → slice_get xs 0 ≡ Some x → xs ≡ x ∷ drop 1 xs
+first_of_list [] x e = cc
+first_of_list (y ∷ ys) x e = cc

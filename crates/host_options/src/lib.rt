@@ -1,0 +1,24 @@
+#![tactic(auto)]
+//! The words of the command `bfqhost`, read.
+//!
+//! | call | what it answers |
+//! |---|---|
+//! | `request_of` | help, or a configuration that is still to be checked and a number of sectors |
+//! | `help_text` | what `--help` prints |
+//!
+//! A number is in decimal and below 2^64, with no sign and no leading zero. Whether it is within its limits is
+//! not asked here: `Config::check` of `sector_core` decides that.
+//!
+//! ```text
+//! bfqhost sim --scheduler none --tags 8 --sectors=64
+//! ```
+
+mod command;
+mod help;
+mod request;
+
+pub use help::help_text;
+pub use request::{Request, WordFault, request_of};
+
+#[cfg(test)]
+mod tests;

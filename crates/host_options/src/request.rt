@@ -1,0 +1,90 @@
+// What the words of the command line ask for.
+use crate::command::bfqhost;
+use clap::error::ErrorKind;
+use clap::{ArgMatches, Error};
+use script_line::number;
+use sector_core::{ConfigDraft, Scheduler};
+use std::alloc::Global;
+
+/// What the words ask for.
+#[derive(Clone, Copy, Debug, PartialEq, Eq)]
+pub enum Request {
+    /// Print the help.
+    Help,
+    /// Run a script on a device in memory.
+    Sim {
+        /// The configuration as it was given, its numbers not yet checked.
+        draft: ConfigDraft,
+        /// How many sectors the device has, not yet checked.
+        sectors: u64,
+    },
+}
+
+/// Why the words ask for nothing.
+#[derive(Clone, Copy, Debug, PartialEq, Eq)]
+pub enum WordFault {
+    /// They are not words of the command.
+    Usage,
+    /// Memory ran out while they were read.
+    OutOfMemory,
+}
+
+/// What the words ask for. The first is the name of the program.
+pub fn request_of(alloc: Global, words: &[String]) -> Result<Request, WordFault> {
+    let command = match bfqhost(alloc) {
+        Ok(command) => command,
+        Err(error) => return Err(fault(&error)),
+    };
+    let found = match command.try_get_matches_from(words) {
+        Ok(found) => found,
+        Err(error) if error.kind() == ErrorKind::DisplayHelp => return Ok(Request::Help),
+        Err(error) => return Err(fault(&error)),
+    };
+    match found.subcommand_matches("sim") {
+        // Nothing may stand after the options, so no word ends them.
+        Some(options) if words.iter().all(|word| word.as_str() != "--") => sim(options),
+        _ => Err(WordFault::Usage),
+    }
+}
+
+// Want of memory, and else words that are none of the command's.
+fn fault(error: &Error) -> WordFault {
+    if error.kind() == ErrorKind::OutOfMemory {
+        WordFault::OutOfMemory
+    } else {
+        WordFault::Usage
+    }
+}
+
+// The configuration that the options ask for.
+fn sim(options: &ArgMatches<'_>) -> Result<Request, WordFault> {
+    let usual = ConfigDraft::default();
+    let draft = ConfigDraft {
+        scheduler: scheduler(options)?,
+        nr_requests: number_or(options, "nr-requests", usual.nr_requests)?,
+        tags: number_or(options, "tags", usual.tags)?,
+        first_budget: number_or(options, "first-budget", usual.first_budget)?,
+        max_budget: number_or(options, "max-budget", usual.max_budget)?,
+        timeout: number_or(options, "timeout", usual.timeout)?,
+        history_max: number_or(options, "history", usual.history_max)?,
+        first_vtime: number_or(options, "first-vtime", usual.first_vtime)?,
+    };
+    let sectors = number_or(options, "sectors", 1024)?;
+    Ok(Request::Sim { draft, sectors })
+}
+
+// The scheduler that is named.
+fn scheduler(options: &ArgMatches<'_>) -> Result<Scheduler, WordFault> {
+    match options.get_str("scheduler") {
+        Some("none") => Ok(Scheduler::Plain),
+        _ => Err(WordFault::Usage),
+    }
+}
+
+// The number of an option, or this one where the option is not given.
+fn number_or(options: &ArgMatches<'_>, name: &str, usual: u64) -> Result<u64, WordFault> {
+    match options.get_str(name) {
+        Some(text) => number(text.as_bytes()).ok_or(WordFault::Usage),
+        None => Ok(usual),
+    }
+}

@@ -1,0 +1,32 @@
+// Bytes as two hexadecimal digits each.
+ghost use Rattle.std.specs.Prelude.{◌≡◌, ◌++◌, ◌<◌, OnOk, false, flat_map};
+ghost use Rattle.std.specs.Fmt.{digit_glyph};
+ghost use Rattle.sector_text.specs.Hex.{hex_byte};
+
+use std::alloc::AllocError;
+
+// The digit of a number below 16, in lower case.
+fn digit(n: u8) -> u8
+    requires { n < 16 }
+    ensures { result ≡ digit_glyph false n }
+{
+    if n < 10 { b'0' + n } else { b'a' + (n - 10) }
+}
+
+/// Appends the two digits of a byte.
+pub fn put_byte(out: &mut Vec<u8>, byte: u8) -> Result<(), AllocError>
+    ensures { OnOk result (out.new.items ≡ out.old.items ++ hex_byte byte) }
+{
+    let pair = [digit(byte / 16), digit(byte % 16)];
+    out.extend_from_slice(pair.as_slice())
+}
+
+/// Appends the two digits of each byte.
+pub fn put_bytes(out: &mut Vec<u8>, bytes: &[u8]) -> Result<(), AllocError>
+    ensures { OnOk result (out.new.items ≡ out.old.items ++ flat_map hex_byte bytes.now) }
+{
+    for byte in bytes {
+        put_byte(out, *byte)?;
+    }
+    Ok(())
+}
