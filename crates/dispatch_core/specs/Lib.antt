@@ -2,6 +2,7 @@ pub mod WellFormed
 pub mod Changes
 pub mod Relation
 pub mod Ranges
+pub mod Ready
 pub use Rattle.change_record.specs.Tables
 pub use Rattle.change_record.specs.Exchange
 pub use Rattle.change_record.specs.Trail

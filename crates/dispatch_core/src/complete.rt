@@ -1,7 +1,11 @@
 // What becomes of the bios of a finished request.
-ghost use Rattle.std.specs.Prelude.{◌≡◌, ◌+◌, ◌*◌, ◌≤◌, ◌<◌, ◌^◌, IfOk, OnOk, length};
+ghost use Rattle.std.specs.Prelude.{◌≡◌, ◌+◌, ◌*◌, ◌≤◌, ◌<◌, ◌^◌, IfOk, OnOk, Some, length};
 ghost use Rattle.change_record.specs.Trail.{KeepsTrail};
-ghost use Rattle.plain_machine.specs.Step.{content, with_blocks, result_of, rest_of_outcome};
+ghost use Rattle.change_record.specs.Machine.{bios_at};
+ghost use Rattle.plain_machine.specs.Step.{content, with_blocks, after_outcome, completed, result_of, rest_of_outcome};
+ghost use Rattle.dispatch_core.specs.Changes.{with_bios};
+ghost use Rattle.dispatch_core.specs.Ranges.{total_count};
+ghost use Rattle.dispatch_core.specs.Ready.{IsReady, HasBytes};
 
 use bytes::Bytes;
 use change_record::{Change, Parts, Tape};
@@ -10,7 +14,18 @@ use sector_core::{Bio, BioResult, Block, Outcome, OutOfMemory, Range, Slot};
 use std::alloc::Global;
 
 /// Gives every bio in these slots its result, and stores the blocks of a store.
-pub fn complete(alloc: Global, parts: &mut Parts, tape: &mut Tape, slots: &[Slot], outcome: &Outcome) -> Result<(), OutOfMemory> {
+pub fn complete(alloc: Global, parts: &mut Parts, tape: &mut Tape, slots: &[Slot], outcome: &Outcome) -> Result<(), OutOfMemory>
+    requires ready { IsReady parts.old.tables.bios slots.now outcome.now }
+    requires room { total_count parts.old.tables.bios slots.now + length slots.now ≤ tape.old.room }
+    ensures tables { OnOk result (parts.new.tables ≡ record parts.old.tables {
+        overlay = after_outcome outcome.now parts.old.tables.overlay (bios_at parts.old.tables.bios slots.now);
+        bios = with_bios parts.old.tables.bios slots.now (completed outcome.now parts.old.tables.overlay (bios_at parts.old.tables.bios slots.now))
+    }) }
+    ensures trail { KeepsTrail tape.old.current parts.old.tables tape.new.current parts.new.tables }
+    ensures steps { tape.new.steps ≡ tape.old.steps }
+    ensures room { tape.old.room ≤ tape.new.room + (total_count parts.old.tables.bios slots.now + length slots.now) }
+    ensures spare { tape.new.spare ≡ tape.old.spare }
+{
     let mut rest = outcome.clone()?;
     for slot in slots {
         let Some(bio) = parts.pool().bio(*slot) else {
@@ -31,6 +46,7 @@ pub fn complete(alloc: Global, parts: &mut Parts, tape: &mut Tape, slots: &[Slot
 // The bio with its result.
 fn completed_bio(alloc: Global, overlay: &Overlay, bio: &Bio, outcome: &Outcome) -> Result<Bio, OutOfMemory>
     requires { bio.now.range.start + bio.now.range.count < 2 ^ 64 }
+    ensures { IfOk result (λ done. done ≡ record bio.now { result = Some (result_of outcome.now overlay.now bio.now) }) }
 {
     let result = match outcome {
         Outcome::Fetched(bytes) => BioResult::Read(content_of(alloc, overlay, bio.range, bytes.as_slice())?),
@@ -46,8 +62,11 @@ fn completed_bio(alloc: Global, overlay: &Overlay, bio: &Bio, outcome: &Outcome)
 }
 
 // The content of some sectors: the overlay's block where it has one, else the bytes of the image.
-fn content_of(alloc: Global, overlay: &Overlay, range: Range, bytes: &[u8]) -> Result<Bytes, OutOfMemory> {
-    let mut found = Vec::with_capacity(alloc, bytes.len())?;
+fn content_of(alloc: Global, overlay: &Overlay, range: Range, bytes: &[u8]) -> Result<Bytes, OutOfMemory>
+    requires { range.start + range.count < 2 ^ 64 }
+    ensures { IfOk result (λ found. found ≡ content overlay.now range.start range.count bytes.now) }
+{
+    let mut found = Vec::with_capacity(alloc, 512 * range.count as usize)?;
     let mut rest = bytes;
     for sector in range.start..range.end() {
         let (first, others) = rest.split_at(rest.len().min(512));
@@ -61,7 +80,16 @@ fn content_of(alloc: Global, overlay: &Overlay, range: Range, bytes: &[u8]) -> R
 }
 
 // Puts the blocks of a store into the overlay.
-fn store(parts: &mut Parts, tape: &mut Tape, range: Range, payload: Bytes) -> Result<(), OutOfMemory> {
+fn store(parts: &mut Parts, tape: &mut Tape, range: Range, payload: Bytes) -> Result<(), OutOfMemory>
+    requires ends { range.start + range.count < 2 ^ 64 }
+    requires long { 512 * range.count ≤ length payload }
+    requires room { range.count ≤ tape.old.room }
+    ensures tables { OnOk result (parts.new.tables ≡ record parts.old.tables { overlay = with_blocks parts.old.tables.overlay range.start range.count payload }) }
+    ensures trail { KeepsTrail tape.old.current parts.old.tables tape.new.current parts.new.tables }
+    ensures steps { tape.new.steps ≡ tape.old.steps }
+    ensures room { tape.old.room ≤ tape.new.room + range.count }
+    ensures spare { tape.new.spare ≡ tape.old.spare }
+{
     let mut rest = payload;
     for sector in range.start..range.end() {
         let block = Block::new(rest.split_to(512)?);
@@ -71,13 +99,17 @@ fn store(parts: &mut Parts, tape: &mut Tape, range: Range, payload: Bytes) -> Re
 }
 
 // The outcome without the bytes of its first sectors.
-fn without_first(outcome: Outcome, count: u32) -> Outcome {
+fn without_first(outcome: Outcome, count: u32) -> Outcome
+    requires { HasBytes count outcome }
+    ensures { result ≡ rest_of_outcome count outcome }
+{
     match outcome {
         Outcome::Fetched(bytes) => {
             let mut bytes = bytes;
             bytes.advance(512 * count as usize);
-            Outcome::Fetched(bytes)
+            return Outcome::Fetched(bytes);
         }
-        other => other,
+        Outcome::Stored => return Outcome::Stored,
+        Outcome::Failed(kind) => return Outcome::Failed(kind),
     }
 }
