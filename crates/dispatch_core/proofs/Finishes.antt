@@ -63,7 +63,7 @@ module _ (l : Limits) (n : ℕ) (t : Tables) (tag issue slot seat : ℕ) (entry 
       omega (arith, once, few, first, second, both)
 
   -- the request's slots are all different
-  distinct : Distinct slots
+  pub distinct : Distinct slots
   distinct q = omega (arith, both_distinct q, times-append q box slots)
 
   -- all of them are slots of the seat

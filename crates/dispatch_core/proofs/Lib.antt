@@ -15,3 +15,6 @@ pub mod Queues
 pub mod Laws
 pub mod Decided
 pub mod Sectors
+pub mod Finishing
+pub mod Opening
+pub mod Looks

@@ -3,6 +3,8 @@ pub mod Changes
 pub mod Relation
 pub mod Ranges
 pub mod Ready
+pub mod Running
+pub mod Shown
 pub use Rattle.change_record.specs.Tables
 pub use Rattle.change_record.specs.Exchange
 pub use Rattle.change_record.specs.Trail

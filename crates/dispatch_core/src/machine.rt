@@ -1,14 +1,18 @@
 // The machine, and its view.
-ghost use Rattle.std.specs.Prelude.{◌≡◌, ◌+◌, ◌<◌, ◌^◌, ◌%◌, [], IfOk, OnOk, OnErr, length};
-ghost use Rattle.change_record.specs.Exchange.{FitBack, ArePuts, back_tables, forth_tables};
+ghost use Rattle.std.specs.Prelude.{◌≡◌, ◌+◌, ◌<◌, ◌≤◌, ◌^◌, ◌%◌, ℕ, [], IfOk, OnOk, OnErr, length, slice_set};
+ghost use Rattle.std.specs.Option.{option_map};
+ghost use Rattle.change_record.specs.Exchange.{FitBack, ArePuts, back_tables, back_left, forth_tables, forth_left};
+ghost use Rattle.change_record.specs.Trail.{KeepsTrail};
 ghost use Rattle.change_record.specs.Machine.{meaning, opening};
 ghost use Rattle.change_record.specs.Tape.{step_at};
-ghost use Rattle.plain_machine.specs.Step.{Applies, of_sizes};
+ghost use Rattle.plain_machine.specs.Step.{step as plain_step, Applies, of_sizes};
 ghost use Rattle.dispatch_core.specs.WellFormed.{WellFormed};
-
+ghost use Rattle.dispatch_core.specs.Relation.{Answers, Leaves};
+ghost use Rattle.dispatch_core.specs.Running.{plain_of, IsFor, Records, work_of};
 
 use crate::attach::run_attach;
 use crate::finish::run_finish;
+use crate::outbox::outbox_slots;
 use crate::reap::run_reap;
 use crate::send::{range_of_request, run_dispatch};
 use crate::submit::run_submit;
@@ -16,6 +20,7 @@ use crate::{Answer, Code, Sizes, Step, Work};
 use change_record::{Parts, Tape};
 use sector_core::{Block, Config, OutOfMemory};
 use std::alloc::Global;
+use std::marker::Model;
 
 /// The tables of a host, and what they were made for.
 #[derive(Drop)]
@@ -24,9 +29,26 @@ pub struct Machine {
     parts: Parts,
 }
 
+impl Model for Machine {
+    ghost use Rattle.std.specs.Coded.{codes};
+    ghost use Rattle.overlay.specs.Blocks.{blocks_code};
+    ghost use Rattle.dispatch_core.specs.Running.{Running};
+
+    ghost Value = { Running };
+
+    ghost coded = { Prim.hlevel (codes, blocks_code) };
+
+    ghost view = { λ m. record { sizes = m.sizes; tables = m.parts.tables; turns = m.parts.turns } };
+}
+
 impl Machine {
     /// A machine before its first step, over an image of `sectors` sectors.
-    pub fn new(alloc: Global, config: Config, sectors: u64) -> Result<Machine, OutOfMemory> {
+    pub fn new(alloc: Global, config: Config, sectors: u64) -> Result<Machine, OutOfMemory>
+        requires { sectors < 2 ^ 55 }
+        ensures sizes { IfOk result (λ m. m.sizes ≡ record { sectors = sectors; requests = config.nr_requests; tags = config.tags }) }
+        ensures opening { IfOk result (λ m. plain_of m ≡ opening) }
+        ensures well { IfOk result (λ m. IsFor 1 m) }
+    {
         Ok(Machine {
             sizes: Sizes {
                 sectors,
@@ -38,58 +60,112 @@ impl Machine {
     }
 
     /// Applies a step under its serial, with or without room in the history.
-    pub fn apply(&mut self, alloc: Global, serial: u64, room: bool, step: &Step, tape: &mut Tape) -> Answer {
-        match self.perform(alloc, serial, room, step, tape) {
-            Ok(answer) => {
-                if matches!(answer, Answer::Accepted(_)) {
-                    tape.close();
-                }
-                answer
+    pub fn apply(&mut self, alloc: Global, serial: u64, room: bool, step: &Step, tape: &mut Tape) -> Answer
+        requires well { IsFor serial self.old }
+        requires idle { tape.old.current ≡ [] }
+        ensures applies { Applies (of_sizes self.old.sizes) (plain_of self.old) serial room step.now (plain_of self.new) result }
+        ensures records { Records result tape.old.steps self.old.tables tape.new.steps self.new.tables }
+        ensures well { IsFor (serial + 1) self.new }
+        ensures idle { tape.new.current ≡ [] }
+        ensures sizes { self.new.sizes ≡ self.old.sizes }
+    {
+        match perform(alloc, self.sizes, &mut self.parts, tape, serial, room, step) {
+            Ok(Answer::Accepted(reply)) => {
+                tape.close();
+                return Answer::Accepted(reply);
             }
+            Ok(Answer::Refused(code)) => return Answer::Refused(code),
+            Ok(Answer::NotYet(cause)) => return Answer::NotYet(cause),
             Err(_) => {
                 tape.abandon(&mut self.parts);
-                Answer::Refused(Code::OutOfMemory)
+                return Answer::Refused(Code::OutOfMemory);
             }
-        }
-    }
-
-    // The step's own list of refusals, its exchanges and its reply.
-    fn perform(&mut self, alloc: Global, serial: u64, room: bool, step: &Step, tape: &mut Tape) -> Result<Answer, OutOfMemory> {
-        let sizes = self.sizes;
-        match step {
-            Step::Attach { seat, group, prio } => run_attach(sizes, &mut self.parts, tape, serial, room, *seat, *group, *prio),
-            Step::Submit { seat, session, op, range, payload } => run_submit(sizes, &mut self.parts, tape, serial, room, *seat, *session, *op, *range, payload),
-            Step::Reap { seat, session } => run_reap(sizes, &mut self.parts, tape, serial, room, *seat, *session),
-            Step::Dispatch => run_dispatch(sizes, &mut self.parts, tape, serial, room),
-            Step::Finish { tag, issue, outcome } => run_finish(alloc, sizes, &mut self.parts, tape, serial, room, *tag, *issue, outcome),
         }
     }
 
     /// Turns a step of the tape back. It takes no memory.
-    pub fn back(&mut self, tape: &mut Tape, at: usize) {
+    pub fn back(&mut self, tape: &mut Tape, at: usize)
+        requires there { at < length tape.old.steps }
+        requires fits { FitBack (step_at tape.old.steps at) self.old.tables }
+        ensures tables { self.new.tables ≡ back_tables (step_at tape.old.steps at) self.old.tables }
+        ensures turns { self.new.turns % 2 ^ 64 ≡ (self.old.turns + length (step_at tape.old.steps at)) % 2 ^ 64 }
+        ensures steps { tape.new.steps ≡ slice_set tape.old.steps at (back_left (step_at tape.old.steps at) self.old.tables) }
+        ensures current { tape.new.current ≡ tape.old.current }
+        ensures sizes { self.new.sizes ≡ self.old.sizes }
+    {
         tape.back(&mut self.parts, at);
     }
 
     /// Turns a step of the tape forth again.
-    pub fn forth(&mut self, tape: &mut Tape, at: usize) -> Result<(), OutOfMemory> {
-        tape.forth(&mut self.parts, at)
+    ///
+    /// # Errors
+    ///
+    /// Where there is no memory for a block nothing has changed.
+    pub fn forth(&mut self, tape: &mut Tape, at: usize) -> Result<(), OutOfMemory>
+        requires there { at < length tape.old.steps }
+        requires puts { ArePuts (step_at tape.old.steps at) }
+        ensures tables { OnOk result (self.new.tables ≡ forth_tables (step_at tape.old.steps at) self.old.tables) }
+        ensures turns { OnOk result (self.new.turns % 2 ^ 64 ≡ (self.old.turns + length (step_at tape.old.steps at)) % 2 ^ 64) }
+        ensures steps { OnOk result (tape.new.steps ≡ slice_set tape.old.steps at (forth_left (step_at tape.old.steps at) self.old.tables)) }
+        ensures current { tape.new.current ≡ tape.old.current }
+        ensures err { OnErr result (self.new.tables ≡ self.old.tables) }
+        ensures kept { OnErr result (tape.new.steps ≡ tape.old.steps) }
+        ensures sizes { self.new.sizes ≡ self.old.sizes }
+    {
+        match tape.forth(&mut self.parts, at) {
+            Ok(()) => return Ok(()),
+            Err(refused) => return Err(refused),
+        }
     }
 
     /// How many exchanges were made, modulo 2^64.
-    pub fn turns(&self) -> u64 {
+    pub fn turns(&self) -> u64
+        ensures { result ≡ self.now.turns }
+    {
         self.parts.turns()
     }
 
     /// What can be seen of it.
-    pub fn view(&self) -> View<'_> {
+    pub fn view(&self) -> View<'_>
+        ensures { result ≡ self.now }
+    {
         View { machine: self }
     }
 }
 
+// The step's own list of refusals, its exchanges and its reply.
+fn perform(alloc: Global, sizes: Sizes, parts: &mut Parts, tape: &mut Tape, serial: u64, room: bool, step: &Step) -> Result<Answer, OutOfMemory>
+    requires { WellFormed (of_sizes sizes) serial parts.old.tables }
+    ensures answers { Answers (λ m. plain_step (of_sizes sizes) m serial room step.now) parts.old.tables result parts.new.tables }
+    ensures leaves { IfOk result (λ answer. Leaves (of_sizes sizes) serial answer parts.old.tables tape.old.current parts.new.tables tape.new.current tape.new.spare) }
+    ensures trail { KeepsTrail tape.old.current parts.old.tables tape.new.current parts.new.tables }
+    ensures steps { tape.new.steps ≡ tape.old.steps }
+{
+    match step {
+        Step::Attach { seat, group, prio } => return run_attach(sizes, parts, tape, serial, room, *seat, *group, *prio),
+        Step::Submit { seat, session, op, range, payload } => return run_submit(sizes, parts, tape, serial, room, *seat, *session, *op, *range, payload),
+        Step::Reap { seat, session } => return run_reap(sizes, parts, tape, serial, room, *seat, *session),
+        Step::Dispatch => return run_dispatch(sizes, parts, tape, serial, room),
+        Step::Finish { tag, issue, outcome } => return run_finish(alloc, sizes, parts, tape, serial, room, *tag, *issue, outcome),
+    }
+}
+
 /// A look at a machine.
-#[derive(Clone, Copy)]
+#[derive(Drop)]
 pub struct View<'a> {
     machine: &'a Machine,
+}
+
+impl<'a> Model for View<'a> {
+    ghost use Rattle.std.specs.Coded.{codes};
+    ghost use Rattle.overlay.specs.Blocks.{blocks_code};
+    ghost use Rattle.dispatch_core.specs.Running.{Running};
+
+    ghost Value = { Running };
+
+    ghost coded = { Prim.hlevel (codes, blocks_code) };
+
+    ghost view = { λ v. v.machine.now };
 }
 
 /// The content of a sector.
@@ -103,8 +179,12 @@ pub enum SectorView<'a> {
 }
 
 impl<'a> View<'a> {
+    ghost use Rattle.dispatch_core.specs.Shown.{ShowsSector};
+
     /// The content of a sector.
-    pub fn sector(&self, number: u64) -> SectorView<'a> {
+    pub fn sector(&self, number: u64) -> SectorView<'a>
+        ensures { ShowsSector result self.now number }
+    {
         let machine = self.machine;
         if number >= machine.sizes.sectors {
             return SectorView::Outside;
@@ -116,10 +196,16 @@ impl<'a> View<'a> {
     }
 
     /// The request in flight under a tag.
-    pub fn in_flight(&self, tag: u8) -> Option<Work> {
+    pub fn in_flight(&self, tag: u8) -> Option<Work>
+        ensures { (n : ℕ) → IsFor n self.now → result ≡ option_map (work_of tag) ((plain_of self.now).flight tag) }
+    {
         let machine = self.machine;
-        let issue = machine.parts.tags().get(tag)?;
-        let request = machine.parts.pool().request(issue.slot)?;
+        let Some(issue) = machine.parts.tags().get(tag) else {
+            return None;
+        };
+        let Some(request) = machine.parts.pool().request(issue.slot) else {
+            return None;
+        };
         Some(Work {
             tag,
             issue: issue.issue,
@@ -129,11 +215,10 @@ impl<'a> View<'a> {
     }
 
     /// How many completed bios of a seat are not yet reaped.
-    pub fn outbox_len(&self, seat: u8) -> usize {
+    pub fn outbox_len(&self, seat: u8) -> usize
+        ensures { (n : ℕ) → IsFor n self.now → result ≡ length ((plain_of self.now).outbox seat) }
+    {
         let machine = self.machine;
-        match machine.parts.outbox(seat) {
-            Some(outbox) => outbox.len(),
-            None => 0,
-        }
+        outbox_slots(&machine.parts, seat).len()
     }
 }

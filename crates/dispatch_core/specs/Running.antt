@@ -1,0 +1,36 @@
+-- A machine as its callers see it: its sizes, its tables, and how many exchanges were made.
+use Rattle.std.specs.Prelude.{◌≡◌, ℕ, ◌+◌, List, [], ◌∷◌, ◌++◌, Option, Some, None}
+use Rattle.std.specs.Option.{option_map}
+use Rattle.change_record.specs.declared.change.Change.{Change}
+use Rattle.change_record.specs.Tables.{Tables}
+use Rattle.change_record.specs.Trail.{IsTrail}
+use Rattle.change_record.specs.Machine.{Plain, Flight, meaning}
+use Rattle.plain_machine.specs.declared.sizes.Sizes.{Sizes}
+use Rattle.plain_machine.specs.declared.answer.Answer.{Answer}
+use Rattle.plain_machine.specs.declared.answer.Answer.TheVariants.{Accepted, Refused, NotYet}
+use Rattle.plain_machine.specs.declared.answer.Work.{Work}
+use Rattle.plain_machine.specs.Step.{Limits, of_sizes, range_of}
+use Rattle.dispatch_core.specs.WellFormed.{WellFormed}
+
+pub record Running : Type 0 where
+  pub sizes : Sizes
+  pub tables : Tables
+  pub turns : ℕ
+
+-- what the machine is
+abbrev pub plain_of : Running → Plain
+plain_of m = meaning m.tables
+
+-- steps up to this serial may have made it
+abbrev pub IsFor : ℕ → Running → Type 0
+IsFor n m = WellFormed (of_sizes m.sizes) n m.tables
+
+-- an accepted step adds its changes to the tape, which lead back to the tables from before; a refused one adds none and changes nothing
+abbrev pub Records : Answer → List (List Change) → Tables → List (List Change) → Tables → Type 0
+Records (Accepted reply) steps before now_steps now = (changes : List Change) × (now_steps ≡ steps ++ changes ∷ []) × IsTrail changes now before
+Records (Refused code) steps before now_steps now = (now_steps ≡ steps) × (now ≡ before)
+Records (NotYet cause) steps before now_steps now = (now_steps ≡ steps) × (now ≡ before)
+
+-- a request in flight, as a device takes it
+abbrev pub work_of : ℕ → Flight → Work
+work_of tag flight = record { tag = tag; issue = flight.issue; op = flight.request.op; range = range_of flight.request.bios }
