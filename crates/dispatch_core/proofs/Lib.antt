@@ -18,3 +18,5 @@ pub mod Sectors
 pub mod Finishing
 pub mod Opening
 pub mod Looks
+pub mod Contents
+pub mod Completing

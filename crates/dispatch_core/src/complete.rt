@@ -1,11 +1,12 @@
 // What becomes of the bios of a finished request.
-ghost use Rattle.std.specs.Prelude.{◌≡◌, ◌+◌, ◌*◌, ◌≤◌, ◌<◌, ◌^◌, IfOk, OnOk, Some, length};
+ghost use Rattle.std.specs.Prelude.{◌≡◌, ◌+◌, ◌*◌, ◌≤◌, ◌<◌, ◌^◌, [], ◌∷◌, IfOk, OnOk, IfSome, IsSome, Some, length};
 ghost use Rattle.change_record.specs.Trail.{KeepsTrail};
 ghost use Rattle.change_record.specs.Machine.{bios_at};
 ghost use Rattle.plain_machine.specs.Step.{content, with_blocks, after_outcome, completed, result_of, rest_of_outcome};
 ghost use Rattle.dispatch_core.specs.Changes.{with_bios};
 ghost use Rattle.dispatch_core.specs.Ranges.{total_count};
-ghost use Rattle.dispatch_core.specs.Ready.{IsReady, HasBytes};
+ghost use Rattle.dispatch_core.specs.Ready.{IsReady, HasBytes, HasPayload};
+ghost use Rattle.dispatch_core.specs.WellFormed.{at};
 
 use bytes::Bytes;
 use change_record::{Change, Parts, Tape};
@@ -28,19 +29,47 @@ pub fn complete(alloc: Global, parts: &mut Parts, tape: &mut Tape, slots: &[Slot
 {
     let mut rest = outcome.clone()?;
     for slot in slots {
-        let Some(bio) = parts.pool().bio(*slot) else {
-            unreachable!()
-        };
-        let range = bio.range;
-        let payload = bio.payload.clone()?;
-        let done = completed_bio(alloc, parts.overlay(), bio, &rest)?;
-        if matches!(rest, Outcome::Stored) {
-            store(parts, tape, range, payload)?;
-        }
+        let done = done_bio(alloc, parts, *slot, &rest)?;
+        let count = done.range.count;
+        put_blocks(parts, tape, &done, &rest)?;
         tape.exchange(parts, Change::BioSlot { slot: *slot, bio: Some(done) });
-        rest = without_first(rest, range.count);
+        rest = without_first(rest, count);
     }
     Ok(())
+}
+
+// The bio in a slot, with its result.
+fn done_bio(alloc: Global, parts: &Parts, slot: Slot, outcome: &Outcome) -> Result<Bio, OutOfMemory>
+    requires taken { IsSome (at parts.now.tables.bios slot) }
+    requires ends { IfSome (at parts.now.tables.bios slot) (λ bio. bio.range.start + bio.range.count < 2 ^ 64) }
+    ensures { IfOk result (λ done. IfSome (at parts.now.tables.bios slot) (λ bio. done ≡ record bio { result = Some (result_of outcome.now parts.now.tables.overlay bio) })) }
+{
+    let Some(bio) = parts.pool().bio(slot) else {
+        unreachable!()
+    };
+    let done = completed_bio(alloc, parts.overlay(), bio, outcome)?;
+    Ok(done)
+}
+
+// Puts the bio's blocks into the overlay, where the outcome is that of a store.
+fn put_blocks(parts: &mut Parts, tape: &mut Tape, bio: &Bio, outcome: &Outcome) -> Result<(), OutOfMemory>
+    requires ends { bio.now.range.start + bio.now.range.count < 2 ^ 64 }
+    requires long { HasPayload outcome.now bio.now }
+    requires room { bio.now.range.count ≤ tape.old.room }
+    ensures tables { OnOk result (parts.new.tables ≡ record parts.old.tables { overlay = after_outcome outcome.now parts.old.tables.overlay (bio.now ∷ []) }) }
+    ensures trail { KeepsTrail tape.old.current parts.old.tables tape.new.current parts.new.tables }
+    ensures steps { tape.new.steps ≡ tape.old.steps }
+    ensures room { tape.old.room ≤ tape.new.room + bio.now.range.count }
+    ensures spare { tape.new.spare ≡ tape.old.spare }
+{
+    match outcome {
+        Outcome::Fetched(_) => return Ok(()),
+        Outcome::Stored => {
+            store(parts, tape, bio.range, bio.payload.clone()?)?;
+            return Ok(());
+        }
+        Outcome::Failed(_) => return Ok(()),
+    }
 }
 
 // The bio with its result.

@@ -1,0 +1,232 @@
+-- The bios of a finished request get their results one by one.
+use Rattle.std.proofs.Common.{◌≡◌, inl, inr, ℕ, ◌+◌, ◌*◌, ◌<◌, ◌≤◌, ◌^◌, List, [], ◌∷◌, Option, Some, None, length, get_or, set, drop, refl, sym, ap, ◌∙◌, subst, arith, length-drop}
+use Rattle.std.specs.Prelude.{IsSome, IfSome}
+use Rattle.std.specs.List.{cons_option}
+use Rattle.std.proofs.lemmas.List.{get_or-set_other, drop_more}
+use Rattle.std.proofs.lemmas.List.Sums.{sum_by-cons}
+use Rattle.std.proofs.lemmas.List.Elements.{All-head, All-tail}
+use Rattle.sector_core.specs.declared.range.Range.{Range}
+use Rattle.sector_core.specs.declared.bio.Bio.{Bio}
+use Rattle.sector_core.specs.declared.bio.Outcome.{Outcome}
+use Rattle.sector_core.specs.declared.bio.Outcome.TheVariants.{Fetched, Stored, Failed}
+use Rattle.overlay.specs.Blocks.{Blocks}
+use Rattle.change_record.specs.Tables.{Tables}
+use Rattle.change_record.specs.Machine.{bios_at}
+use Rattle.plain_machine.specs.Step.{after_outcome, completed, result_of, rest_of_outcome}
+use Rattle.dispatch_core.specs.WellFormed.{at, one}
+use Rattle.dispatch_core.specs.Changes.{with_bios}
+use Rattle.dispatch_core.specs.Ranges.{count_of_bio, count_at, total_count}
+use Rattle.dispatch_core.specs.Ready.{IsReady, HasBytes, HasPayload}
+use Rattle.dispatch_core.proofs.Times.{Apart, set_cases, at_within, bios_at-set}
+use Rattle.dispatch_core.proofs.Room.{Distinct-head, Distinct-tail}
+use Rattle.dispatch_core.proofs.Written.{some_of}
+
+-- the tables with the results of these bios in these slots
+abbrev with_results : Outcome → Tables → List ℕ → List Bio → Tables
+with_results outcome t slots bios = record t {
+  overlay = after_outcome outcome t.overlay bios;
+  bios = with_bios t.bios slots (completed outcome t.overlay bios);
+}
+
+-- the tables when every bio in these slots has its result
+abbrev pub completed_tables : Outcome → Tables → List ℕ → Tables
+completed_tables outcome t slots = with_results outcome t slots (bios_at t.bios slots)
+
+-- a bio with its result
+abbrev pub done_of : Outcome → Tables → Bio → Bio
+done_of outcome t bio = record bio { result = Some (result_of outcome t.overlay bio) }
+
+-- the tables when one bio has its result
+abbrev pub one_completed : Outcome → Tables → ℕ → Bio → Tables
+one_completed outcome t slot bio = record t {
+  overlay = after_outcome outcome t.overlay (bio ∷ []);
+  bios = set t.bios slot (Some (done_of outcome t bio));
+}
+
+-- with no slot nothing changes
+pub completed_none : (outcome : Outcome) (t : Tables) → completed_tables outcome t [] ≡ t
+completed_none (Fetched bytes) t = refl
+completed_none Stored t = refl
+completed_none (Failed kind) t = refl
+
+-- the results of a store do not depend on the overlay
+stored_alike : (a b : Blocks) (bios : List Bio) → completed Stored a bios ≡ completed Stored b bios
+stored_alike a b [] = refl
+stored_alike a b (bio ∷ bios) = ap (λ l. done_of Stored (record { overlay = a; requests = []; bios = []; tags = []; links = []; outboxes = []; seats = []; served = 0 }) bio ∷ l) (stored_alike a b bios)
+
+-- the first bio and then the others
+results_more : (outcome : Outcome) (t : Tables) (slot : ℕ) (slots : List ℕ) (bio : Bio) (bios : List Bio)
+    → with_results (rest_of_outcome bio.range.count outcome) (one_completed outcome t slot bio) slots bios ≡ with_results outcome t (slot ∷ slots) (bio ∷ bios)
+results_more (Fetched bytes) t slot slots bio bios = refl
+results_more Stored t slot slots bio bios =
+    ap (λ l. record t { overlay = after_outcome Stored t.overlay (bio ∷ bios); bios = with_bios (set t.bios slot (Some (done_of Stored t bio))) slots l })
+    (stored_alike (after_outcome Stored t.overlay (bio ∷ [])) t.overlay bios)
+results_more (Failed kind) t slot slots bio bios = refl
+
+-- the bio in the first slot is the first of the bios
+bios_at-cons : (bios : List (Option Bio)) (slot : ℕ) (slots : List ℕ) (bio : Bio) → at bios slot ≡ Some bio → bios_at bios (slot ∷ slots) ≡ bio ∷ bios_at bios slots
+bios_at-cons bios slot slots bio here = ap (λ o. cons_option o (bios_at bios slots)) here
+
+-- so one bio and then the others is all of them
+pub completed_more : (outcome : Outcome) (t u : Tables) (slot : ℕ) (slots : List ℕ) (bio : Bio) → IsReady t.bios (slot ∷ slots) outcome → at t.bios slot ≡ Some bio → u ≡ one_completed outcome t slot bio
+    → completed_tables (rest_of_outcome bio.range.count outcome) u slots ≡ completed_tables outcome t (slot ∷ slots)
+completed_more outcome t u slot slots bio ready here now =
+    ap (λ v. completed_tables (rest_of_outcome bio.range.count outcome) v slots) now
+    ∙ ap (with_results (rest_of_outcome bio.range.count outcome) (one_completed outcome t slot bio) slots)
+    (bios_at-set t.bios slot (Some (done_of outcome t bio)) slots (Distinct-head slot slots ready.distinct))
+    ∙ results_more outcome t slot slots bio (bios_at t.bios slots)
+    ∙ ap (with_results outcome t (slot ∷ slots)) (sym (bios_at-cons t.bios slot slots bio here))
+
+-- the sectors of the first slot and of the others
+total_cons : (bios : List (Option Bio)) (slot : ℕ) (slots : List ℕ) (bio : Bio) → at bios slot ≡ Some bio → total_count bios (slot ∷ slots) ≡ bio.range.count + total_count bios slots
+total_cons bios slot slots bio here = sum_by-cons (count_at bios) slot slots ∙ ap (λ o. count_of_bio o + total_count bios slots) here
+
+-- a bio of the same range in its place
+count_set : (bios : List (Option Bio)) (slot : ℕ) (bio done : Bio) (q : ℕ) → at bios slot ≡ Some bio → done.range ≡ bio.range → count_at (set bios slot (Some done)) q ≡ count_at bios q
+count_set bios slot bio done q here same = elim (set_cases bios slot q (Some done) (at_within bios slot bio here)) [
+  | inl it ↦ ap count_of_bio it.1 ∙ ap (λ (r : Range). r.count) same ∙ sym (ap (count_at bios) it.0 ∙ ap count_of_bio here)
+  | inr other ↦ ap count_of_bio other.1
+]
+
+-- changes no count of sectors
+total_set : (bios : List (Option Bio)) (slot : ℕ) (slots : List ℕ) (bio done : Bio) → at bios slot ≡ Some bio → done.range ≡ bio.range → total_count (set bios slot (Some done)) slots ≡ total_count bios slots
+total_set bios slot [] bio done here same = refl
+total_set bios slot (s ∷ slots) bio done here same =
+    let first = count_set bios slot bio done s here same in
+    let rest = total_set bios slot slots bio done here same in
+    omega (arith, first, rest, sum_by-cons (count_at bios) s slots, sum_by-cons (count_at (set bios slot (Some done))) s slots)
+
+-- the bytes that are left are enough for the others
+bytes_rest : (outcome : Outcome) (count more : ℕ) → HasBytes (count + more) outcome → HasBytes more (rest_of_outcome count outcome)
+bytes_rest (Fetched bytes) count more h = omega (arith, h, length-drop (512 * count) bytes)
+bytes_rest Stored count more h = tt
+bytes_rest (Failed kind) count more h = tt
+
+-- and those of the first are there
+bytes_first : (outcome : Outcome) (count more : ℕ) → HasBytes (count + more) outcome → HasBytes count outcome
+bytes_first (Fetched bytes) count more h = omega (arith, h)
+bytes_first Stored count more h = tt
+bytes_first (Failed kind) count more h = tt
+
+-- what is to be stored has its bytes still
+payload_rest : (outcome : Outcome) (count : ℕ) (bio : Bio) → HasPayload outcome bio → HasPayload (rest_of_outcome count outcome) bio
+payload_rest (Fetched bytes) count bio h = tt
+payload_rest Stored count bio h = h
+payload_rest (Failed kind) count bio h = tt
+
+-- a bio with its result is stored as it was without
+done_stored : (outcome : Outcome) (t : Tables) (bio : Bio) → after_outcome outcome t.overlay (done_of outcome t bio ∷ []) ≡ after_outcome outcome t.overlay (bio ∷ [])
+done_stored (Fetched bytes) t bio = refl
+done_stored Stored t bio = refl
+done_stored (Failed kind) t bio = refl
+
+-- and has its bytes
+done_payload : (outcome : Outcome) (t : Tables) (bio : Bio) → HasPayload outcome bio → HasPayload outcome (done_of outcome t bio)
+done_payload (Fetched bytes) t bio h = tt
+done_payload Stored t bio h = h
+done_payload (Failed kind) t bio h = tt
+
+-- its blocks put, and then the bio with its result
+pub one_now : (outcome : Outcome) (t u v : Tables) (slot : ℕ) (bio done : Bio) → done ≡ done_of outcome t bio → u ≡ record t { overlay = after_outcome outcome t.overlay (done ∷ []) }
+    → v ≡ record u { bios = set u.bios slot (Some done) } → v ≡ one_completed outcome t slot bio
+one_now outcome t u v slot bio done e f g =
+    g ∙ ap (λ (w : Tables). record w { bios = set w.bios slot (Some done) }) f
+    ∙ ap (λ d. record t { overlay = after_outcome outcome t.overlay (d ∷ []); bios = set t.bios slot (Some d) }) e
+    ∙ ap (λ o. record t { overlay = o; bios = set t.bios slot (Some (done_of outcome t bio)) }) (done_stored outcome t bio)
+
+module _ (outcome : Outcome) (t : Tables) (slot : ℕ) (slots : List ℕ) (ready : IsReady t.bios (slot ∷ slots) outcome) where
+  -- there is a bio in the first slot
+  pub first_bio : (b : Bio) × (at t.bios slot ≡ Some b)
+  first_bio = some_of (at t.bios slot) (All-head (λ q. one (at t.bios q) ≡ 1) slot slots ready.taken)
+
+  -- so the slot is taken
+  pub first_taken : IsSome (at t.bios slot)
+  first_taken = subst (λ o. IsSome o) (sym first_bio.1) refl
+
+  -- and its range ends somewhere
+  pub first_ends : IfSome (at t.bios slot) (λ bio. bio.range.start + bio.range.count < 2 ^ 64)
+  first_ends = subst (λ o. IfSome o (λ bio. bio.range.start + bio.range.count < 2 ^ 64)) (sym first_bio.1) (ready.ranges slot first_bio.0 first_bio.1)
+
+  -- what is said of the bio in the first slot is said of this one
+  pub first_done : (done : Bio) → IfSome (at t.bios slot) (λ bio. done ≡ record bio { result = Some (result_of outcome t.overlay bio) }) → done ≡ done_of outcome t first_bio.0
+  first_done done h = subst (λ o. IfSome o (λ bio. done ≡ record bio { result = Some (result_of outcome t.overlay bio) })) first_bio.1 h
+
+  -- its range, its bytes and its sectors are those of the bio with its result
+  pub first_ends_done : (done : Bio) → done ≡ done_of outcome t first_bio.0 → done.range.start + done.range.count < 2 ^ 64
+  first_ends_done done e = subst (λ (d : Bio). d.range.start + d.range.count < 2 ^ 64) (sym e) (ready.ranges slot first_bio.0 first_bio.1)
+
+  pub first_payload : (done : Bio) → done ≡ done_of outcome t first_bio.0 → HasPayload outcome done
+  first_payload done e =
+      let P : Bio → Type 0 = λ d. HasPayload outcome d in
+      subst P (sym e) (done_payload outcome t first_bio.0 (All-head (λ q. (b : Bio) → at t.bios q ≡ Some b → HasPayload outcome b) slot slots ready.payloads first_bio.0 first_bio.1))
+
+  pub first_total : (done : Bio) → done ≡ done_of outcome t first_bio.0 → total_count t.bios (slot ∷ slots) ≡ done.range.count + total_count t.bios slots
+  first_total done e = total_cons t.bios slot slots first_bio.0 first_bio.1 ∙ sym (ap (λ (d : Bio). d.range.count + total_count t.bios slots) e)
+
+  pub first_bytes : (done : Bio) → done ≡ done_of outcome t first_bio.0 → HasBytes done.range.count outcome
+  first_bytes done e =
+      let P : ℕ → Type 0 = λ n. HasBytes n outcome in
+      bytes_first outcome done.range.count (total_count t.bios slots) (subst P (first_total done e) ready.bytes)
+
+  -- and when it has its result
+  module _ (u v : Tables) (done : Bio) (is : done ≡ done_of outcome t first_bio.0) (put : u ≡ record t { overlay = after_outcome outcome t.overlay (done ∷ []) })
+      (set_it : v ≡ record u { bios = set u.bios slot (Some done) }) where
+    -- the tables are those with its result
+    now : v ≡ one_completed outcome t slot first_bio.0
+    now = one_now outcome t u v slot first_bio.0 done is put set_it
+
+    -- it has as many sectors as before
+    count_is : done.range.count ≡ first_bio.0.range.count
+    count_is = ap (λ (d : Bio). d.range.count) is
+
+    -- the others are to come
+    pub tables_more : completed_tables (rest_of_outcome done.range.count outcome) v slots ≡ completed_tables outcome t (slot ∷ slots)
+    tables_more = ap (λ n. completed_tables (rest_of_outcome n outcome) v slots) count_is ∙ completed_more outcome t v slot slots first_bio.0 ready first_bio.1 now
+
+    -- with as many sectors as before
+    pub total_more : total_count v.bios slots ≡ total_count t.bios slots
+    total_more = ap (λ (w : Tables). total_count w.bios slots) now ∙ total_set t.bios slot slots first_bio.0 (done_of outcome t first_bio.0) first_bio.1 refl
+
+    -- and are ready
+    pub ready_more : IsReady v.bios slots (rest_of_outcome done.range.count outcome)
+    ready_more =
+        let written = set t.bios slot (Some (done_of outcome t first_bio.0)) in
+        let within : slot < length t.bios = at_within t.bios slot first_bio.0 first_bio.1 in
+        let apart : Apart slot slots = Distinct-head slot slots ready.distinct in
+        let P : Tables → Type 0 = λ w. IsReady w.bios slots (rest_of_outcome first_bio.0.range.count outcome) in
+        let Q : ℕ → Type 0 = λ n. IsReady v.bios slots (rest_of_outcome n outcome) in
+        let others : (q : ℕ) (b : Bio) → at written q ≡ Some b → (c : Bio) × (at t.bios q ≡ Some c) × (b.range ≡ c.range) = λ q b h. elim (set_cases t.bios slot q (Some (done_of outcome t first_bio.0)) within) [
+          | inl here ↦
+              let both : Some (done_of outcome t first_bio.0) ≡ Some b = sym here.1 ∙ h in
+              let same : done_of outcome t first_bio.0 ≡ b = cc in
+              (first_bio.0, ap (at t.bios) here.0 ∙ first_bio.1, sym (ap (λ (d : Bio). d.range) same))
+          | inr other ↦ (b, sym other.1 ∙ h, refl)
+        ] in
+        let total : total_count written slots ≡ total_count t.bios slots = total_set t.bios slot slots first_bio.0 (done_of outcome t first_bio.0) first_bio.1 refl in
+        let R : ℕ → Type 0 = λ n. HasBytes n outcome in
+        let S : ℕ → Type 0 = λ n. HasBytes n (rest_of_outcome first_bio.0.range.count outcome) in
+        subst Q (sym count_is) (subst P (sym now) (record {
+          distinct = Distinct-tail slot slots ready.distinct;
+          taken = λ k d lt. ap one (get_or-set_other t.bios slot (get_or slots k d) (Some (done_of outcome t first_bio.0)) None (apart k d lt)) ∙ All-tail (λ q. one (at t.bios q) ≡ 1) slot slots ready.taken k d lt;
+          ranges = λ q b h. let w = others q b h in subst (λ (r : Range). r.start + r.count < 2 ^ 64) (sym w.2) (ready.ranges q w.0 w.1);
+          small = λ q b h. let w = others q b h in subst (λ (r : Range). r.count ≤ 64) (sym w.2) (ready.small q w.0 w.1);
+          payloads = λ k d lt b h. payload_rest outcome first_bio.0.range.count b
+              (All-tail (λ q. (c : Bio) → at t.bios q ≡ Some c → HasPayload outcome c) slot slots ready.payloads k d lt b
+              (sym (get_or-set_other t.bios slot (get_or slots k d) (Some (done_of outcome t first_bio.0)) None (apart k d lt)) ∙ h));
+          bytes = subst S (sym total) (bytes_rest outcome first_bio.0.range.count (total_count t.bios slots) (subst R (total_cons t.bios slot slots first_bio.0 first_bio.1) ready.bytes));
+        }))
+
+-- what is to come, at a place of the list
+pub ready_at : (bios : List (Option Bio)) (slots : List ℕ) (i : ℕ) (outcome : Outcome) → i < length slots → IsReady bios (drop i slots) outcome → IsReady bios (get_or slots i 0 ∷ drop (i + 1) slots) outcome
+ready_at bios slots i outcome h ready = let P : List ℕ → Type 0 = λ l. IsReady bios l outcome in subst P (drop_more slots i 0 h) ready
+
+-- and what the tables will be
+pub tables_at : (outcome : Outcome) (t : Tables) (slots : List ℕ) (i : ℕ) → i < length slots → completed_tables outcome t (get_or slots i 0 ∷ drop (i + 1) slots) ≡ completed_tables outcome t (drop i slots)
+tables_at outcome t slots i h = sym (ap (completed_tables outcome t) (drop_more slots i 0 h))
+
+-- how many changes are to come
+abbrev pub changes_of : List (Option Bio) → List ℕ → ℕ
+changes_of bios slots = total_count bios slots + length slots
+
+pub changes_at : (bios : List (Option Bio)) (slots : List ℕ) (i : ℕ) → i < length slots → changes_of bios (drop i slots) ≡ total_count bios (get_or slots i 0 ∷ drop (i + 1) slots) + (1 + length (drop (i + 1) slots))
+changes_at bios slots i h = let e : length (get_or slots i 0 ∷ drop (i + 1) slots) ≡ 1 + length (drop (i + 1) slots) = omega arith in ap (changes_of bios) (drop_more slots i 0 h) ∙ ap (λ n. total_count bios (get_or slots i 0 ∷ drop (i + 1) slots) + n) e

@@ -1,0 +1,17 @@
+use Rattle.std.proofs.Common.{◌≡◌, ◌+◌, ◌≤◌, length, drop}
+use Rattle.change_record.specs.Trail.{KeepsTrail}
+use Rattle.dispatch_core.specs.Ranges.{total_count}
+use Rattle.dispatch_core.specs.Ready.{IsReady}
+use Rattle.dispatch_core.proofs.Completing.{completed_tables}
+use Rattle.dispatch_core.proofs.complete.complete.Given as goal
+
+-- completing the bios that are to come does what completing all does, and they are ready for it
+abbrev pub invariant-loop-slot : goal.invariant-loop-slot
+invariant-loop-slot l = record {
+  tables : completed_tables l.rest l.parts.tables (drop l.slot-index l.slots) ≡ completed_tables l.fn.outcome l.fn.parts.tables l.fn.slots;
+  ready : IsReady l.parts.tables.bios (drop l.slot-index l.slots) l.rest;
+  trail : KeepsTrail l.fn.tape.current l.fn.parts.tables l.tape.current l.parts.tables;
+  steps : l.tape.steps ≡ l.fn.tape.steps;
+  room : l.fn.tape.room + (total_count l.parts.tables.bios (drop l.slot-index l.slots) + length (drop l.slot-index l.slots)) ≤ l.tape.room + (total_count l.fn.parts.tables.bios l.fn.slots + length l.fn.slots);
+  spare : l.tape.spare ≡ l.fn.tape.spare;
+}

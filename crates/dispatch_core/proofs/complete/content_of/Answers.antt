@@ -1,0 +1,35 @@
+use Rattle.std.proofs.Common.{rules, ap, ◌∙◌, ◌≡◌, ◌-◌, ◌++◌, take, drop}
+use Rattle.std.specs.Prelude.{unwrap_or}
+use Rattle.std.specs.FinMap as blocks
+use Rattle.plain_machine.specs.Step.{content}
+use Rattle.dispatch_core.proofs.Contents.{all_more, content-more, content-none, first_bytes, other_bytes}
+use Rattle.dispatch_core.proofs.complete.content_of.Goals as goal
+use Rattle.dispatch_core.proofs.complete.content_of.Goals.{in-Some+in_ok-extend_from_slice-in-Some, in-None+in_ok-extend_from_slice-in-None}
+
+pub loop-sector-init : goal.loop-sector-init
+loop-sector-init c =
+    ap (λ l. l ++ content c.args.overlay.now c.args.range.start (c.end-sector-end.result - c.args.range.start) c.args.bytes.now) c.in_ok-found.ensures.items
+    ∙ ap (λ n. content c.args.overlay.now c.args.range.start n c.args.bytes.now) (all_more c.args.range.start c.args.range.count c.end-sector-end.result c.end-sector-end.ensures)
+
+pub loop-sector-preserved : goal.loop-sector-preserved
+loop-sector-preserved c =
+    let overlay = c.args.overlay.now in
+    let found = c.loop-sector.found.items in
+    let rest = c.loop-sector.rest.now in
+    let sector = c.loop-sector.sector in
+    let all = content overlay c.args.range.start c.args.range.count c.args.bytes.now in
+    let others : c.split_at.result.1.now ≡ drop 512 rest = c.split_at.ensures.back ∙ other_bytes rest c.min.result (search rules) in
+    let first : c.split_at.result.0.now ≡ take 512 rest = c.split_at.ensures.front ∙ first_bytes rest c.min.result (search rules) in
+    elim c.match-get.branch [
+      | in-Some+in_ok-extend_from_slice-in-Some w ↦
+          let more : c.match-get.found.items ≡ found ++ unwrap_or (blocks.get overlay sector) (take 512 rest) =
+          ap (λ v. v.items) w.found-is ∙ w.in_ok-extend_from_slice-in-Some.ensures.items ∙ ap (λ l. found ++ l) (w.as_slice.ensures.bytes ∙ ap (λ o. unwrap_or o (take 512 rest)) w.in-Some.ensures) in
+          content-more overlay found c.match-get.found.items rest c.split_at.result.1.now all sector c.end-sector-end.result c.loop-sector-test.true more others c.loop-sector.invariant
+      | in-None+in_ok-extend_from_slice-in-None w ↦
+          let more : c.match-get.found.items ≡ found ++ unwrap_or (blocks.get overlay sector) (take 512 rest) =
+          ap (λ v. v.items) w.found-is ∙ w.in_ok-extend_from_slice-in-None.ensures.items ∙ ap (λ l. found ++ l) (first ∙ ap (λ o. unwrap_or o (take 512 rest)) w.in-None.ensures) in
+          content-more overlay found c.match-get.found.items rest c.split_at.result.1.now all sector c.end-sector-end.result c.loop-sector-test.true more others c.loop-sector.invariant
+    ]
+
+pub returns : goal.returns
+returns c = c.in_ok-from_vec.ensures.ok ∙ content-none c.args.overlay.now c.loop-sector.found.items c.loop-sector.rest.now (content c.args.overlay.now c.args.range.start c.args.range.count c.args.bytes.now) c.loop-sector.sector c.end-sector-end.result c.loop-sector-test.false c.loop-sector.invariant
