@@ -1,0 +1,18 @@
+-- The exit status.
+use Rattle.std.specs.Prelude.{ℕ, ◌<◌, IsSome, ◌⊎◌}
+use Rattle.sector_core.specs.Config.{fault_of}
+use Rattle.sector_core.specs.declared.config.ConfigDraft.{ConfigDraft}
+use Rattle.script_run.specs.declared.ending.ScriptEnd.{ScriptEnd}
+use Rattle.script_run.specs.declared.ending.ScriptEnd.TheVariants.{Done, BadLine, ReadFault, WriteFault, OutOfMemory}
+
+-- of a run whose output is written whole
+abbrev pub status_of : ScriptEnd → ℕ
+status_of Done = 0
+status_of (BadLine n) = 2
+status_of ReadFault = 3
+status_of WriteFault = 4
+status_of OutOfMemory = 5
+
+-- a field is out of its limits
+abbrev pub IsRefused : ConfigDraft → ℕ → Type 0
+IsRefused draft sectors = IsSome (fault_of draft) ⊎ (65536 < sectors)

@@ -1,0 +1,49 @@
+// The keeper of the history, as a console needs it.
+
+use dispatch_core::SectorView;
+use history::Keeper;
+use host_console::{Content, Keeps};
+use plain_machine::{Answer, Call};
+use std::alloc::Global;
+
+/// A keeper that a script is run at.
+#[derive(Drop)]
+pub struct Host {
+    /// The keeper.
+    pub keeper: Keeper,
+}
+
+impl Keeps for Host {
+    ghost state = { λ host. host.keeper };
+
+    fn call(&mut self, alloc: Global, call: &Call) -> Answer {
+        self.keeper.call(alloc, call)
+    }
+
+    fn request_sectors(&self, tag: u8, issue: u64) -> u32 {
+        match self.keeper.view().machine().in_flight(tag) {
+            Some(work) if work.issue == issue => work.range.count,
+            _ => 0,
+        }
+    }
+
+    fn sector(&self, number: u64) -> Content<'_> {
+        match self.keeper.view().machine().sector(number) {
+            SectorView::Outside => Content::Outside,
+            SectorView::Base => Content::Base,
+            SectorView::Stored(block) => Content::Stored(block),
+        }
+    }
+
+    fn cursor(&self) -> u32 {
+        self.keeper.view().cursor()
+    }
+
+    fn length(&self) -> u32 {
+        self.keeper.view().length()
+    }
+
+    fn last_serial(&self) -> u64 {
+        self.keeper.view().last_serial()
+    }
+}

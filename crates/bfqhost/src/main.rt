@@ -1,0 +1,33 @@
+#![tactic(auto)]
+//! `bfqhost`: a block I/O host whose every step can be undone, run from a script.
+//!
+//! | call | rule that it meets |
+//! |---|---|
+//! | `run_script` | what is written is the text of the lines read, with answers that the keeper's rules allow |
+//!
+//! ```text
+//! bfqhost sim --scheduler none < SCRIPT
+//! ```
+//!
+//! | status | |
+//! |---|---|
+//! | 0 | the input has no more lines |
+//! | 2 | a bad line; its number stands last on standard output |
+//! | 3 | a read of standard input failed |
+//! | 4 | a write to standard output failed |
+//! | 5 | no memory |
+//! | 6 | bad words or configuration; standard output is empty |
+
+mod host;
+mod script;
+mod start;
+
+use start::start;
+use std::process::ExitCode;
+
+#[cfg(test)]
+mod tests;
+
+fn main(rt: HostRuntime) -> ExitCode {
+    ExitCode::from(start(&rt))
+}

@@ -1,0 +1,122 @@
+// From the words of the command line to the status.
+ghost use Rattle.std.specs.Prelude.{◌≡◌, ◌≤◌, ◌↔◌};
+ghost use Rattle.bfqhost.specs.Status.{status_of, IsRefused};
+
+use crate::script::run_script;
+use host_options::{Request, WordFault, help_text, request_of};
+use script_run::ScriptEnd;
+use sector_core::{Config, ConfigDraft};
+use std::io::{self, BufWriter, ErrorKind, Write};
+use std::rt::Env;
+use std::{env, fmt};
+
+const DONE: u8 = 0;
+
+const BAD_LINE: u8 = 2;
+
+const READ_FAULT: u8 = 3;
+
+const WRITE_FAULT: u8 = 4;
+
+const NO_MEMORY: u8 = 5;
+
+const REFUSED: u8 = 6;
+
+// The most sectors of a device in memory.
+const MOST_SECTORS: u64 = 65_536;
+
+// Standard output is written in pieces of this size.
+const OUTPUT_BYTES: usize = 65_536;
+
+/// Does what the words ask for, and gives the status.
+pub fn start(rt: &(impl Env + AllocGlobal + Input + Print + Eprint)) -> u8 {
+    match asked(rt) {
+        Ok(Request::Help) => help(rt),
+        Ok(Request::Sim { draft, sectors }) => sim(rt, draft, sectors),
+        Err(WordFault::Usage) => {
+            let _ = rt.eprintln("words: refused");
+            REFUSED
+        }
+        Err(WordFault::OutOfMemory) => no_memory(rt),
+    }
+}
+
+// What the words ask for. A word that is no text asks for nothing.
+fn asked(rt: &(impl Env + AllocGlobal)) -> Result<Request, WordFault> {
+    let given = match env::args(rt) {
+        Ok(given) => given,
+        Err(error) if error.kind() == ErrorKind::OutOfMemory => return Err(WordFault::OutOfMemory),
+        Err(_) => return Err(WordFault::Usage),
+    };
+    let words: Vec<String> = match given.collect(rt.alloc()) {
+        Ok(words) => words,
+        Err(_) => return Err(WordFault::OutOfMemory),
+    };
+    request_of(rt.alloc(), words.as_slice())
+}
+
+fn help(rt: &impl Print) -> u8 {
+    match write_help(rt) {
+        Ok(()) => DONE,
+        Err(_) => WRITE_FAULT,
+    }
+}
+
+fn write_help(rt: &impl Print) -> io::Result<()> {
+    let mut output = io::writer(rt);
+    output.write_all(help_text().as_bytes())?;
+    output.flush()
+}
+
+// Runs the script, where the configuration and then the number of sectors are within their limits.
+fn sim(rt: &(impl AllocGlobal + Input + Print + Eprint), draft: ConfigDraft, sectors: u64) -> u8
+    ensures { result ≡ REFUSED ↔ IsRefused draft sectors }
+{
+    match Config::check(draft) {
+        Ok(config) if sectors <= MOST_SECTORS => simulate(rt, config, sectors),
+        Ok(_) => bad_field(rt, "sectors"),
+        Err(fault) => bad_field(rt, fault),
+    }
+}
+
+fn bad_field(rt: &impl Eprint, field: impl fmt::Display + Drop) -> u8
+    ensures { result ≡ REFUSED }
+{
+    let _ = eprintln!(rt; "config: {field}");
+    REFUSED
+}
+
+fn no_memory(rt: &impl Eprint) -> u8
+    ensures { result ≡ NO_MEMORY }
+{
+    let _ = rt.eprintln("memory: none");
+    NO_MEMORY
+}
+
+// Runs the script from standard input to standard output, which is flushed at the end.
+fn simulate(rt: &(impl AllocGlobal + Input + Print + Eprint), config: Config, sectors: u64) -> u8
+    requires { sectors ≤ MOST_SECTORS }
+    ensures { result ≤ NO_MEMORY }
+{
+    let mut output = match BufWriter::with_capacity(rt.alloc(), OUTPUT_BYTES, io::writer(rt)) {
+        Ok(output) => output,
+        Err(_) => return no_memory(rt),
+    };
+    let end = run_script(rt.alloc(), config, sectors, &mut rt.reader(), &mut output);
+    match output.flush() {
+        Ok(()) => status(rt, end),
+        Err(_) => WRITE_FAULT,
+    }
+}
+
+fn status(rt: &impl Eprint, end: ScriptEnd) -> u8
+    ensures { result ≡ status_of end }
+{
+    match end {
+        ScriptEnd::Done => DONE,
+        ScriptEnd::BadLine(_) => BAD_LINE,
+        ScriptEnd::ReadFault => READ_FAULT,
+        ScriptEnd::WriteFault => WRITE_FAULT,
+        ScriptEnd::OutOfMemory => no_memory(rt),
+    }
+}

@@ -1,0 +1,5 @@
+// What a script prints, how a run ends, and that the calls succeed while memory is left.
+mod calls;
+mod ends;
+mod fakes;
+mod scripts;

@@ -1,0 +1,94 @@
+-- What a line of a script asks of a keeper, and what it prints.
+use Rattle.std.specs.Prelude.{◌≡◌, ℕ, ◌*◌, ◌≤◌, ◌<◌, ◌==◌, nat_le, nat_lt, List, [], ◌∷◌, ◌++◌, length, replicate, codes, Option, None, Some, if◌then◌else◌}
+use Rattle.std.specs.Fmt.{decimal}
+use Rattle.std.specs.FinMap as blocks
+use Rattle.sector_core.specs.declared.bio.Op.TheVariants as op
+use Rattle.sector_core.specs.declared.bio.FailKind.TheVariants as kind
+use Rattle.sector_core.specs.declared.bio.Outcome.{Outcome}
+use Rattle.sector_core.specs.declared.bio.Outcome.TheVariants as outcome
+use Rattle.sector_text.specs.Hex.{hex_of}
+use Rattle.script_line.specs.declared.line.Line.{Line}
+use Rattle.script_line.specs.declared.line.Line.TheVariants.{Attach, Read, Write, Reap, Dispatch, Finish, Hold, Release, Undo, Redo, Sector, Cursor}
+use Rattle.script_line.specs.declared.line.Ending.{Ending}
+use Rattle.script_line.specs.declared.line.Ending.TheVariants.{Stored, Fill, Short, Fault}
+use Rattle.plain_machine.specs.Machine.{Flight}
+use Rattle.plain_machine.specs.declared.answer.Answer.{Answer}
+use Rattle.plain_machine.specs.declared.step.Step.TheVariants as step
+use Rattle.plain_machine.specs.declared.call.Call.{Call}
+use Rattle.plain_machine.specs.declared.call.Call.TheVariants as call
+use Rattle.plain_machine.specs.Step.{size_of}
+use Rattle.plain_machine.specs.Keeper.{State, MayCall, machine_of}
+use Rattle.host_console.specs.Texts.{text_of}
+use Rattle.host_console.specs.declared.content.Content.{Content}
+use Rattle.host_console.specs.declared.content.Content.TheVariants as content
+
+-- Calls.
+
+-- the payload of a `write` line: each byte of its sectors; none where there are too many sectors for a bio
+abbrev pub payload_of : ℕ → ℕ → List ℕ
+payload_of count byte = if nat_lt 64 count then [] else replicate (512 * count) byte
+
+-- the sectors of a request, where it was issued with this serial
+abbrev pub sectors_issued : ℕ → Option Flight → ℕ
+sectors_issued issue None = 0
+sectors_issued issue (Some flight) = if flight.issue == issue then size_of flight.request.bios else 0
+
+-- the sectors of the request in flight under a tag with this issue, or none
+abbrev pub sectors_in_flight : State → ℕ → ℕ → ℕ
+sectors_in_flight k tag issue = sectors_issued issue ((machine_of k).flight tag)
+
+-- how a `finish` line ended: filled are as many sectors as the request in flight has
+abbrev pub outcome_of : State → ℕ → ℕ → Ending → Outcome
+outcome_of k tag issue Stored = outcome.Stored
+outcome_of k tag issue (Fill byte) = outcome.Fetched (replicate (512 * sectors_in_flight k tag issue) byte)
+outcome_of k tag issue Short = outcome.Failed kind.Short
+outcome_of k tag issue Fault = outcome.Failed kind.Fault
+
+-- Texts.
+
+-- a text as a line
+abbrev pub ended : List ℕ → List ℕ
+ended text = text ++ 10 ∷ []
+
+-- the content of a sector: outside of the image, the overlay's block, or the image's own bytes
+abbrev pub content_text : State → ℕ → List ℕ
+content_text k number =
+    if nat_le k.limits.sectors number then codes "none"
+    else elim (blocks.get (machine_of k).overlay number) [ None ↦ codes "base" | Some block ↦ codes "overlay " ++ hex_of block ]
+
+abbrev pub sector_text : State → ℕ → List ℕ
+sector_text k number = codes "sector " ++ (decimal number ++ 32 ∷ content_text k number)
+
+abbrev pub cursor_text : State → List ℕ
+cursor_text k = codes "line " ++ (decimal k.cursor ++ 32 ∷ (decimal (length k.line) ++ 32 ∷ decimal k.last))
+
+-- what a keeper shows of a sector
+abbrev pub IsContent : State → ℕ → Content → Type 0
+IsContent k number content.Outside = k.limits.sectors ≤ number
+IsContent k number content.Base = (number < k.limits.sectors) × (blocks.get (machine_of k).overlay number ≡ None)
+IsContent k number (content.Stored block) = (number < k.limits.sectors) × (blocks.get (machine_of k).overlay number ≡ Some block.now)
+
+-- Lines.
+
+-- the keeper is called once, and the answer is printed
+abbrev pub Answers : State → Call → List ℕ → State → Type 0
+Answers before c text after = (answer : Answer) × MayCall before c answer after × (text ≡ ended (text_of answer))
+
+-- nothing is called, and something is printed
+abbrev pub Shows : State → List ℕ → List ℕ → State → Type 0
+Shows before shown text after = (after ≡ before) × (text ≡ ended shown)
+
+-- what a line may print at a keeper, and what the keeper is then
+abbrev pub Prints : State → Line → List ℕ → State → Type 0
+Prints before (Attach seat group prio) = Answers before (call.Do (step.Attach seat group prio))
+Prints before (Read seat session start count) = Answers before (call.Do (step.Submit seat session op.Fetch (record { start = start; count = count }) []))
+Prints before (Write seat session start count byte) = Answers before (call.Do (step.Submit seat session op.Store (record { start = start; count = count }) (payload_of count byte)))
+Prints before (Reap seat session) = Answers before (call.Do (step.Reap seat session))
+Prints before Dispatch = Answers before (call.Do step.Dispatch)
+Prints before (Finish tag issue ending) = Answers before (call.Do (step.Finish tag issue (outcome_of before tag issue ending)))
+Prints before Hold = Answers before call.Hold
+Prints before Release = Answers before call.Release
+Prints before (Undo k) = Answers before (call.Undo k)
+Prints before (Redo k) = Answers before (call.Redo k)
+Prints before (Sector number) = Shows before (sector_text before number)
+Prints before Cursor = Shows before (cursor_text before)

@@ -1,0 +1,38 @@
+// What a console needs of a keeper.
+ghost use Rattle.std.specs.Prelude.{◌≡◌, length};
+ghost use Rattle.plain_machine.specs.Keeper.{State, MayCall};
+ghost use Rattle.host_console.specs.Printed.{sectors_in_flight, IsContent};
+
+use crate::Content;
+use plain_machine::{Answer, Call};
+use std::alloc::Global;
+
+/// A keeper: it answers calls, and can be looked at.
+pub trait Keeps {
+    /// The keeper as the rules see it.
+    ghost state: { Self → State };
+
+    /// Answers a call; a call that is not accepted changes nothing.
+    fn call(&mut self, alloc: Global, call: &Call) -> Answer
+        ensures { MayCall (state self.old) call.now result (state self.new) };
+
+    /// How many sectors the request has that is in flight under this tag with this issue; none where there is none.
+    fn request_sectors(&self, tag: u8, issue: u64) -> u32
+        ensures { result ≡ sectors_in_flight (state self.now) tag issue };
+
+    /// The content of a sector.
+    fn sector(&self, number: u64) -> Content<'_>
+        ensures { IsContent (state self.now) number result };
+
+    /// How many steps stand.
+    fn cursor(&self) -> u32
+        ensures { result ≡ (state self.now).cursor };
+
+    /// How many steps the line has.
+    fn length(&self) -> u32
+        ensures { result ≡ length (state self.now).line };
+
+    /// The last serial that was given.
+    fn last_serial(&self) -> u64
+        ensures { result ≡ (state self.now).last };
+}

@@ -1,0 +1,39 @@
+#![tactic(auto)]
+//! The console of a host: the lines of a script become calls of a keeper, and its answers become text.
+//!
+//! | call | rule that it meets |
+//! |---|---|
+//! | `Teller::run` | a line is one call, and prints its answer; or it is a query, which changes nothing |
+//! | `run_keeper` | the lines of a script run at a keeper, one after the other |
+//! | `put_answer` | the text of an answer |
+//! | `Keeps` | what a keeper must offer to be run from a script |
+//!
+//! The rules stand in `specs/`: `Printed` says for each line which call it is and what it prints, and `Texts` has
+//! the texts of the answers and of the queries.
+//!
+//! ```text
+//! attach 0 0 4        // attached 1
+//! write 0 1 5 1 65    // queued 2
+//! undo 1              // refused 28
+//! sector 5            // sector 5 base
+//! ```
+
+mod answer;
+mod content;
+mod filled;
+mod keeps;
+mod query;
+mod run;
+mod submit;
+mod teller;
+
+pub use answer::put_answer;
+pub use content::Content;
+pub use keeps::Keeps;
+pub use run::run_keeper;
+pub use teller::Teller;
+
+#[cfg(test)]
+mod fakes;
+#[cfg(test)]
+mod tests;

@@ -1,0 +1,140 @@
+// A keeper run from a script.
+ghost use Rattle.std.specs.Prelude.{◌≡◌, ℕ, List, ◌++◌, IfOk, OnOk};
+ghost use Rattle.host_console.specs.Printed.{Answers, Prints, outcome_of, ended, sector_text, cursor_text};
+
+use crate::Keeps;
+use crate::answer::put_answer;
+use crate::filled::sectors_of;
+use crate::query::{put_cursor, put_sector};
+use crate::submit::{fetch, store};
+use plain_machine::{Call, Step};
+use script_line::{Ending, Line};
+use script_run::Console;
+use sector_core::{FailKind, OutOfMemory, Outcome};
+use std::alloc::Global;
+
+/// Runs the lines of a script at a keeper.
+#[derive(Drop)]
+pub struct Teller<K> {
+    /// The keeper.
+    pub keeper: K,
+}
+
+impl<K: Keeps> Console for Teller<K> {
+    ghost prints = { λ before line text after. Prints (K.state before.keeper) line text (K.state after.keeper) };
+
+    fn run(&mut self, alloc: Global, line: Line, out: &mut Vec<u8>) -> Result<(), OutOfMemory> {
+        match line {
+            Line::Attach { seat, group, prio } => {
+                self.step(alloc, Step::Attach { seat, group, prio }, out)
+            }
+            Line::Read {
+                seat,
+                session,
+                start,
+                count,
+            } => self.step(alloc, fetch(seat, session, start, count), out),
+            Line::Write {
+                seat,
+                session,
+                start,
+                count,
+                byte,
+            } => {
+                let step = store(alloc, seat, session, start, count, byte)?;
+                self.step(alloc, step, out)
+            }
+            Line::Reap { seat, session } => self.step(alloc, Step::Reap { seat, session }, out),
+            Line::Dispatch => self.step(alloc, Step::Dispatch, out),
+            Line::Finish { tag, issue, ending } => self.finish(alloc, tag, issue, ending, out),
+            Line::Hold => self.answer(alloc, &Call::Hold, out),
+            Line::Release => self.answer(alloc, &Call::Release, out),
+            Line::Undo { k } => self.answer(alloc, &Call::Undo { k }, out),
+            Line::Redo { k } => self.answer(alloc, &Call::Redo { k }, out),
+            Line::Sector { number } => self.tell_sector(number, out),
+            Line::Cursor => self.tell_cursor(out),
+        }
+    }
+}
+
+impl<K: Keeps> Teller<K> {
+    // Makes one call, and prints its answer.
+    fn answer(&mut self, alloc: Global, call: &Call, out: &mut Vec<u8>) -> Result<(), OutOfMemory>
+        ensures { OnOk result ((text : List ℕ) × (out.new.items ≡ out.old.items ++ text)
+            × Answers (K.state self.old.keeper) call.now text (K.state self.new.keeper)) }
+    {
+        let answer = self.keeper.call(alloc, call);
+        put_answer(&answer, out).map_err(|_| OutOfMemory)?;
+        out.push(b'\n')?;
+        Ok(())
+    }
+
+    // The call of a step.
+    fn step(&mut self, alloc: Global, step: Step, out: &mut Vec<u8>) -> Result<(), OutOfMemory>
+        ensures { OnOk result ((text : List ℕ) × (out.new.items ≡ out.old.items ++ text)
+            × Answers (K.state self.old.keeper) (Call.Do step) text (K.state self.new.keeper)) }
+    {
+        self.answer(alloc, &Call::Do(step), out)
+    }
+
+    // The call of a `finish` line.
+    fn finish(
+        &mut self,
+        alloc: Global,
+        tag: u8,
+        issue: u64,
+        ending: Ending,
+        out: &mut Vec<u8>,
+    ) -> Result<(), OutOfMemory>
+        ensures { OnOk result ((text : List ℕ) × (out.new.items ≡ out.old.items ++ text)
+            × Answers (K.state self.old.keeper)
+            (Call.Do (Step.Finish tag issue (outcome_of (K.state self.old.keeper) tag issue ending)))
+            text (K.state self.new.keeper)) }
+    {
+        let outcome = self.outcome(alloc, tag, issue, ending)?;
+        let step = Step::Finish {
+            tag,
+            issue,
+            outcome,
+        };
+        self.step(alloc, step, out)
+    }
+
+    // What the device says at a `finish` line.
+    fn outcome(
+        &self,
+        alloc: Global,
+        tag: u8,
+        issue: u64,
+        ending: Ending,
+    ) -> Result<Outcome, OutOfMemory>
+        ensures { IfOk result (λ outcome. outcome ≡ outcome_of (K.state self.now.keeper) tag issue ending) }
+    {
+        match ending {
+            Ending::Stored => Ok(Outcome::Stored),
+            Ending::Fill(byte) => {
+                let count = self.keeper.request_sectors(tag, issue);
+                let bytes = sectors_of(alloc, count, byte)?;
+                Ok(Outcome::Fetched(bytes))
+            }
+            Ending::Short => Ok(Outcome::Failed(FailKind::Short)),
+            Ending::Fault => Ok(Outcome::Failed(FailKind::Fault)),
+        }
+    }
+
+    fn tell_sector(&self, number: u64, out: &mut Vec<u8>) -> Result<(), OutOfMemory>
+        ensures { OnOk result (out.new.items ≡ out.old.items ++ ended (sector_text (K.state self.now.keeper) number)) }
+    {
+        put_sector(&self.keeper, number, out).map_err(|_| OutOfMemory)?;
+        out.push(b'\n')?;
+        Ok(())
+    }
+
+    fn tell_cursor(&self, out: &mut Vec<u8>) -> Result<(), OutOfMemory>
+        ensures { OnOk result (out.new.items ≡ out.old.items ++ ended (cursor_text (K.state self.now.keeper))) }
+    {
+        put_cursor(&self.keeper, out).map_err(|_| OutOfMemory)?;
+        out.push(b'\n')?;
+        Ok(())
+    }
+}
