@@ -14,7 +14,7 @@ pub struct Host {
 }
 
 impl Keeps for Host {
-    ghost state = { λ host. host.keeper };
+    ghost state = { λ host. host.keeper.state };
 
     fn call(&mut self, alloc: Global, call: &Call) -> Answer {
         self.keeper.call(alloc, call)

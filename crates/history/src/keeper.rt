@@ -1,10 +1,21 @@
 // The keeper.
-use crate::Call;
+ghost use Rattle.std.specs.Prelude.{◌≡◌, ◌+◌, ◌-◌, ◌≤◌, ◌<◌, ◌^◌, nat_lt, [], ◌∷◌, ◌++◌, IfOk, IfErr, IfSome, IsTrue, length, take, drop, map, vec_len, vec_capacity};
+ghost use Rattle.plain_machine.specs.Step.{of_sizes};
+ghost use Rattle.plain_machine.specs.Keeper.{State, opened, machine_of, called, MayCall, MayRun, replay};
+ghost use Rattle.plain_machine.specs.declared.call.Call.TheVariants.{Do as DoStep, Hold as HoldAll, Release as ReleaseAll, Undo as UndoSteps, Redo as RedoSteps};
+ghost use Rattle.plain_machine.specs.declared.answer.Answer.TheVariants.{Accepted};
+ghost use Rattle.plain_machine.specs.declared.answer.Reply.TheVariants.{Moved};
+ghost use Rattle.dispatch_core.specs.Running.{plain_of, IsFor};
+ghost use Rattle.history.specs.Turns.{Turns};
+
+use crate::moves::{redo_steps, undo_steps};
 use crate::roll::Roll;
 use change_record::push_within;
 use dispatch_core::{Answer, Cause, Code, Reply, Step, View};
+use plain_machine::Call;
 use sector_core::{Config, OutOfMemory};
 use std::alloc::Global;
+use std::marker::Model;
 
 /// A machine that can be held, undone and redone, and the journal of its accepted calls.
 #[derive(Drop)]
@@ -12,220 +23,285 @@ pub struct Keeper {
     roll: Roll,
     held: bool,
     journal: Vec<Call>,
-    most: usize,
+    most: u32,
 }
 
-/// A run that stopped for want of memory, before the answer list could grow.
-#[derive(Drop)]
-pub struct RunStop {
-    /// The answers of the calls that were made.
-    pub answers: Vec<Answer>,
-    /// How many calls were made.
-    pub made: usize,
+impl Model for Keeper {
+    ghost use Rattle.std.specs.Prelude.{vec_len, vec_capacity};
+    ghost use Rattle.history.specs.Keeping.{state_of, IsKeeper};
+    ghost use Rattle.history.specs.Kept.{Kept};
+
+    ghost Value = { Kept };
+
+    ghost view = { λ k. record {
+      state = state_of k.roll k.held k.journal.items k.most;
+      lengths = k.roll.lengths;
+      turns = k.roll.turns
+    } };
+
+    ghost invariant = { λ k. IsKeeper k.roll k.held k.journal.items (vec_len k.journal) (vec_capacity k.journal) k.most };
 }
 
 impl Keeper {
     /// A keeper before its first call, over an image of `sectors` sectors.
-    pub fn new(alloc: Global, config: Config, sectors: u64) -> Result<Keeper, OutOfMemory> {
+    ///
+    /// # Errors
+    ///
+    /// There is no memory for its machine.
+    pub fn new(alloc: Global, config: Config, sectors: u64) -> Result<Keeper, OutOfMemory>
+        requires { sectors < 2 ^ 55 }
+        ensures { IfOk result (λ k. k.state ≡ opened (record { sectors = sectors; requests = config.nr_requests; tags = config.tags }) config.history_max) }
+    {
+        let roll = Roll::new(alloc, config, sectors)?;
         Ok(Keeper {
-            roll: Roll::new(alloc, config, sectors)?,
+            roll,
             held: false,
             journal: Vec::new(alloc),
-            most: config.history_max as usize,
+            most: config.history_max,
         })
     }
 
     /// Answers a call; a call that is not accepted changes nothing.
-    pub fn call(&mut self, alloc: Global, call: &Call) -> Answer {
+    pub fn call(&mut self, alloc: Global, call: &Call) -> Answer
+        ensures may { MayCall self.old.state call.now result self.new.state }
+        ensures turns { Turns self.old call.now result self.new }
+    {
         match call {
-            Call::Do(step) => self.take_step(alloc, step),
-            Call::Hold => self.hold(),
-            Call::Release => self.release(),
-            Call::Undo { k } => self.undo(*k),
-            Call::Redo { k } => self.redo(*k),
+            Call::Do(step) => return self.take_step(alloc, step),
+            Call::Hold => return self.hold(),
+            Call::Release => return self.release(),
+            Call::Undo { k } => return self.undo(*k),
+            Call::Redo { k } => return self.redo(*k),
         }
-    }
-
-    /// Answers some calls, one after the other.
-    pub fn run(&mut self, alloc: Global, calls: &[Call]) -> Result<Vec<Answer>, RunStop> {
-        let mut answers = Vec::new(alloc);
-        for (made, call) in calls.iter().enumerate() {
-            if answers.reserve(1).is_err() {
-                return Err(RunStop { answers, made });
-            }
-            push_within(&mut answers, self.call(alloc, call));
-        }
-        Ok(answers)
     }
 
     /// What can be seen of it.
-    pub fn view(&self) -> KeeperView<'_> {
+    pub fn view(&self) -> KeeperView<'_>
+        ensures { result ≡ self.now }
+    {
         KeeperView { keeper: self }
     }
 
-    fn has_room(&self) -> bool {
-        self.journal.len() < self.most
+    /// How many calls were accepted. The keeper is what comes of these calls, one after the other, on a new one.
+    pub fn journal_len(&self) -> usize
+        ensures len { result ≡ length self.now.state.journal }
+        ensures replay { self.now.state ≡ replay self.now.state.limits self.now.state.most self.now.state.journal }
+    {
+        self.journal.len()
     }
 
-    // Makes room in the journal for one entry, and for one more for each of so many steps.
-    fn reserve(&mut self, steps: usize) -> Result<(), OutOfMemory> {
-        self.journal.reserve(steps + 1)?;
-        Ok(())
-    }
-
-    fn take_step(&mut self, alloc: Global, step: &Step) -> Answer {
+    fn take_step(&mut self, alloc: Global, step: &Step) -> Answer
+        ensures { MayCall self.old.state (DoStep step.now) result self.new.state }
+    {
         if self.held {
             return Answer::NotYet(Cause::Held);
         }
-        let room = self.has_room();
-        let entry = self.entry_of(step);
-        let answer = self.roll.step(alloc, room, entry.is_some(), step);
-        if matches!(answer, Answer::Accepted(_)) {
-            if let Some(entry) = entry {
-                push_within(&mut self.journal, entry);
-            }
-        }
-        answer
-    }
-
-    // A copy of the step for the journal, which has room for it.
-    fn entry_of(&mut self, step: &Step) -> Option<Call> {
-        let steps = self.roll.cursor() + 1;
-        match self.reserve(steps) {
-            Ok(()) => {}
-            Err(_) => return None,
-        }
-        match step.clone() {
-            Ok(copy) => Some(Call::Do(copy)),
-            Err(_) => None,
+        let room = has_room(&self.journal, self.most);
+        let entry = entry_of(&mut self.journal, self.roll.cursor(), step);
+        match self.roll.step(alloc, room, entry.is_some(), step) {
+            Answer::Refused(code) => return Answer::Refused(code),
+            Answer::NotYet(cause) => return Answer::NotYet(cause),
+            Answer::Accepted(reply) => match entry {
+                Some(entry) => {
+                    push_within(&mut self.journal, entry);
+                    return Answer::Accepted(reply);
+                }
+                None => unreachable!(),
+            },
         }
     }
 
-    fn hold(&mut self) -> Answer {
+    fn hold(&mut self) -> Answer
+        ensures may { MayCall self.old.state HoldAll result self.new.state }
+        ensures turns { Turns self.old HoldAll result self.new }
+    {
         if self.held {
             return Answer::Refused(Code::AlreadyHeld);
         }
-        if !self.has_room() {
+        if !has_room(&self.journal, self.most) {
             return Answer::Refused(Code::HistoryFull);
         }
-        let steps = self.roll.cursor();
-        match self.reserve(steps) {
-            Ok(()) => {}
-            Err(_) => return Answer::Refused(Code::OutOfMemory),
+        if !reserved(&mut self.journal, self.roll.cursor()) {
+            return Answer::Refused(Code::OutOfMemory);
         }
         push_within(&mut self.journal, Call::Hold);
         self.held = true;
-        self.moved()
+        return moved(&self.roll);
     }
 
-    fn release(&mut self) -> Answer {
+    fn release(&mut self) -> Answer
+        ensures may { MayCall self.old.state ReleaseAll result self.new.state }
+        ensures turns { Turns self.old ReleaseAll result self.new }
+    {
         if !self.held {
             return Answer::Refused(Code::NotHeld);
         }
-        if !self.has_room() {
+        if !has_room(&self.journal, self.most) {
             return Answer::Refused(Code::HistoryFull);
         }
-        let steps = self.roll.cursor();
-        match self.reserve(steps) {
-            Ok(()) => {}
-            Err(_) => return Answer::Refused(Code::OutOfMemory),
+        if !reserved(&mut self.journal, self.roll.cursor()) {
+            return Answer::Refused(Code::OutOfMemory);
         }
         push_within(&mut self.journal, Call::Release);
         self.held = false;
-        Answer::Accepted(Reply::Done)
+        return Answer::Accepted(Reply::Done);
     }
 
-    fn undo(&mut self, k: u32) -> Answer {
+    fn undo(&mut self, k: u32) -> Answer
+        ensures may { MayCall self.old.state (UndoSteps k) result self.new.state }
+        ensures turns { Turns self.old (UndoSteps k) result self.new }
+    {
         if !self.held {
             return Answer::Refused(Code::NotHeld);
         }
         if k == 0 {
             return Answer::Refused(Code::ZeroCount);
         }
-        if k as usize > self.roll.cursor() {
+        if self.roll.cursor() < k as usize {
             return Answer::Refused(Code::NothingToUndo);
         }
-        if !self.has_room() {
+        if !has_room(&self.journal, self.most) {
             return Answer::Refused(Code::HistoryFull);
         }
-        for _ in 0..k {
-            self.roll.undo();
-        }
+        undo_steps(&mut self.roll, k as usize);
         push_within(&mut self.journal, Call::Undo { k });
-        self.moved()
+        return moved(&self.roll);
     }
 
-    fn redo(&mut self, k: u32) -> Answer {
+    fn redo(&mut self, k: u32) -> Answer
+        ensures may { MayCall self.old.state (RedoSteps k) result self.new.state }
+        ensures turns { Turns self.old (RedoSteps k) result self.new }
+    {
         if !self.held {
             return Answer::Refused(Code::NotHeld);
         }
         if k == 0 {
             return Answer::Refused(Code::ZeroCount);
         }
-        if k as usize > self.roll.length() - self.roll.cursor() {
+        let end = self.roll.cursor() + k as usize;
+        if self.roll.length() < end {
             return Answer::Refused(Code::NothingToRedo);
         }
-        if !self.has_room() {
+        if !has_room(&self.journal, self.most) {
             return Answer::Refused(Code::HistoryFull);
         }
-        let steps = self.roll.cursor() + k as usize;
-        match self.reserve(steps) {
+        if !reserved(&mut self.journal, end) {
+            return Answer::Refused(Code::OutOfMemory);
+        }
+        match redo_steps(&mut self.roll, k as usize) {
             Ok(()) => {}
             Err(_) => return Answer::Refused(Code::OutOfMemory),
         }
-        for done in 0..k {
-            match self.roll.redo() {
-                Ok(()) => {}
-                Err(_) => {
-                    for _ in 0..done {
-                        self.roll.undo();
-                    }
-                    return Answer::Refused(Code::OutOfMemory);
-                }
-            }
-        }
         push_within(&mut self.journal, Call::Redo { k });
-        self.moved()
-    }
-
-    fn moved(&self) -> Answer {
-        Answer::Accepted(Reply::Moved {
-            cursor: self.roll.cursor() as u32,
-            length: self.roll.length() as u32,
-        })
+        return moved(&self.roll);
     }
 }
 
+// Whether the journal may hold one more entry.
+fn has_room(journal: &Vec<Call>, most: u32) -> bool
+    ensures { result ≡ nat_lt (length journal.now.items) most }
+{
+    journal.len() < most as usize
+}
+
+// Makes room in the journal for one entry, and for one more for each of so many steps.
+fn reserved(journal: &mut Vec<Call>, steps: usize) -> bool
+    requires { steps < 2 ^ 40 }
+    ensures items { journal.new.items ≡ journal.old.items }
+    ensures len { vec_len journal.new ≡ vec_len journal.old }
+    ensures room { IsTrue result → vec_len journal.new + (steps + 1) ≤ vec_capacity journal.new }
+    ensures capacity { vec_capacity journal.old ≤ vec_capacity journal.new }
+{
+    match journal.reserve(steps + 1) {
+        Ok(()) => true,
+        Err(_) => false,
+    }
+}
+
+// A copy of the step for the journal, which has room for it and for an entry for each step that would stand.
+fn entry_of(journal: &mut Vec<Call>, cursor: usize, step: &Step) -> Option<Call>
+    requires { cursor < 2 ^ 32 }
+    ensures items { journal.new.items ≡ journal.old.items }
+    ensures len { vec_len journal.new ≡ vec_len journal.old }
+    ensures entry { IfSome result (λ entry. entry ≡ DoStep step.now) }
+    ensures room { IfSome result (λ entry. vec_len journal.new + (cursor + 2) ≤ vec_capacity journal.new) }
+    ensures capacity { vec_capacity journal.old ≤ vec_capacity journal.new }
+{
+    if !reserved(journal, cursor + 1) {
+        return None;
+    }
+    match step.clone() {
+        Ok(copy) => Some(Call::Do(copy)),
+        Err(_) => None,
+    }
+}
+
+// What an accepted Hold, Undo or Redo answers.
+fn moved(roll: &Roll) -> Answer
+    requires { length roll.now.steps < 2 ^ 32 }
+    ensures { result ≡ Accepted (Moved roll.now.cursor (length roll.now.steps)) }
+{
+    Answer::Accepted(Reply::Moved {
+        cursor: roll.cursor() as u32,
+        length: roll.length() as u32,
+    })
+}
+
 /// A look at a keeper.
-#[derive(Clone, Copy)]
+#[derive(Drop)]
 pub struct KeeperView<'a> {
     keeper: &'a Keeper,
 }
 
+impl<'a> Model for KeeperView<'a> {
+    ghost use Rattle.history.specs.Kept.{Kept};
+
+    ghost Value = { Kept };
+
+    ghost view = { λ v. v.keeper.now };
+}
+
 impl<'a> KeeperView<'a> {
     /// The machine.
-    pub fn machine(&self) -> View<'a> {
+    pub fn machine(&self) -> View<'a>
+        ensures shown { plain_of result ≡ machine_of self.now.state }
+        ensures sizes { of_sizes result.sizes ≡ self.now.state.limits }
+        ensures well { IsFor (self.now.state.last + 1) result }
+        ensures turns { result.turns ≡ self.now.turns }
+    {
         let keeper = self.keeper;
         keeper.roll.machine().view()
     }
 
     /// How many steps stand.
-    pub fn cursor(&self) -> u32 {
-        self.keeper.roll.cursor() as u32
+    pub fn cursor(&self) -> u32
+        ensures { result ≡ self.now.state.cursor }
+    {
+        let keeper = self.keeper;
+        keeper.roll.cursor() as u32
     }
 
     /// How many steps the line has.
-    pub fn length(&self) -> u32 {
-        self.keeper.roll.length() as u32
+    pub fn length(&self) -> u32
+        ensures { result ≡ length self.now.state.line }
+    {
+        let keeper = self.keeper;
+        keeper.roll.length() as u32
     }
 
     /// The last serial that was given.
-    pub fn last_serial(&self) -> u64 {
-        self.keeper.roll.last()
+    pub fn last_serial(&self) -> u64
+        ensures { result ≡ self.now.state.last }
+    {
+        let keeper = self.keeper;
+        keeper.roll.last()
     }
 
     /// Whether the host is held.
-    pub fn held(&self) -> bool {
-        self.keeper.held
+    pub fn held(&self) -> bool
+        ensures { result ≡ self.now.state.held }
+    {
+        let keeper = self.keeper;
+        keeper.held
     }
 }

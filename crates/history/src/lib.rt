@@ -1,10 +1,13 @@
 #![tactic(auto)]
 //! The keeper: a machine whose every step can be undone and redone exactly.
 
-mod call;
-mod keeper;
-mod roll;
 
-pub use call::Call;
-pub use keeper::{Keeper, KeeperView, RunStop};
-pub use roll::Stamped;
+mod keeper;
+mod moves;
+mod roll;
+mod run;
+
+pub use plain_machine::{Call, Stamped};
+pub use keeper::{Keeper, KeeperView};
+pub use run::RunStop;
+

@@ -1,0 +1,68 @@
+-- Without room in the history no step is accepted.
+use Rattle.std.proofs.Common.{◌≡◌, ℕ, List, [], ◌∷◌, ◌++◌, Option, Some, None, Bool, true, false, cond, refl, sym, ap, subst}
+use Rattle.sector_core.specs.First.{first_of}
+use Rattle.sector_core.specs.declared.bio.Outcome.{Outcome}
+use Rattle.sector_core.specs.declared.bio.Bio.{Bio}
+use Rattle.change_record.specs.Machine.{Plain, Flight, WholeRequest}
+use Rattle.plain_machine.specs.declared.answer.Answer.{Answer}
+use Rattle.plain_machine.specs.declared.step.Step.{Step}
+use Rattle.plain_machine.specs.declared.step.Step.TheVariants.{Attach, Submit, Reap, Dispatch, Finish}
+use Rattle.plain_machine.specs.declared.answer.Code.TheVariants.{BadSeat, SeatTaken, NoGroup, BadPrio, BadCount, BadLength, OutOfRange, TooManyBios, NothingOwed, BadTag, NotInFlight, BadOutcome, HistoryFull}
+use Rattle.plain_machine.specs.declared.answer.Cause.TheVariants.{RequestsFull}
+use Rattle.plain_machine.specs.declared.answer.Answer.TheVariants.{Refused, NotYet}
+use Rattle.std.specs.Prelude.{◌+◌, ◌==◌, nat_le, nat_lt, not, ◌||◌, is_some, length}
+use Rattle.plain_machine.specs.Step.{Limits, Outcome_of, unless, accepted, seat_tests, payload_length, unreaped, queued, in_flight, fits, size_of, finished, submitted, attach, reaped, sent, dispatch_to, next_queue, lowest_free, finish_of, step, IsAccepted}
+
+-- no test of the list accepts
+abbrev AllRefuse : List (Bool × Answer) → Type 0
+AllRefuse [] = Unit {0}
+AllRefuse (x ∷ xs) = (IsAccepted x.1 → ⊥) × AllRefuse xs
+
+-- where every test refuses, what follows them does not accept either
+refuses : (tests : List (Bool × Answer)) (m : Plain) (o : Outcome_of) → AllRefuse tests → (IsAccepted o.1 → ⊥) → IsAccepted (unless tests m o).1 → ⊥
+refuses [] m o h none = none
+refuses (x ∷ xs) m o h none =
+    elim x.0 as (λ b. IsAccepted (elim (cond b (Some x.1) (first_of xs)) as (λ _. Outcome_of) [ None ↦ o | Some answer ↦ (m, answer) ]).1 → ⊥) [
+      | true ↦ h.0
+      | false ↦ refuses xs m o h.1 none
+    ]
+
+no_reap : (m : Plain) (seat : ℕ) (bios : List Bio) → IsAccepted (reaped false m seat bios).1 → ⊥
+no_reap m seat [] h = h
+no_reap m seat (bio ∷ bios) h = h
+
+no_send : (m : Plain) (n seat tag : ℕ) (requests : List WholeRequest) → IsAccepted (sent m n false seat tag requests).1 → ⊥
+no_send m n seat tag [] h = h
+no_send m n seat tag (r ∷ rs) h = h
+
+no_dispatch : (m : Plain) (n : ℕ) (seat tag : Option ℕ) → IsAccepted (dispatch_to m n false seat tag).1 → ⊥
+no_dispatch m n None tag h = h
+no_dispatch m n (Some seat) None h = h
+no_dispatch m n (Some seat) (Some tag) h = no_send m n seat tag (m.queue seat) h
+
+no_finish : (m : Plain) (tag issue : ℕ) (outcome : Outcome) (f : Option Flight) → IsAccepted (finish_of m false tag issue outcome f).1 → ⊥
+no_finish m tag issue outcome None h = h
+no_finish m tag issue outcome (Some f) h = refuses (
+    (not (f.issue == issue), Refused NotInFlight)
+    ∷ (not (fits f.request.op (size_of f.request.bios) outcome), Refused BadOutcome)
+    ∷ []) m (finished m false tag outcome f.request) ((λ h. h), ((λ h. h), tt)) (λ h. h) h
+
+pub no_room : (l : Limits) (m : Plain) (n : ℕ) (s : Step) → IsAccepted (step l m n false s).1 → ⊥
+no_room l m n (Attach seat group prio) h = refuses (
+    (nat_le 16 seat, Refused BadSeat)
+    ∷ (is_some (m.seat seat), Refused SeatTaken)
+    ∷ (not (group == 0), Refused NoGroup)
+    ∷ (nat_lt 7 prio, Refused BadPrio)
+    ∷ []) m (m, Refused HistoryFull) ((λ h. h), ((λ h. h), ((λ h. h), ((λ h. h), tt)))) (λ h. h) h
+no_room l m n (Submit seat session op range payload) h = refuses (seat_tests m seat session ++ (
+    (range.count == 0 || nat_lt 64 range.count, Refused BadCount)
+    ∷ (not (length payload == payload_length op range.count), Refused BadLength)
+    ∷ (nat_lt l.sectors (range.start + range.count), Refused OutOfRange)
+    ∷ (nat_le 32 (unreaped m seat), Refused TooManyBios)
+    ∷ (nat_le l.requests (queued m + in_flight l m), NotYet RequestsFull)
+    ∷ [])) m (m, Refused HistoryFull) ((λ h. h), ((λ h. h), ((λ h. h), ((λ h. h), ((λ h. h), ((λ h. h), ((λ h. h), ((λ h. h), tt)))))))) (λ h. h) h
+no_room l m n (Reap seat session) h = refuses (seat_tests m seat session ++ (
+    (unreaped m seat == 0, Refused NothingOwed)
+    ∷ [])) m (reaped false m seat (m.outbox seat)) ((λ h. h), ((λ h. h), ((λ h. h), ((λ h. h), tt)))) (no_reap m seat (m.outbox seat)) h
+no_room l m n Dispatch h = no_dispatch m n (next_queue m) (lowest_free l m) h
+no_room l m n (Finish tag issue outcome) h = refuses ((nat_le l.tags tag, Refused BadTag) ∷ []) m (finish_of m false tag issue outcome (m.flight tag)) ((λ h. h), tt) (no_finish m tag issue outcome (m.flight tag)) h

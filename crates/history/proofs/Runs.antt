@@ -1,0 +1,12 @@
+-- A run of calls, one more at its end.
+use Rattle.std.proofs.Common.{◌≡◌, List, [], ◌∷◌, ◌++◌, refl, sym, subst}
+use Rattle.plain_machine.specs.declared.call.Call.{Call}
+use Rattle.plain_machine.specs.declared.answer.Answer.{Answer}
+use Rattle.plain_machine.specs.Keeper.{State, MayCall, MayRun}
+
+pub run-more : (k mid next : State) (calls : List Call) (answers : List Answer) (call : Call) (answer : Answer)
+    → MayRun k calls answers mid → MayCall mid call answer next → MayRun k (calls ++ call ∷ []) (answers ++ answer ∷ []) next
+run-more k mid next [] [] call answer h c = let P : State → Type 0 = λ s. MayCall s call answer next in (next, subst P h c, refl)
+run-more k mid next [] (a ∷ answers) call answer h c = absurd h
+run-more k mid next (x ∷ calls) [] call answer h c = absurd h
+run-more k mid next (x ∷ calls) (a ∷ answers) call answer h c = (h.0, h.1, run-more h.0 mid next calls answers call answer h.2 c)

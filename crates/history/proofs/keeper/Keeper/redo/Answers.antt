@@ -1,0 +1,42 @@
+use Rattle.std.proofs.Common.{true, false, Bool, ◌≡◌, ℕ, zero, suc, ◌+◌, ◌-◌, ◌<◌, ◌≤◌, ◌==◌, nat_lt, List, [], ◌∷◌, ◌++◌, length, take, refl, sym, ap, ◌∙◌, subst, arith, rules}
+use Rattle.plain_machine.specs.declared.call.Call.TheVariants.{Do, Hold, Release, Undo, Redo}
+use Rattle.plain_machine.specs.declared.answer.Answer.TheVariants.{Accepted, Refused, NotYet}
+use Rattle.plain_machine.specs.declared.answer.Reply.TheVariants.{Moved, Done}
+use Rattle.plain_machine.specs.Keeper.{State, MayCall}
+use Rattle.history.specs.Keeping.{state_of}
+use Rattle.plain_machine.specs.Step.{of_sizes}
+use Rattle.history.proofs.Calls.{keeper-more, redo-done}
+use Rattle.history.proofs.keeper.Keeper.redo.Goals as goal
+
+pub invariant_of-self-2 : goal.invariant_of-self-2
+invariant_of-self-2 c =
+    let i = c.self.inside in
+    let r = i.roll in
+    let n : ℕ = c.args.k in
+    let k : State = state_of r i.held i.journal.items i.most in
+    let now : c.push_within.new.items.items ≡ i.journal.items ++ Redo n ∷ [] = c.push_within.ensures.items ∙ ap (λ l. l ++ Redo n ∷ []) c.reserved.ensures.items in
+    let room : nat_lt (length i.journal.items) i.most ≡ true = sym c.has_room.ensures ∙ c.if-not-has_room.false in
+    let at = c.cursor.ensures.cursor in
+    let long = c.length.ensures in
+    let few = c.if-length-end.false in
+    let positive = c.if-k-eq0.false in
+    let enough : nat_lt (length r.steps) (r.cursor + n) ≡ false = search (rules, at, long, few) in
+    let some : (n == 0) ≡ false = search (rules, positive) in
+    let has = c.reserved.ensures.room c.if-not-reserved.false in
+    let e = c.in-Ok.ensures in
+    let cursor = e.cursor in
+    let steps = ap length e.steps in
+    let last = e.last in
+    let len = c.push_within.ensures.len in
+    let capacity = c.push_within.ensures.capacity in
+    keeper-more r c.redo_steps.new.roll i.held i.held i.journal.items _ _ _ i.most (Redo n) (Accepted (Moved (r.cursor + n) (length r.steps))) _ _ c.self.invariant e.sizes now room
+        (omega (arith, at, cursor, has, len, capacity)) (omega (arith, steps)) (omega (arith, last))
+        ((λ j. (record {
+          limits = of_sizes (e.sizes j);
+          most = i.most;
+          line = e.steps j;
+          cursor = e.cursor j;
+          held = i.held;
+          last = e.last j;
+          journal = now j
+        }, Accepted (Moved (r.cursor + n) (length r.steps)))) ∙ sym (redo-done k n c.if-not-self.false some enough room))

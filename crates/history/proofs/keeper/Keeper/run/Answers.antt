@@ -1,0 +1,19 @@
+use Rattle.std.proofs.Common.{◌≡◌, ℕ, ◌+◌, List, [], ◌∷◌, ◌++◌, take, refl, sym, ap, ◌∙◌, subst}
+use Rattle.std.proofs.lemmas.List.{take_more}
+use Rattle.plain_machine.specs.Keeper.{MayRun}
+use Rattle.plain_machine.specs.declared.call.Call.{Call}
+use Rattle.plain_machine.specs.declared.answer.Answer.{Answer}
+use Rattle.history.proofs.Runs.{run-more}
+use Rattle.history.proofs.keeper.Keeper.run.Goals as goal
+
+pub loop-made-preserved : goal.loop-made-preserved
+loop-made-preserved c =
+    let calls = c.args.calls.now in
+    let made : ℕ = c.loop-made.made in
+    let call = c.index-calls-made.result in
+    let P : List Call → Type 0 = λ l. MayRun c.args.self.now.state l c.push_within.new.items.items c.call.new.self.state in
+    let Q : List Answer → Type 0 = λ l. MayRun c.args.self.now.state (take made calls ++ call ∷ []) l c.call.new.self.state in
+    let now : c.push_within.new.items.items ≡ c.loop-made.answers.items ++ c.call.result ∷ [] = c.push_within.ensures.items ∙ ap (λ l. l ++ c.call.result ∷ []) c.reserve.ensures.items in
+    let cut : take (made + 1) calls ≡ take made calls ++ call ∷ [] = take_more calls made call c.loop-made-test.true ∙ ap (λ x. take made calls ++ x ∷ []) (sym c.index-calls-made.is) in
+    subst P (sym cut) (subst Q (sym now) (run-more c.args.self.now.state c.loop-made.self.state c.call.new.self.state (take made calls) c.loop-made.answers.items call c.call.result
+        c.loop-made.invariant c.call.ensures.may))

@@ -1,0 +1,12 @@
+use Rattle.std.proofs.Common.{◌≡◌, ◌+◌, ◌-◌, ◌≤◌}
+use Rattle.history.specs.Turns.{changes_of, MakesTurns}
+use Rattle.history.proofs.moves.undo_steps.Given as goal
+
+abbrev pub invariant-loop : goal.invariant-loop
+invariant-loop l =
+    (l.roll.sizes ≡ l.fn.roll.sizes)
+    × (l.roll.steps ≡ l.fn.roll.steps)
+    × (l.roll.cursor ≡ l.fn.roll.cursor - l.counter)
+    × (l.roll.last ≡ l.fn.roll.last)
+    × (l.roll.lengths ≡ l.fn.roll.lengths)
+    × MakesTurns l.fn.roll.turns (changes_of l.fn.roll.lengths (l.fn.roll.cursor - l.counter) l.counter) l.roll.turns

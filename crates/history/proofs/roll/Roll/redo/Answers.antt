@@ -1,0 +1,32 @@
+use Rattle.std.proofs.Common.{◌≡◌, ℕ, zero, suc, ◌+◌, ◌-◌, ◌<◌, ◌≤◌, List, [], ◌∷◌, ◌++◌, length, take, set, refl, sym, ap, ◌∙◌, subst, arith}
+use Rattle.std.proofs.Common.{map}
+use Rattle.std.proofs.Math.Seq.{map-set_same}
+use Rattle.change_record.specs.Tape.{step_at}
+use Rattle.change_record.specs.Exchange.{forth_left}
+use Rattle.change_record.proofs.Exchanges.{length-forth_left}
+use Rattle.history.proofs.Ways.{same-line, redo-line, next-waits}
+use Rattle.history.specs.Line.{IsLine}
+use Rattle.history.proofs.roll.Roll.redo.Goals as goal
+
+pub forth-requires-clause-puts : goal.forth-requires-clause-puts
+forth-requires-clause-puts c =
+    let i = c.self.inside in
+    let lt : i.cursor < length i.line.items = subst (λ v. v.cursor < length v.steps) (sym c.self.view_is) c.requires in
+    (next-waits i.line.items i.cursor i.last i.machine.sizes i.machine.tables i.tape.steps i.tape.current lt c.self.invariant).puts
+
+pub invariant_of-self : goal.invariant_of-self
+invariant_of-self c =
+    let i = c.self.inside in
+    let lt : i.cursor < length i.line.items = subst (λ v. v.cursor < length v.steps) (sym c.self.view_is) c.requires in
+    let P : ℕ → Type 0 = λ n. IsLine i.line.items n i.last c.forth.new.self.sizes c.forth.new.self.tables c.forth.new.tape.steps c.forth.new.tape.current in
+    let e = c.in-Ok.ensures in
+    subst P (omega arith) (same-line i.line.items (suc i.cursor) i.last _ _ _ _ _ _ _ _ e.sizes e.tables e.steps e.current
+        (redo-line i.line.items i.cursor i.last i.machine.sizes i.machine.tables i.tape.steps i.tape.current lt c.self.invariant))
+
+pub returns-in-Ok-clause-lengths : goal.returns-in-Ok-clause-lengths
+returns-in-Ok-clause-lengths c =
+    let i = c.self.inside in
+    let k : ℕ = i.cursor in
+    ap (map length) c.in-Ok.ensures.steps
+    ∙ map-set_same length i.tape.steps k (forth_left (step_at i.tape.steps k) i.machine.tables) [] (length-forth_left (step_at i.tape.steps k) i.machine.tables)
+    ∙ ap (λ v. v.lengths) c.self.view_is

@@ -1,0 +1,8 @@
+pub mod Line
+pub mod Roll
+pub mod Kept
+pub mod Turns
+pub mod Keeping
+pub use Rattle.plain_machine.specs.Keeper
+pub use Rattle.plain_machine.specs.Step
+pub use Rattle.change_record.specs.Machine

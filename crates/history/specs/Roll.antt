@@ -1,0 +1,50 @@
+-- The line of steps and the machine of those before the cursor, as a keeper sees them.
+use Rattle.std.specs.Prelude.{◌≡◌, ℕ, ◌+◌, ◌-◌, Bool, List, [], ◌∷◌, ◌++◌, take, IsTrue, ◌⊎◌}
+use Rattle.change_record.specs.Machine.{Plain}
+use Rattle.plain_machine.specs.declared.sizes.Sizes.{Sizes}
+use Rattle.plain_machine.specs.declared.step.Step.{Step}
+use Rattle.plain_machine.specs.declared.call.Stamped.{Stamped}
+use Rattle.plain_machine.specs.declared.answer.Answer.{Answer}
+use Rattle.plain_machine.specs.declared.answer.Answer.TheVariants.{Accepted, Refused, NotYet}
+use Rattle.plain_machine.specs.declared.answer.Code.TheVariants.{OutOfMemory}
+use Rattle.plain_machine.specs.Step.{Limits, of_sizes, step, IsAccepted}
+use Rattle.plain_machine.specs.Keeper.{fold}
+
+pub record Line : Type 0 where
+  pub sizes : Sizes
+  pub steps : List Stamped
+  pub cursor : ℕ
+  pub last : ℕ
+  -- how many exchanges each step's list has, and how many were made
+  pub lengths : List ℕ
+  pub turns : ℕ
+
+-- the machine of the steps that stand
+abbrev pub plain_at : Line → Plain
+plain_at r = fold (of_sizes r.sizes) (take r.cursor r.steps)
+
+-- the line is the same
+pub record SameLine (old new : Line) : Type 0 where
+  pub sizes : new.sizes ≡ old.sizes
+  pub steps : new.steps ≡ old.steps
+  pub cursor : new.cursor ≡ old.cursor
+  pub last : new.last ≡ old.last
+
+-- an accepted step cuts the line at the cursor and is its last, under the next serial
+pub record AddsStep (old : Line) (s : Step) (new : Line) : Type 0 where
+  pub sizes : new.sizes ≡ old.sizes
+  pub steps : new.steps ≡ take old.cursor old.steps ++ record { serial = old.last + 1; step = s } ∷ []
+  pub cursor : new.cursor ≡ old.cursor + 1
+  pub last : new.last ≡ old.last + 1
+
+-- what the line is after the plain step's answer
+abbrev pub LineAfter : Line → Step → Answer → Line → Type 0
+LineAfter old s (Accepted reply) new = AddsStep old s new
+LineAfter old s (Refused code) new = SameLine old new
+LineAfter old s (NotYet cause) new = SameLine old new
+
+-- the answer is the plain step's, and so is the line; or memory was wanting where the plain step accepts, and the line is the same
+abbrev pub MayStep : Line → Bool → Step → Answer → Line → Type 0
+MayStep old room s answer new =
+    ((answer ≡ (step (of_sizes old.sizes) (plain_at old) (old.last + 1) room s).1) × LineAfter old s answer new)
+    ⊎ (IsAccepted (step (of_sizes old.sizes) (plain_at old) (old.last + 1) room s).1 × (answer ≡ Refused OutOfMemory) × SameLine old new)

@@ -1,0 +1,28 @@
+-- How many exchanges an undo and a redo make: as many as the lists of their steps are long, and no more.
+use Rattle.std.specs.Prelude.{◌≡◌, ℕ, zero, suc, ◌+◌, ◌-◌, ◌%◌, ◌^◌, List, take, drop, slice_index_or}
+use Rattle.std.specs.List.{sum}
+use Rattle.plain_machine.specs.declared.call.Call.{Call}
+use Rattle.plain_machine.specs.declared.call.Call.TheVariants.{Do, Hold, Release, Undo, Redo}
+use Rattle.plain_machine.specs.declared.answer.Answer.{Answer}
+use Rattle.plain_machine.specs.declared.answer.Answer.TheVariants.{Accepted, Refused, NotYet}
+use Rattle.history.specs.Kept.{Kept}
+
+-- the changes of so many steps from a number on
+abbrev pub changes_of : List ℕ → ℕ → ℕ → ℕ
+changes_of lengths from count = sum (take count (drop from lengths))
+
+-- the counter wraps at 2^64
+abbrev pub MakesTurns : ℕ → ℕ → ℕ → Type 0
+MakesTurns old count new = new % 2 ^ 64 ≡ (old + count) % 2 ^ 64
+
+-- an accepted Undo or Redo makes exactly the exchanges of its steps, and leaves each list as long as it is
+abbrev pub Turns : Kept → Call → Answer → Kept → Type 0
+Turns old (Undo n) (Accepted reply) new = MakesTurns old.turns (changes_of old.lengths (old.state.cursor - n) n) new.turns × (new.lengths ≡ old.lengths)
+Turns old (Redo n) (Accepted reply) new = MakesTurns old.turns (changes_of old.lengths old.state.cursor n) new.turns × (new.lengths ≡ old.lengths)
+Turns old (Undo n) (Refused code) new = (new.turns ≡ old.turns) × (new.lengths ≡ old.lengths)
+Turns old (Redo n) (Refused code) new = new.lengths ≡ old.lengths
+Turns old (Undo n) (NotYet cause) new = Unit {0}
+Turns old (Redo n) (NotYet cause) new = Unit {0}
+Turns old (Do s) answer new = Unit {0}
+Turns old Hold answer new = (new.turns ≡ old.turns) × (new.lengths ≡ old.lengths)
+Turns old Release answer new = (new.turns ≡ old.turns) × (new.lengths ≡ old.lengths)
