@@ -10,7 +10,7 @@ use sector_core::Config;
 use std::alloc::Global;
 use std::io::{Read, Write};
 
-/// Runs the lines of the reader in turn on a new keeper over an image of zero sectors, and writes what each prints
+/// Runs the lines of the reader in turn on a new keeper over an image of `sectors` zero sectors, and writes what each prints
 /// before the next runs. The writer is not flushed.
 pub fn run_script<R: Read, W: Write>(
     alloc: Global,

@@ -108,7 +108,7 @@ module _ (l : Limits) (m : Plain) (n : ℕ) (room : Bool) where
 
   pub dispatch_goes : (seat tag : ℕ) (r : WholeRequest) (rs : List WholeRequest) → next_queue m ≡ Some seat → lowest_free l m ≡ Some tag → m.queue seat ≡ r ∷ rs
       → dispatch l m n room ≡ accepted room m (record m { queue = put m.queue seat rs; flight = put m.flight tag (Some (record { issue = n; request = r })); served = seat })
-          (Issued tag n r.op (range_of r.bios))
+      (Issued tag n r.op (range_of r.bios))
   dispatch_goes seat tag r rs next lowest first =
       ap (λ q. dispatch_to m n room q (lowest_free l m)) next ∙ ap (dispatch_to m n room (Some seat)) lowest ∙ ap (sent m n room seat tag) first
 
@@ -159,15 +159,18 @@ module _ (l : Limits) (m : Plain) (room : Bool) (tag issue : ℕ) (outcome : Out
   after_finish r = record m {
     overlay = after_outcome outcome m.overlay r.bios;
     outbox = delivered m.seat m.outbox r.session (completed outcome m.overlay r.bios);
-    flight = put m.flight tag None
+    flight = put m.flight tag None;
   }
 
   module _ (f : Flight) (here : m.flight tag ≡ Some f) (same : f.issue ≡ issue) (good : fits f.request.op (size_of f.request.bios) outcome ≡ true) where
-    pub finish_does : room ≡ true → finish l m room tag issue outcome ≡ (record m {
+    pub finish_does : room ≡ true → finish l m room tag issue outcome ≡ (
+      record m {
         overlay = after_outcome outcome m.overlay f.request.bios;
         outbox = delivered m.seat m.outbox f.request.session (completed outcome m.overlay f.request.bios);
-        flight = put m.flight tag None
-      }, Accepted (Finished (length f.request.bios)))
+        flight = put m.flight tag None;
+      },
+      Accepted (Finished (length f.request.bios)),
+    )
     unfolding after_finish
     finish_does e = finish_goes f here same good ∙ ap (λ b. accepted b m (after_finish f.request) (Finished (length f.request.bios))) e
 

@@ -51,5 +51,5 @@ request_ready l n t tag issue slot seat entry request outcome w can good = recor
       let waits = (w.kept.request slot request can.here).bios k d lt in
       let P : Bio → Type 0 = λ b. HasPayload outcome b in
       subst P (same_bio _ waits.bio bio waits.here here) (payload_there request.op (total_count t.bios request.bios.items) outcome waits.bio good waits.payload);
-  bytes = bytes_there request.op (total_count t.bios request.bios.items) outcome good
+  bytes = bytes_there request.op (total_count t.bios request.bios.items) outcome good;
 }

@@ -25,7 +25,7 @@ WellFormed-later l n t w = record {
   seated = record {
     early = λ k s e. let h = w.seated.early k s e in omega arith;
     apart = w.seated.apart;
-    counted = w.seated.counted
+    counted = w.seated.counted;
   };
   kept = w.kept;
   placed = record {
@@ -36,15 +36,15 @@ WellFormed-later l n t w = record {
       here = q.here;
       entry = q.entry;
       sits = q.sits;
-      session = q.session
+      session = q.session;
     };
     apart = w.placed.apart;
     tag = λ tag issue e. let h = w.placed.tag tag issue e in (omega (arith, h.0), h.1);
     once = w.placed.once;
-    counted = w.placed.counted
+    counted = w.placed.counted;
   };
   first = let h = w.first in omega arith;
-  served = w.served
+  served = w.served;
 }
 
 length-with_bios : (table : List (Option Bio)) (slots : List ℕ) (bios : List Bio) → length (with_bios table slots bios) ≡ length table
@@ -55,31 +55,40 @@ length-with_bios table (slot ∷ slots) (bio ∷ bios) = length-with_bios (set t
 pub attached-well : (l : Limits) (n : ℕ) (t : Tables) (seat group prio : ℕ) → WellFormed l n t → CanAttach t seat → WellFormed l (n + 1) (attached_tables t n seat group prio)
 attached-well l n t seat group prio w can = record {
   sized = record {
-    requests = w.sized.requests; bios = w.sized.bios; tags = w.sized.tags; links = w.sized.links; outboxes = w.sized.outboxes;
+    requests = w.sized.requests;
+    bios = w.sized.bios;
+    tags = w.sized.tags;
+    links = w.sized.links;
+    outboxes = w.sized.outboxes;
     seats = length-set t.seats seat _ ∙ w.sized.seats;
-    few_tags = w.sized.few_tags; small_image = w.sized.small_image
+    few_tags = w.sized.few_tags;
+    small_image = w.sized.small_image;
   };
   seated = attached-seated l n t seat group prio w can;
   kept = attached-kept l n t seat group prio w can;
   placed = attached-placed l n t seat group prio w can;
   first = let h = w.first in omega arith;
-  served = w.served
+  served = w.served;
 }
 
 pub submitted-well : (l : Limits) (n : ℕ) (t : Tables) (seat : ℕ) (entry : Seat) (slot place session : ℕ) (op : Op) (range : Range) (payload : List ℕ)
     → WellFormed l n t → CanSubmit l t seat entry slot place session op range payload → WellFormed l (n + 1) (submitted_tables t n seat entry slot place session op range payload)
 submitted-well l n t seat entry slot place session op range payload w can = record {
   sized = record {
-    requests = length-set t.requests slot _ ∙ w.sized.requests; bios = length-set t.bios place _ ∙ w.sized.bios; tags = w.sized.tags;
-    links = length-set t.links slot _ ∙ w.sized.links; outboxes = w.sized.outboxes;
+    requests = length-set t.requests slot _ ∙ w.sized.requests;
+    bios = length-set t.bios place _ ∙ w.sized.bios;
+    tags = w.sized.tags;
+    links = length-set t.links slot _ ∙ w.sized.links;
+    outboxes = w.sized.outboxes;
     seats = length-set t.seats seat _ ∙ w.sized.seats;
-    few_tags = w.sized.few_tags; small_image = w.sized.small_image
+    few_tags = w.sized.few_tags;
+    small_image = w.sized.small_image;
   };
   seated = submitted-seated l n t seat entry slot place session op range payload w can;
   kept = submitted-kept l n t seat entry slot place session op range payload w can;
   placed = submitted-placed l n t seat entry slot place session op range payload w can;
   first = let h = w.first in omega arith;
-  served = w.served
+  served = w.served;
 }
 
 pub submitted-meaning : (l : Limits) (n : ℕ) (t : Tables) (seat : ℕ) (entry : Seat) (slot place session : ℕ) (op : Op) (range : Range) (payload : List ℕ)
@@ -91,37 +100,46 @@ submitted-meaning l n t seat entry slot place session op range payload w can i =
   queue = submitted-queue l n t seat entry slot place session op range payload w can i;
   outbox = submitted-outbox l n t seat entry slot place session op range payload w can i;
   flight = submitted-flight l n t seat entry slot place session op range payload w can i;
-  served = t.served
+  served = t.served;
 }
 
 pub reaped-well : (l : Limits) (n : ℕ) (t : Tables) (seat : ℕ) (entry : Seat) (place : ℕ) (rest : List ℕ) (bio : Bio) → WellFormed l n t → CanReap t seat entry place rest bio
     → WellFormed l (n + 1) (reaped_tables t seat entry place rest)
 reaped-well l n t seat entry place rest bio w can = record {
   sized = record {
-    requests = w.sized.requests; bios = length-set t.bios place _ ∙ w.sized.bios; tags = w.sized.tags; links = w.sized.links;
+    requests = w.sized.requests;
+    bios = length-set t.bios place _ ∙ w.sized.bios;
+    tags = w.sized.tags;
+    links = w.sized.links;
     outboxes = length-set t.outboxes seat _ ∙ w.sized.outboxes;
     seats = length-set t.seats seat _ ∙ w.sized.seats;
-    few_tags = w.sized.few_tags; small_image = w.sized.small_image
+    few_tags = w.sized.few_tags;
+    small_image = w.sized.small_image;
   };
   seated = reaped-seated l n t seat entry place rest bio w can;
   kept = reaped-kept l n t seat entry place rest bio w can;
   placed = reaped-placed l n t seat entry place rest bio w can;
   first = let h = w.first in omega arith;
-  served = w.served
+  served = w.served;
 }
 
 pub sent-well : (l : Limits) (n : ℕ) (t : Tables) (seat slot tag : ℕ) (request : Request) → WellFormed l n t → CanSend l t seat slot tag request → WellFormed l (n + 1) (sent_tables t n seat slot tag)
 sent-well l n t seat slot tag request w can = record {
   sized = record {
-    requests = w.sized.requests; bios = w.sized.bios; tags = length-set t.tags tag _ ∙ w.sized.tags; links = length-set t.links slot _ ∙ w.sized.links;
-    outboxes = w.sized.outboxes; seats = w.sized.seats;
-    few_tags = w.sized.few_tags; small_image = w.sized.small_image
+    requests = w.sized.requests;
+    bios = w.sized.bios;
+    tags = length-set t.tags tag _ ∙ w.sized.tags;
+    links = length-set t.links slot _ ∙ w.sized.links;
+    outboxes = w.sized.outboxes;
+    seats = w.sized.seats;
+    few_tags = w.sized.few_tags;
+    small_image = w.sized.small_image;
   };
   seated = sent-seated l n t seat slot tag request w can;
   kept = sent-kept l n t seat slot tag request w can;
   placed = sent-placed l n t seat slot tag request w can;
   first = let h = w.first in omega arith;
-  served = can.within
+  served = can.within;
 }
 
 pub finished-well : (l : Limits) (n : ℕ) (t : Tables) (tag issue slot seat : ℕ) (entry : Seat) (request : Request) (outcome : Outcome) → WellFormed l n t → CanFinish t tag issue slot seat entry request
@@ -130,59 +148,60 @@ finished-well l n t tag issue slot seat entry request outcome w can = record {
   sized = record {
     requests = length-set t.requests slot _ ∙ w.sized.requests;
     bios = length-with_bios t.bios request.bios.items _ ∙ w.sized.bios;
-    tags = length-set t.tags tag _ ∙ w.sized.tags; links = w.sized.links;
+    tags = length-set t.tags tag _ ∙ w.sized.tags;
+    links = w.sized.links;
     outboxes = length-set t.outboxes seat _ ∙ w.sized.outboxes;
     seats = w.sized.seats;
-    few_tags = w.sized.few_tags; small_image = w.sized.small_image
+    few_tags = w.sized.few_tags;
+    small_image = w.sized.small_image;
   };
   seated = finished-seated l n t tag issue slot seat entry request outcome w can;
   kept = finished-kept l n t tag issue slot seat entry request outcome w can;
   placed = finished-placed l n t tag issue slot seat entry request outcome w can;
   first = let h = w.first in omega arith;
-  served = w.served
+  served = w.served;
 }
-
 
 pub reaped-meaning : (l : Limits) (n : ℕ) (t : Tables) (seat : ℕ) (entry : Seat) (place : ℕ) (rest : List ℕ) (bio : Bio) → WellFormed l n t → CanReap t seat entry place rest bio
     → meaning (reaped_tables t seat entry place rest) ≡ record (meaning t) {
-        seat = put (meaning t).seat seat (option_map (with_unreaped (unreaped (meaning t) seat - 1)) ((meaning t).seat seat));
-        outbox = put (meaning t).outbox seat (bios_at t.bios rest)
-      }
+      seat = put (meaning t).seat seat (option_map (with_unreaped (unreaped (meaning t) seat - 1)) ((meaning t).seat seat));
+      outbox = put (meaning t).outbox seat (bios_at t.bios rest);
+    }
 reaped-meaning l n t seat entry place rest bio w can i = record {
   overlay = t.overlay;
   seat = reaped-seat l n t seat entry place rest bio w can i;
   queue = reaped-queue l n t seat entry place rest bio w can i;
   outbox = reaped-outbox l n t seat entry place rest bio w can i;
   flight = reaped-flight l n t seat entry place rest bio w can i;
-  served = t.served
+  served = t.served;
 }
 
 pub sent-meaning : (l : Limits) (n : ℕ) (t : Tables) (seat slot tag : ℕ) (request : Request) → WellFormed l n t → CanSend l t seat slot tag request
     → meaning (sent_tables t n seat slot tag) ≡ record (meaning t) {
-        queue = put (meaning t).queue seat ((meaning (sent_tables t n seat slot tag)).queue seat);
-        flight = put (meaning t).flight tag (Some (record { issue = n; request = whole t request }));
-        served = seat
-      }
+      queue = put (meaning t).queue seat ((meaning (sent_tables t n seat slot tag)).queue seat);
+      flight = put (meaning t).flight tag (Some (record { issue = n; request = whole t request }));
+      served = seat;
+    }
 sent-meaning l n t seat slot tag request w can i = record {
   overlay = t.overlay;
   seat = (meaning t).seat;
   queue = sent-queue l n t seat slot tag request w can i;
   outbox = (meaning t).outbox;
   flight = sent-flight l n t seat slot tag request w can i;
-  served = seat
+  served = seat;
 }
 
 pub finished-meaning : (l : Limits) (n : ℕ) (t : Tables) (tag issue slot seat : ℕ) (entry : Seat) (request : Request) (outcome : Outcome) → WellFormed l n t → CanFinish t tag issue slot seat entry request
     → meaning (finished_tables t tag slot seat request.bios.items outcome) ≡ record (meaning t) {
-        overlay = after_outcome outcome t.overlay (bios_at t.bios request.bios.items);
-        outbox = delivered (meaning t).seat (meaning t).outbox request.session (completed outcome t.overlay (bios_at t.bios request.bios.items));
-        flight = put (meaning t).flight tag None
-      }
+      overlay = after_outcome outcome t.overlay (bios_at t.bios request.bios.items);
+      outbox = delivered (meaning t).seat (meaning t).outbox request.session (completed outcome t.overlay (bios_at t.bios request.bios.items));
+      flight = put (meaning t).flight tag None;
+    }
 finished-meaning l n t tag issue slot seat entry request outcome w can i = record {
   overlay = after_outcome outcome t.overlay (bios_at t.bios request.bios.items);
   seat = (meaning t).seat;
   queue = finished-queue l n t tag issue slot seat entry request outcome w can i;
   outbox = finished-outbox l n t tag issue slot seat entry request outcome w can i;
   flight = finished-flight l n t tag issue slot seat entry request outcome w can i;
-  served = t.served
+  served = t.served;
 }

@@ -39,4 +39,4 @@ shown_flight l n t tag issue r range w tagged here start count =
     let read : range ≡ record { start = first_start t.bios r.bios.items; count = total_count t.bios r.bios.items } = (λ i. record { start = start i; count = count i }) in
     let whole_range : range ≡ range_of (bios_at t.bios r.bios.items) = read ∙ sym (range_is t.bios r.bios.items (request_taken l n t issue.slot r w here)) in
     sym (ap (option_map (work_of tag)) (flight_borne t (at t.tags tag) issue r tagged here)
-        ∙ ap (λ (g : Range). let v : Work = record { tag = tag; issue = issue.issue; op = r.op; range = g } in Some v) (sym whole_range))
+    ∙ ap (λ (g : Range). let v : Work = record { tag = tag; issue = issue.issue; op = r.op; range = g } in Some v) (sym whole_range))

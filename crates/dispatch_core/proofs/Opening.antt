@@ -65,7 +65,7 @@ opening_is requests tags i = record {
   queue = fun_ext {f = (meaning (empty_tables requests tags)).queue} {g = λ _. []} (queue_empty requests tags) i;
   outbox = fun_ext {f = (meaning (empty_tables requests tags)).outbox} {g = λ _. []} (outbox_empty requests tags) i;
   flight = fun_ext {f = (meaning (empty_tables requests tags)).flight} {g = λ _. None} (flight_none requests tags) i;
-  served = 15
+  served = 15;
 }
 
 named_none : (requests tags slot : ℕ) → named (empty_tables requests tags) slot ≡ 0
@@ -85,28 +85,33 @@ both_none requests tags = omega (arith, none_taken Link requests, none_taken Iss
 pub opening-well : (sectors requests tags : ℕ) → sectors < 2 ^ 55 → tags ≤ 255 → WellFormed (record { sectors = sectors; requests = requests; tags = tags }) 1 (empty_tables requests tags)
 opening-well sectors requests tags small few = record {
   sized = record {
-    requests = length-replicate requests None; bios = refl; tags = length-replicate tags None;
-    links = length-replicate requests None; outboxes = refl; seats = refl;
-    few_tags = few; small_image = small
+    requests = length-replicate requests None;
+    bios = refl;
+    tags = length-replicate tags None;
+    links = length-replicate requests None;
+    outboxes = refl;
+    seats = refl;
+    few_tags = few;
+    small_image = small;
   };
   seated = record {
     early = λ k s e. absurd (none_some _ s (at-replicate 16 k) e);
     apart = λ j k a b e f same. absurd (none_some _ a (at-replicate 16 j) e);
-    counted = λ k h. ap (λ o. option_map_or (λ (s : Seat). s.unreaped) o 0) (at-replicate {A = Seat} 16 k) ∙ sym (seat_empty k)
+    counted = λ k h. ap (λ o. option_map_or (λ (s : Seat). s.unreaped) o 0) (at-replicate {A = Seat} 16 k) ∙ sym (seat_empty k);
   };
   kept = record {
     bio = λ k b e. absurd (none_some _ b (at-replicate 512 k) e);
     request = λ k r e. absurd (none_some _ r (at-replicate requests k) e);
     outbox = λ seat h. let P : List ℕ → Type 0 = λ xs. All (IsCompleted (replicate 512 None) seat) xs in subst P (sym (outbox-replicate 16 seat)) (All-nil (IsCompleted (replicate 512 None) seat));
-    once = λ slot. named_none requests tags slot ∙ sym (ap one (at-replicate {A = Bio} 512 slot))
+    once = λ slot. named_none requests tags slot ∙ sym (ap one (at-replicate {A = Bio} 512 slot));
   };
   placed = record {
     link = λ k x e. absurd (none_some _ x (at-replicate requests k) e);
     apart = λ i j a b e f same. absurd (none_some _ a (at-replicate requests i) e);
     tag = λ k x e. absurd (none_some _ x (at-replicate tags k) e);
     once = λ slot. borne_none requests tags slot ∙ sym (ap one (at-replicate {A = Request} requests slot));
-    counted = none_taken Request requests ∙ sym (both_none requests tags)
+    counted = none_taken Request requests ∙ sym (both_none requests tags);
   };
   first = omega arith;
-  served = omega arith
+  served = omega arith;
 }

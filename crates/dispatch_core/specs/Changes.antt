@@ -17,7 +17,7 @@ unreaped_at t seat = option_map_or (λ s. s.unreaped) (at t.seats seat) 0
 
 abbrev pub attached_tables : Tables → ℕ → ℕ → ℕ → ℕ → Tables
 attached_tables t n seat group prio = record t {
-  seats = slice_set t.seats seat (Some (record { session = n; group = group; prio = prio; unreaped = 0 }))
+  seats = slice_set t.seats seat (Some (record { session = n; group = group; prio = prio; unreaped = 0 }));
 }
 
 -- the bio goes into one slot, the request into another, and that slot to the end of the queue
@@ -26,21 +26,21 @@ submitted_tables t n seat entry slot place session op range payload = record t {
   bios = slice_set t.bios place (Some (record { serial = n; range = range; payload = payload; result = None }));
   requests = slice_set t.requests slot (Some (record { session = session; op = op; bios = record { items = place ∷ [] } }));
   links = slice_set t.links slot (Some (record { seat = seat; serial = n }));
-  seats = slice_set t.seats seat (Some (with_unreaped (entry.unreaped + 1) entry))
+  seats = slice_set t.seats seat (Some (with_unreaped (entry.unreaped + 1) entry));
 }
 
 abbrev pub reaped_tables : Tables → ℕ → Seat → ℕ → List ℕ → Tables
 reaped_tables t seat entry place rest = record t {
   outboxes = slice_set t.outboxes seat (record { items = rest });
   bios = slice_set t.bios place None;
-  seats = slice_set t.seats seat (Some (with_unreaped (entry.unreaped - 1) entry))
+  seats = slice_set t.seats seat (Some (with_unreaped (entry.unreaped - 1) entry));
 }
 
 abbrev pub sent_tables : Tables → ℕ → ℕ → ℕ → ℕ → Tables
 sent_tables t n seat slot tag = record t {
   links = slice_set t.links slot None;
   tags = slice_set t.tags tag (Some (record { issue = n; slot = slot }));
-  served = seat
+  served = seat;
 }
 
 -- the slots with these bios in them
@@ -55,5 +55,5 @@ finished_tables t tag slot seat slots outcome = record t {
   bios = with_bios t.bios slots (completed outcome t.overlay (bios_at t.bios slots));
   requests = slice_set t.requests slot None;
   tags = slice_set t.tags tag None;
-  outboxes = slice_set t.outboxes seat (record { items = outbox_at t.outboxes seat ++ slots })
+  outboxes = slice_set t.outboxes seat (record { items = outbox_at t.outboxes seat ++ slots });
 }

@@ -10,7 +10,16 @@ use change_record::{Change, Parts, Seat, Tape};
 use sector_core::OutOfMemory;
 
 /// The session is named by the step's serial; the root, 0, is the only group.
-pub fn run_attach(sizes: Sizes, parts: &mut Parts, tape: &mut Tape, serial: u64, room: bool, seat: u8, group: u8, prio: u8) -> Result<Answer, OutOfMemory>
+pub fn run_attach(
+    sizes: Sizes,
+    parts: &mut Parts,
+    tape: &mut Tape,
+    serial: u64,
+    room: bool,
+    seat: u8,
+    group: u8,
+    prio: u8,
+) -> Result<Answer, OutOfMemory>
     requires { WellFormed (of_sizes sizes) serial parts.old.tables }
     ensures answers { Answers (λ m. attach m serial room seat group prio) parts.old.tables result parts.new.tables }
     ensures leaves { IfOk result (λ answer. Leaves (of_sizes sizes) serial answer parts.old.tables tape.old.current parts.new.tables tape.new.current tape.new.spare) }
@@ -39,6 +48,12 @@ pub fn run_attach(sizes: Sizes, parts: &mut Parts, tape: &mut Tape, serial: u64,
         prio,
         unreaped: 0,
     };
-    tape.exchange(parts, Change::SeatEntry { seat, entry: Some(entry) });
+    tape.exchange(
+        parts,
+        Change::SeatEntry {
+            seat,
+            entry: Some(entry),
+        },
+    );
     Ok(Answer::Accepted(Reply::Attached { session: serial }))
 }

@@ -11,16 +11,22 @@ ghost use Rattle.dispatch_core.specs.WellFormed.{at};
 use bytes::Bytes;
 use change_record::{Change, Parts, Tape};
 use overlay::Overlay;
-use sector_core::{Bio, BioResult, Block, Outcome, OutOfMemory, Range, Slot};
+use sector_core::{Bio, BioResult, Block, OutOfMemory, Outcome, Range, Slot};
 use std::alloc::Global;
 
 /// Gives every bio in these slots its result, and stores the blocks of a store.
-pub fn complete(alloc: Global, parts: &mut Parts, tape: &mut Tape, slots: &[Slot], outcome: &Outcome) -> Result<(), OutOfMemory>
+pub fn complete(
+    alloc: Global,
+    parts: &mut Parts,
+    tape: &mut Tape,
+    slots: &[Slot],
+    outcome: &Outcome,
+) -> Result<(), OutOfMemory>
     requires ready { IsReady parts.old.tables.bios slots.now outcome.now }
     requires room { total_count parts.old.tables.bios slots.now + length slots.now ≤ tape.old.room }
     ensures tables { OnOk result (parts.new.tables ≡ record parts.old.tables {
-        overlay = after_outcome outcome.now parts.old.tables.overlay (bios_at parts.old.tables.bios slots.now);
-        bios = with_bios parts.old.tables.bios slots.now (completed outcome.now parts.old.tables.overlay (bios_at parts.old.tables.bios slots.now))
+      overlay = after_outcome outcome.now parts.old.tables.overlay (bios_at parts.old.tables.bios slots.now);
+      bios = with_bios parts.old.tables.bios slots.now (completed outcome.now parts.old.tables.overlay (bios_at parts.old.tables.bios slots.now));
     }) }
     ensures trail { KeepsTrail tape.old.current parts.old.tables tape.new.current parts.new.tables }
     ensures steps { tape.new.steps ≡ tape.old.steps }
@@ -32,7 +38,13 @@ pub fn complete(alloc: Global, parts: &mut Parts, tape: &mut Tape, slots: &[Slot
         let done = done_bio(alloc, parts, *slot, &rest)?;
         let count = done.range.count;
         put_blocks(parts, tape, &done, &rest)?;
-        tape.exchange(parts, Change::BioSlot { slot: *slot, bio: Some(done) });
+        tape.exchange(
+            parts,
+            Change::BioSlot {
+                slot: *slot,
+                bio: Some(done),
+            },
+        );
         rest = without_first(rest, count);
     }
     Ok(())
@@ -52,7 +64,12 @@ fn done_bio(alloc: Global, parts: &Parts, slot: Slot, outcome: &Outcome) -> Resu
 }
 
 // Puts the bio's blocks into the overlay, where the outcome is that of a store.
-fn put_blocks(parts: &mut Parts, tape: &mut Tape, bio: &Bio, outcome: &Outcome) -> Result<(), OutOfMemory>
+fn put_blocks(
+    parts: &mut Parts,
+    tape: &mut Tape,
+    bio: &Bio,
+    outcome: &Outcome,
+) -> Result<(), OutOfMemory>
     requires ends { bio.now.range.start + bio.now.range.count < 2 ^ 64 }
     requires long { HasPayload outcome.now bio.now }
     requires room { bio.now.range.count ≤ tape.old.room }
@@ -73,12 +90,22 @@ fn put_blocks(parts: &mut Parts, tape: &mut Tape, bio: &Bio, outcome: &Outcome) 
 }
 
 // The bio with its result.
-fn completed_bio(alloc: Global, overlay: &Overlay, bio: &Bio, outcome: &Outcome) -> Result<Bio, OutOfMemory>
+fn completed_bio(
+    alloc: Global,
+    overlay: &Overlay,
+    bio: &Bio,
+    outcome: &Outcome,
+) -> Result<Bio, OutOfMemory>
     requires { bio.now.range.start + bio.now.range.count < 2 ^ 64 }
     ensures { IfOk result (λ done. done ≡ record bio.now { result = Some (result_of outcome.now overlay.now bio.now) }) }
 {
     let result = match outcome {
-        Outcome::Fetched(bytes) => BioResult::Read(content_of(alloc, overlay, bio.range, bytes.as_slice())?),
+        Outcome::Fetched(bytes) => BioResult::Read(content_of(
+            alloc,
+            overlay,
+            bio.range,
+            bytes.as_slice(),
+        )?),
         Outcome::Stored => BioResult::Written,
         Outcome::Failed(kind) => BioResult::IoError(*kind),
     };
@@ -91,7 +118,12 @@ fn completed_bio(alloc: Global, overlay: &Overlay, bio: &Bio, outcome: &Outcome)
 }
 
 // The content of some sectors: the overlay's block where it has one, else the bytes of the image.
-fn content_of(alloc: Global, overlay: &Overlay, range: Range, bytes: &[u8]) -> Result<Bytes, OutOfMemory>
+fn content_of(
+    alloc: Global,
+    overlay: &Overlay,
+    range: Range,
+    bytes: &[u8],
+) -> Result<Bytes, OutOfMemory>
     requires { range.start + range.count < 2 ^ 64 }
     ensures { IfOk result (λ found. found ≡ content overlay.now range.start range.count bytes.now) }
 {
@@ -109,7 +141,12 @@ fn content_of(alloc: Global, overlay: &Overlay, range: Range, bytes: &[u8]) -> R
 }
 
 // Puts the blocks of a store into the overlay.
-fn store(parts: &mut Parts, tape: &mut Tape, range: Range, payload: Bytes) -> Result<(), OutOfMemory>
+fn store(
+    parts: &mut Parts,
+    tape: &mut Tape,
+    range: Range,
+    payload: Bytes,
+) -> Result<(), OutOfMemory>
     requires ends { range.start + range.count < 2 ^ 64 }
     requires long { 512 * range.count ≤ length payload }
     requires room { range.count ≤ tape.old.room }
@@ -122,7 +159,13 @@ fn store(parts: &mut Parts, tape: &mut Tape, range: Range, payload: Bytes) -> Re
     let mut rest = payload;
     for sector in range.start..range.end() {
         let block = Block::new(rest.split_to(512)?);
-        tape.try_exchange(parts, Change::Sector { sector, block: Some(block) })?;
+        tape.try_exchange(
+            parts,
+            Change::Sector {
+                sector,
+                block: Some(block),
+            },
+        )?;
     }
     Ok(())
 }

@@ -8,15 +8,25 @@ ghost use Rattle.dispatch_core.specs.Relation.{Answers, Leaves};
 ghost use Rattle.dispatch_core.specs.WellFormed.{WellFormed};
 
 use crate::complete::complete;
+use crate::outbox::{outbox_from, outbox_joined, outbox_slots};
 use crate::send::range_of_request;
 use crate::{Answer, Code, Reply, Sizes};
-use crate::outbox::{outbox_from, outbox_joined, outbox_slots};
 use change_record::{Change, Parts, Tape};
-use sector_core::{Op, Outcome, OutOfMemory, Slot};
+use sector_core::{Op, OutOfMemory, Outcome, Slot};
 use std::alloc::Global;
 
 /// A fetch needs all its bytes or a failure, a store needs to be stored; the issue tells one use of a tag from the next.
-pub fn run_finish(alloc: Global, sizes: Sizes, parts: &mut Parts, tape: &mut Tape, serial: u64, room: bool, tag: u8, issue: u64, outcome: &Outcome) -> Result<Answer, OutOfMemory>
+pub fn run_finish(
+    alloc: Global,
+    sizes: Sizes,
+    parts: &mut Parts,
+    tape: &mut Tape,
+    serial: u64,
+    room: bool,
+    tag: u8,
+    issue: u64,
+    outcome: &Outcome,
+) -> Result<Answer, OutOfMemory>
     requires { WellFormed (of_sizes sizes) serial parts.old.tables }
     ensures answers { Answers (λ m. finish (of_sizes sizes) m room tag issue outcome.now) parts.old.tables result parts.new.tables }
     ensures leaves { IfOk result (λ answer. Leaves (of_sizes sizes) serial answer parts.old.tables tape.old.current parts.new.tables tape.new.current tape.new.spare) }
@@ -89,16 +99,22 @@ fn deliver(parts: &mut Parts, tape: &mut Tape, tag: u8, slot: Slot, seat: u8, sl
     requires room { 3 ≤ tape.old.room }
     requires fits { length (outbox_at parts.old.tables.outboxes seat) + length slots.now ≤ 32 }
     ensures tables { parts.new.tables ≡ record parts.old.tables {
-        requests = slice_set parts.old.tables.requests slot None;
-        tags = slice_set parts.old.tables.tags tag None;
-        outboxes = slice_set parts.old.tables.outboxes seat (record { items = outbox_at parts.old.tables.outboxes seat ++ slots.now })
+      requests = slice_set parts.old.tables.requests slot None;
+      tags = slice_set parts.old.tables.tags tag None;
+      outboxes = slice_set parts.old.tables.outboxes seat (record { items = outbox_at parts.old.tables.outboxes seat ++ slots.now });
     } }
     ensures trail { KeepsTrail tape.old.current parts.old.tables tape.new.current parts.new.tables }
     ensures steps { tape.new.steps ≡ tape.old.steps }
     ensures spare { tape.new.spare ≡ tape.old.spare }
 {
     let outbox = outbox_joined(outbox_slots(parts, seat), slots);
-    tape.exchange(parts, Change::RequestSlot { slot, request: None });
+    tape.exchange(
+        parts,
+        Change::RequestSlot {
+            slot,
+            request: None,
+        },
+    );
     tape.exchange(parts, Change::Tag { tag, issue: None });
     tape.exchange(parts, Change::OutboxWhole { seat, outbox });
 }

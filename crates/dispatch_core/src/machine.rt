@@ -60,7 +60,14 @@ impl Machine {
     }
 
     /// Applies a step under its serial, with or without room in the history.
-    pub fn apply(&mut self, alloc: Global, serial: u64, room: bool, step: &Step, tape: &mut Tape) -> Answer
+    pub fn apply(
+        &mut self,
+        alloc: Global,
+        serial: u64,
+        room: bool,
+        step: &Step,
+        tape: &mut Tape,
+    ) -> Answer
         requires well { IsFor serial self.old }
         requires idle { tape.old.current ≡ [] }
         ensures applies { Applies (of_sizes self.old.sizes) (plain_of self.old) serial room step.now (plain_of self.new) result }
@@ -134,7 +141,15 @@ impl Machine {
 }
 
 // The step's own list of refusals, its exchanges and its reply.
-fn perform(alloc: Global, sizes: Sizes, parts: &mut Parts, tape: &mut Tape, serial: u64, room: bool, step: &Step) -> Result<Answer, OutOfMemory>
+fn perform(
+    alloc: Global,
+    sizes: Sizes,
+    parts: &mut Parts,
+    tape: &mut Tape,
+    serial: u64,
+    room: bool,
+    step: &Step,
+) -> Result<Answer, OutOfMemory>
     requires { WellFormed (of_sizes sizes) serial parts.old.tables }
     ensures answers { Answers (λ m. plain_step (of_sizes sizes) m serial room step.now) parts.old.tables result parts.new.tables }
     ensures leaves { IfOk result (λ answer. Leaves (of_sizes sizes) serial answer parts.old.tables tape.old.current parts.new.tables tape.new.current tape.new.spare) }
@@ -142,11 +157,29 @@ fn perform(alloc: Global, sizes: Sizes, parts: &mut Parts, tape: &mut Tape, seri
     ensures steps { tape.new.steps ≡ tape.old.steps }
 {
     match step {
-        Step::Attach { seat, group, prio } => return run_attach(sizes, parts, tape, serial, room, *seat, *group, *prio),
-        Step::Submit { seat, session, op, range, payload } => return run_submit(sizes, parts, tape, serial, room, *seat, *session, *op, *range, payload),
-        Step::Reap { seat, session } => return run_reap(sizes, parts, tape, serial, room, *seat, *session),
+        Step::Attach { seat, group, prio } => return run_attach(
+            sizes, parts, tape, serial, room, *seat, *group, *prio,
+        ),
+        Step::Submit {
+            seat,
+            session,
+            op,
+            range,
+            payload,
+        } => return run_submit(
+            sizes, parts, tape, serial, room, *seat, *session, *op, *range, payload,
+        ),
+        Step::Reap { seat, session } => return run_reap(
+            sizes, parts, tape, serial, room, *seat, *session,
+        ),
         Step::Dispatch => return run_dispatch(sizes, parts, tape, serial, room),
-        Step::Finish { tag, issue, outcome } => return run_finish(alloc, sizes, parts, tape, serial, room, *tag, *issue, outcome),
+        Step::Finish {
+            tag,
+            issue,
+            outcome,
+        } => return run_finish(
+            alloc, sizes, parts, tape, serial, room, *tag, *issue, outcome,
+        ),
     }
 }
 

@@ -7,13 +7,21 @@ ghost use Rattle.plain_machine.specs.Step.{reap, with_unreaped, of_sizes};
 ghost use Rattle.dispatch_core.specs.Relation.{Answers, Leaves};
 ghost use Rattle.dispatch_core.specs.WellFormed.{WellFormed};
 
-use crate::{Answer, Cause, Code, Reply, Sizes};
 use crate::outbox::{outbox_from, outbox_slots};
+use crate::{Answer, Cause, Code, Reply, Sizes};
 use change_record::{Change, Parts, Seat, Tape};
 use sector_core::{Bio, BioResult, OutOfMemory, Slot};
 
 /// The session's bios come in the order in which they were completed.
-pub fn run_reap(sizes: Sizes, parts: &mut Parts, tape: &mut Tape, serial: u64, room: bool, seat: u8, session: u64) -> Result<Answer, OutOfMemory>
+pub fn run_reap(
+    sizes: Sizes,
+    parts: &mut Parts,
+    tape: &mut Tape,
+    serial: u64,
+    room: bool,
+    seat: u8,
+    session: u64,
+) -> Result<Answer, OutOfMemory>
     requires { WellFormed (of_sizes sizes) serial parts.old.tables }
     ensures answers { Answers (λ m. reap m room seat session) parts.old.tables result parts.new.tables }
     ensures leaves { IfOk result (λ answer. Leaves (of_sizes sizes) serial answer parts.old.tables tape.old.current parts.new.tables tape.new.current tape.new.spare) }
@@ -66,9 +74,9 @@ fn take_out(parts: &mut Parts, tape: &mut Tape, seat: u8, entry: Seat, place: Sl
     requires some { 1 ≤ entry.unreaped }
     requires waits { 1 ≤ length (outbox_at parts.old.tables.outboxes seat) }
     ensures tables { parts.new.tables ≡ record parts.old.tables {
-        outboxes = slice_set parts.old.tables.outboxes seat (record { items = drop 1 (outbox_at parts.old.tables.outboxes seat) });
-        bios = slice_set parts.old.tables.bios place None;
-        seats = slice_set parts.old.tables.seats seat (Some (with_unreaped (entry.unreaped - 1) entry))
+      outboxes = slice_set parts.old.tables.outboxes seat (record { items = drop 1 (outbox_at parts.old.tables.outboxes seat) });
+      bios = slice_set parts.old.tables.bios place None;
+      seats = slice_set parts.old.tables.seats seat (Some (with_unreaped (entry.unreaped - 1) entry));
     } }
     ensures trail { KeepsTrail tape.old.current parts.old.tables tape.new.current parts.new.tables }
     ensures steps { tape.new.steps ≡ tape.old.steps }
@@ -82,6 +90,18 @@ fn take_out(parts: &mut Parts, tape: &mut Tape, seat: u8, entry: Seat, place: Sl
         ..entry
     };
     tape.exchange(parts, Change::OutboxWhole { seat, outbox });
-    tape.exchange(parts, Change::BioSlot { slot: place, bio: None });
-    tape.exchange(parts, Change::SeatEntry { seat, entry: Some(entry) });
+    tape.exchange(
+        parts,
+        Change::BioSlot {
+            slot: place,
+            bio: None,
+        },
+    );
+    tape.exchange(
+        parts,
+        Change::SeatEntry {
+            seat,
+            entry: Some(entry),
+        },
+    );
 }

@@ -13,7 +13,13 @@ use sector_core::{OutOfMemory, Range, Slot};
 use tag_set::Issue;
 
 /// Seats are tried in turn from the one after the seat last served; of a queue the earliest request is sent.
-pub fn run_dispatch(sizes: Sizes, parts: &mut Parts, tape: &mut Tape, serial: u64, room: bool) -> Result<Answer, OutOfMemory>
+pub fn run_dispatch(
+    sizes: Sizes,
+    parts: &mut Parts,
+    tape: &mut Tape,
+    serial: u64,
+    room: bool,
+) -> Result<Answer, OutOfMemory>
     requires { WellFormed (of_sizes sizes) serial parts.old.tables }
     ensures answers { Answers (λ m. dispatch (of_sizes sizes) m serial room) parts.old.tables result parts.new.tables }
     ensures leaves { IfOk result (λ answer. Leaves (of_sizes sizes) serial answer parts.old.tables tape.old.current parts.new.tables tape.new.current tape.new.spare) }
@@ -43,7 +49,16 @@ pub fn run_dispatch(sizes: Sizes, parts: &mut Parts, tape: &mut Tape, serial: u6
     };
     tape.reserve(3)?;
     tape.exchange(parts, Change::QueueLink { slot, link: None });
-    tape.exchange(parts, Change::Tag { tag, issue: Some(Issue { issue: serial, slot }) });
+    tape.exchange(
+        parts,
+        Change::Tag {
+            tag,
+            issue: Some(Issue {
+                issue: serial,
+                slot,
+            }),
+        },
+    );
     tape.exchange(parts, Change::Served { seat });
     Ok(Answer::Accepted(reply))
 }

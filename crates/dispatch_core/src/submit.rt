@@ -14,7 +14,18 @@ use request_pool::Request;
 use sector_core::{Bio, Op, OutOfMemory, Range, Slot};
 
 /// The bio is named by the step's serial; a store has 512 bytes for each sector, a fetch none.
-pub fn run_submit(sizes: Sizes, parts: &mut Parts, tape: &mut Tape, serial: u64, room: bool, seat: u8, session: u64, op: Op, range: Range, payload: &Bytes) -> Result<Answer, OutOfMemory>
+pub fn run_submit(
+    sizes: Sizes,
+    parts: &mut Parts,
+    tape: &mut Tape,
+    serial: u64,
+    room: bool,
+    seat: u8,
+    session: u64,
+    op: Op,
+    range: Range,
+    payload: &Bytes,
+) -> Result<Answer, OutOfMemory>
     requires { WellFormed (of_sizes sizes) serial parts.old.tables }
     ensures answers { Answers (λ m. submit (of_sizes sizes) m serial room seat session op range payload.now) parts.old.tables result parts.new.tables }
     ensures leaves { IfOk result (λ answer. Leaves (of_sizes sizes) serial answer parts.old.tables tape.old.current parts.new.tables tape.new.current tape.new.spare) }
@@ -81,14 +92,24 @@ fn is_within(range: Range, sectors: u64) -> bool
 }
 
 // Puts the bio and its request into their slots, and the request at the end of the seat's queue.
-fn insert(parts: &mut Parts, tape: &mut Tape, seat: u8, entry: Seat, slot: Slot, place: Slot, session: u64, op: Op, bio: Bio)
+fn insert(
+    parts: &mut Parts,
+    tape: &mut Tape,
+    seat: u8,
+    entry: Seat,
+    slot: Slot,
+    place: Slot,
+    session: u64,
+    op: Op,
+    bio: Bio,
+)
     requires room { 4 ≤ tape.old.room }
     requires few { entry.unreaped < 32 }
     ensures tables { parts.new.tables ≡ record parts.old.tables {
-        bios = slice_set parts.old.tables.bios place (Some bio);
-        requests = slice_set parts.old.tables.requests slot (Some (record { session = session; op = op; bios = record { items = place ∷ [] } }));
-        links = slice_set parts.old.tables.links slot (Some (record { seat = seat; serial = bio.serial }));
-        seats = slice_set parts.old.tables.seats seat (Some (with_unreaped (entry.unreaped + 1) entry))
+      bios = slice_set parts.old.tables.bios place (Some bio);
+      requests = slice_set parts.old.tables.requests slot (Some (record { session = session; op = op; bios = record { items = place ∷ [] } }));
+      links = slice_set parts.old.tables.links slot (Some (record { seat = seat; serial = bio.serial }));
+      seats = slice_set parts.old.tables.seats seat (Some (with_unreaped (entry.unreaped + 1) entry));
     } }
     ensures trail { KeepsTrail tape.old.current parts.old.tables tape.new.current parts.new.tables }
     ensures steps { tape.new.steps ≡ tape.old.steps }
@@ -102,8 +123,32 @@ fn insert(parts: &mut Parts, tape: &mut Tape, seat: u8, entry: Seat, slot: Slot,
         unreaped: entry.unreaped + 1,
         ..entry
     };
-    tape.exchange(parts, Change::BioSlot { slot: place, bio: Some(bio) });
-    tape.exchange(parts, Change::RequestSlot { slot, request: Some(request) });
-    tape.exchange(parts, Change::QueueLink { slot, link: Some(Link { seat, serial }) });
-    tape.exchange(parts, Change::SeatEntry { seat, entry: Some(entry) });
+    tape.exchange(
+        parts,
+        Change::BioSlot {
+            slot: place,
+            bio: Some(bio),
+        },
+    );
+    tape.exchange(
+        parts,
+        Change::RequestSlot {
+            slot,
+            request: Some(request),
+        },
+    );
+    tape.exchange(
+        parts,
+        Change::QueueLink {
+            slot,
+            link: Some(Link { seat, serial }),
+        },
+    );
+    tape.exchange(
+        parts,
+        Change::SeatEntry {
+            seat,
+            entry: Some(entry),
+        },
+    );
 }

@@ -65,7 +65,7 @@ same-state r new held journal now most same e i = record {
   cursor = same.cursor i;
   held = held;
   last = same.last i;
-  journal = e i
+  journal = e i;
 }
 
 -- a step that is not accepted
@@ -112,15 +112,18 @@ did-it r new held room journal now most s reply h e j may =
     let k : State = state_of r held journal most in
     let P : Bool → Type 0 = λ b. MayStep r b s (Accepted reply) new in
     elim (subst P e may) as (λ _. (state_of new held now most, Accepted reply) ≡ called k (Do s)) [
-      | inl x ↦ (λ i. (record {
+      | inl x ↦ (λ i. (
+        record {
           limits = of_sizes (x.1.sizes i);
           most = most;
           line = x.1.steps i;
           cursor = x.1.cursor i;
           held = held;
           last = x.1.last i;
-          journal = j i
-        }, Accepted reply)) ∙ sym (step-done k s (Accepted reply) h (sym x.0))
+          journal = j i;
+        },
+        Accepted reply,
+      )) ∙ sym (step-done k s (Accepted reply) h (sym x.0))
       | inr x ↦ absurd (subst IsAccepted x.1 tt)
     ]
 
@@ -143,7 +146,7 @@ keeper-same r new held journal now len len' capacity capacity' most same e a b h
       steps = omega (arith, steps, entries, within);
       serials = omega (arith, last, entries, serials);
       replayed = same-state r new held journal now most same e ∙ h.replayed
-          ∙ ap (λ z. replay (of_sizes z) most journal) (sym same.sizes) ∙ ap (replay (of_sizes new.sizes) most) (sym e)
+          ∙ ap (λ z. replay (of_sizes z) most journal) (sym same.sizes) ∙ ap (replay (of_sizes new.sizes) most) (sym e);
     }
 
 -- a keeper after an accepted call
@@ -164,7 +167,7 @@ keeper-more r new held held' journal now len capacity most call answer len' capa
       steps = omega (arith, entries, steps, within);
       serials = omega (arith, entries, last, serials);
       replayed = replay-more (of_sizes r.sizes) most (state_of r held journal most) (state_of new held' now most) journal call answer h.replayed done
-          ∙ ap (λ z. replay (of_sizes z) most (journal ++ call ∷ [])) (sym sizes) ∙ ap (replay (of_sizes new.sizes) most) (sym e)
+          ∙ ap (λ z. replay (of_sizes z) most (journal ++ call ∷ [])) (sym sizes) ∙ ap (replay (of_sizes new.sizes) most) (sym e);
     }
 
 -- an accepted step was taken with room

@@ -4,3 +4,4 @@ pub mod Ways
 pub mod Calls
 pub mod Counts
 pub mod Runs
+pub mod Given

@@ -20,7 +20,7 @@ undone l n c s t w h =
     record {
       puts = h.puts;
       well = subst P (sym (forth_tables-back c t)) w;
-      made = ap meaning (forth_tables-back c t) ∙ h.made
+      made = ap meaning (forth_tables-back c t) ∙ h.made;
     }
 
 -- what waits stands once it is redone
@@ -32,7 +32,7 @@ redone l n c s t w h =
       fits = FitBack-forth c t h.puts;
       puts = subst Q (sym (back_left-forth c t)) h.puts;
       well = subst P (sym (back_tables-forth c t)) w;
-      made = h.made ∙ ap (λ u. (step l (meaning u) s.serial true s.step).0) (sym (back_tables-forth c t))
+      made = h.made ∙ ap (λ u. (step l (meaning u) s.serial true s.step).0) (sym (back_tables-forth c t));
     }
 
 -- the past looks at the earlier steps alone
@@ -58,8 +58,8 @@ future-same l n f g s (suc more) k t e h =
 pub past-later : (l : Limits) (n : ℕ) (f : ℕ → List Change) (s : ℕ → Stamped) (k : ℕ) (t : Tables) → IsPast l n f s k t → IsPast l (n + 1) f s k t
 past-later l n f s zero t h = h
 past-later l n f s (suc k) t h = (
-    record { fits = h.0.fits; puts = h.0.puts; well = WellFormed-later l n _ h.0.well; made = h.0.made },
-    past-later l n f s k (back_tables (f k) t) h.1
+  record { fits = h.0.fits; puts = h.0.puts; well = WellFormed-later l n _ h.0.well; made = h.0.made },
+  past-later l n f s k (back_tables (f k) t) h.1,
 )
 
 fold_from-append : (l : Limits) (m : Plain) (xs ys : List Stamped) → fold_from l m (xs ++ ys) ≡ fold_from l (fold_from l m xs) ys

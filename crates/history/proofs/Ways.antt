@@ -50,8 +50,8 @@ undo-line line k last z t steps current h =
     let G : Tables → Type 0 = λ x. IsFuture l (last + 1) (step_at now) (stamped_at line) (length line - suc k) (k + 1) x in
     let K : ℕ → Type 0 = λ x. IsFuture l (last + 1) (step_at steps) (stamped_at line) (length line - suc k) x t in
     let rest : G t = future-same l (last + 1) (step_at steps) (step_at now) (stamped_at line) (length line - suc k) (k + 1) t
-        (λ i le. get_or-set_other steps k i (back_left c t) [] (omega (arith, le)))
-        (subst K (omega arith) h.future) in
+    (λ i le. get_or-set_other steps k i (back_left c t) [] (omega (arith, le)))
+    (subst K (omega arith) h.future) in
     let F : List Change → Type 0 = λ d. Waits l (last + 1) d (stamped_at line k) u × G (forth_tables d u) in
     let both : F (step_at now k) = subst F (sym here) (waits, subst G (sym (forth_tables-back c t)) rest) in
     let M : ℕ → Type 0 = λ x. IsFuture l (last + 1) (step_at now) (stamped_at line) x k u in
@@ -63,7 +63,7 @@ undo-line line k last z t steps current h =
       well = h.past.0.well;
       past = past-same l (last + 1) (step_at steps) (step_at now) (stamped_at line) (stamped_at line) k u
           (λ i lt. get_or-set_other steps k i (back_left c t) [] (omega (arith, lt))) (λ i lt. refl) h.past.1;
-      future = subst M count both
+      future = subst M count both;
     }
 
 -- the step after the cursor waits
@@ -91,7 +91,7 @@ redo-line line k last z t steps current lt h =
     let stands : Stands l (last + 1) (forth_left c t) (stamped_at line k) u = redone l (last + 1) c (stamped_at line k) t h.well future.0 in
     let G : Tables → Type 0 = λ x. IsPast l (last + 1) (step_at now) (stamped_at line) k x in
     let rest : G t = past-same l (last + 1) (step_at steps) (step_at now) (stamped_at line) (stamped_at line) k t
-        (λ i lt. get_or-set_other steps k i (forth_left c t) [] (omega (arith, lt))) (λ i lt. refl) h.past in
+    (λ i lt. get_or-set_other steps k i (forth_left c t) [] (omega (arith, lt))) (λ i lt. refl) h.past in
     let F : List Change → Type 0 = λ d. Stands l (last + 1) d (stamped_at line k) u × G (back_tables d u) in
     let K : ℕ → Type 0 = λ x. IsFuture l (last + 1) (step_at now) (stamped_at line) (length line - suc k) x u in
     record {
@@ -101,7 +101,7 @@ redo-line line k last z t steps current lt h =
       well = future.0.well;
       past = subst F (sym here) (stands, subst G (sym (back_tables-forth c t)) rest);
       future = subst K (omega arith) (future-same l (last + 1) (step_at steps) (step_at now) (stamped_at line) (length line - suc k) (k + 1) u
-          (λ i le. get_or-set_other steps k i (forth_left c t) [] (omega (arith, le))) future.1)
+          (λ i le. get_or-set_other steps k i (forth_left c t) [] (omega (arith, le))) future.1);
     }
 
 -- the last of a list that was cut
@@ -134,12 +134,12 @@ step-line line k last z t u steps current changes s h trail w made =
       fits = trail.fits;
       puts = trail.puts;
       well = subst W (sym trail.back) (WellFormed-later l (last + 1) t h.well);
-      made = made ∙ ap (λ v. (step l (meaning v) (last + 1) true s).0) (sym trail.back)
+      made = made ∙ ap (λ v. (step l (meaning v) (last + 1) true s).0) (sym trail.back);
     } in
     let G : Tables → Type 0 = λ v. IsPast l (last + 1 + 1) (step_at now) (stamped_at next) k v in
     let rest : G t = past-same l (last + 1 + 1) (step_at steps) (step_at now) (stamped_at line) (stamped_at next) k t
-        (λ i lt. before-last steps k i changes [] cut lt) (λ i lt. before-last line k i x _ within lt)
-        (past-later l (last + 1) (step_at steps) (stamped_at line) k t h.past) in
+    (λ i lt. before-last steps k i changes [] cut lt) (λ i lt. before-last line k i x _ within lt)
+    (past-later l (last + 1) (step_at steps) (stamped_at line) k t h.past) in
     let F : List Change → Type 0 = λ d. Stands l (last + 1 + 1) d x u × G (back_tables d u) in
     let E : Stamped → Type 0 = λ y. Stands l (last + 1 + 1) (step_at now k) y u × G (back_tables (step_at now k) u) in
     let both : E x = subst F (sym (last-of steps k changes [] cut)) (stands, subst G (sym trail.back) rest) in
@@ -151,7 +151,7 @@ step-line line k last z t u steps current changes s h trail w made =
       idle = h.idle;
       well = w;
       past = subst E (sym (last-of line k x _ within)) both;
-      future = subst M none tt
+      future = subst M none tt;
     }
 
 -- an accepted step was taken with room
@@ -165,11 +165,14 @@ pub may-other : (old new : Line) (m next : Plain) (room : Bool) (s : Step) (answ
 may-other old new m next room s answer e h not same =
     let P : Plain → Type 0 = λ p. Applies (of_sizes old.sizes) p (old.last + 1) room s next answer in
     elim (subst P e h) as (λ _. MayStep old room s answer new) [
-      | inl same_answer ↦ inl (ap (λ o. o.1) same_answer, elim answer as (λ a. (IsAccepted a → ⊥) → LineAfter old s a new) [
+      | inl same_answer ↦ inl (
+        ap (λ o. o.1) same_answer,
+        elim answer as (λ a. (IsAccepted a → ⊥) → LineAfter old s a new) [
           | Accepted reply ↦ λ no. absurd (no tt)
           | Refused code ↦ λ no. same
           | NotYet cause ↦ λ no. same
-        ] not)
+        ] not,
+      )
       | inr want ↦ inr (want.0, want.1, same)
     ]
 

@@ -14,7 +14,7 @@ state_of r held journal most = record {
   cursor = r.cursor;
   held = held;
   last = r.last;
-  journal = journal
+  journal = journal;
 }
 
 -- the journal has room for an Undo of each step that stands; it holds no more than it may, and an entry for each step;

@@ -36,7 +36,7 @@ impl Model for Keeper {
     ghost view = { λ k. record {
       state = state_of k.roll k.held k.journal.items k.most;
       lengths = k.roll.lengths;
-      turns = k.roll.turns
+      turns = k.roll.turns;
     } };
 
     ghost invariant = { λ k. IsKeeper k.roll k.held k.journal.items (vec_len k.journal) (vec_capacity k.journal) k.most };

@@ -35,7 +35,7 @@ impl Model for Roll {
       cursor = r.cursor;
       last = r.last;
       lengths = map length r.tape.steps;
-      turns = r.machine.turns
+      turns = r.machine.turns;
     } };
 
     ghost invariant = { λ r. IsLine r.line.items r.cursor r.last r.machine.sizes r.machine.tables r.tape.steps r.tape.current };
@@ -100,7 +100,10 @@ impl Roll {
     {
         let copy = copy_of(&mut self.line, ready, step);
         let serial = self.last + 1;
-        match self.machine.apply(alloc, serial, room, step, &mut self.tape) {
+        match self
+            .machine
+            .apply(alloc, serial, room, step, &mut self.tape)
+        {
             Answer::Refused(code) => return Answer::Refused(code),
             Answer::NotYet(cause) => return Answer::NotYet(cause),
             Answer::Accepted(reply) => match copy {

@@ -56,12 +56,15 @@ entered k tests next call reply = elim (first_of tests) [
 
 -- an accepted step cuts the line at the cursor and is its last
 abbrev pub did : State → Step → Answer → State × Answer
-did k s (Accepted reply) = (record k {
+did k s (Accepted reply) = (
+  record k {
     line = take k.cursor k.line ++ record { serial = k.last + 1; step = s } ∷ [];
     cursor = k.cursor + 1;
     last = k.last + 1;
-    journal = k.journal ++ Do s ∷ []
-  }, Accepted reply)
+    journal = k.journal ++ Do s ∷ [];
+  },
+  Accepted reply,
+)
 did k s (Refused code) = (k, Refused code)
 did k s (NotYet cause) = (k, NotYet cause)
 

@@ -96,7 +96,7 @@ in_flight l m = count_by (λ tag. is_some (m.flight tag)) (numbers 0 l.tags)
 abbrev pub submitted : Plain → ℕ → ℕ → ℕ → Op → Range → List ℕ → Plain
 submitted m n seat session op range payload = record m {
   seat = put m.seat seat (option_map (with_unreaped (unreaped m seat + 1)) (m.seat seat));
-  queue = put m.queue seat (m.queue seat ++ record { session = session; op = op; bios = record { serial = n; range = range; payload = payload; result = None } ∷ [] } ∷ [])
+  queue = put m.queue seat (m.queue seat ++ record { session = session; op = op; bios = record { serial = n; range = range; payload = payload; result = None } ∷ [] } ∷ []);
 }
 
 abbrev pub submit : Limits → Plain → ℕ → Bool → ℕ → ℕ → Op → Range → List ℕ → Outcome_of
@@ -115,7 +115,7 @@ reaped room m seat [] = (m, NotYet NotCompleted)
 reaped room m seat (bio ∷ bios) = accepted room m
     (record m {
       seat = put m.seat seat (option_map (with_unreaped (unreaped m seat - 1)) (m.seat seat));
-      outbox = put m.outbox seat bios
+      outbox = put m.outbox seat bios;
     }) (Completed bio.serial (unwrap_or bio.result Written))
 
 abbrev pub reap : Plain → Bool → ℕ → ℕ → Outcome_of
@@ -146,7 +146,7 @@ sent m n room seat tag (request ∷ requests) = accepted room m
     (record m {
       queue = put m.queue seat requests;
       flight = put m.flight tag (Some (record { issue = n; request = request }));
-      served = seat
+      served = seat;
     }) (Issued tag n request.op (range_of request.bios))
 
 abbrev pub dispatch_to : Plain → ℕ → Bool → Option ℕ → Option ℕ → Outcome_of
@@ -214,7 +214,7 @@ finished m room tag outcome request = accepted room m
     (record m {
       overlay = after_outcome outcome m.overlay request.bios;
       outbox = delivered m.seat m.outbox request.session (completed outcome m.overlay request.bios);
-      flight = put m.flight tag None
+      flight = put m.flight tag None;
     }) (Finished (length request.bios))
 
 abbrev pub finish_of : Plain → Bool → ℕ → ℕ → Outcome → Option Flight → Outcome_of

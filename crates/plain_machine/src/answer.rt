@@ -108,25 +108,44 @@ pub struct Work {
 #[derive(Debug, Drop)]
 pub enum Reply {
     /// The session, named by the serial of its attach.
-    Attached { session: u64 },
+    Attached {
+        session: u64,
+    },
     /// The bio, named by the serial of its submit.
-    Queued { bio: u64 },
+    Queued {
+        bio: u64,
+    },
     /// A completed bio and what became of it.
-    Completed { bio: u64, result: BioResult },
+    Completed {
+        bio: u64,
+        result: BioResult,
+    },
     /// The session has left.
     Left,
     /// What was sent to the device.
-    Issued { tag: u8, issue: u64, op: Op, range: Range },
+    Issued {
+        tag: u8,
+        issue: u64,
+        op: Op,
+        range: Range,
+    },
     /// How many bios were completed.
-    Finished { bios: u32 },
+    Finished {
+        bios: u32,
+    },
     /// The request waits in the dispatch list.
     Requeued,
     /// A group's number.
-    Group { number: u8 },
+    Group {
+        number: u8,
+    },
     /// It is done.
     Done,
     /// How many steps stand, and how many the line has.
-    Moved { cursor: u32, length: u32 },
+    Moved {
+        cursor: u32,
+        length: u32,
+    },
     /// Work for a device.
     Taken(Work),
 }

@@ -6,13 +6,30 @@ use sector_core::{Op, Outcome, Range};
 #[derive(Clone, Debug, Drop)]
 pub enum Step {
     /// A session begins at a seat.
-    Attach { seat: u8, group: u8, prio: u8 },
+    Attach {
+        seat: u8,
+        group: u8,
+        prio: u8,
+    },
     /// A session submits a bio.
-    Submit { seat: u8, session: u64, op: Op, range: Range, payload: Bytes },
+    Submit {
+        seat: u8,
+        session: u64,
+        op: Op,
+        range: Range,
+        payload: Bytes,
+    },
     /// A session takes its first completed bio.
-    Reap { seat: u8, session: u64 },
+    Reap {
+        seat: u8,
+        session: u64,
+    },
     /// The next request is sent to the device.
     Dispatch,
     /// The device has finished a request.
-    Finish { tag: u8, issue: u64, outcome: Outcome },
+    Finish {
+        tag: u8,
+        issue: u64,
+        outcome: Outcome,
+    },
 }

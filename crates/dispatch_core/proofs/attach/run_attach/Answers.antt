@@ -9,7 +9,8 @@ use Rattle.dispatch_core.proofs.attach.run_attach.Goals as goal
 pub returns-clause-leaves : goal.returns-clause-leaves
 returns-clause-leaves c =
     let can : CanAttach c.args.parts.now.tables c.args.seat = record { within = c.if-seat-ge16.false; free = search rules } in
-    let P : Tables → Type 0 = λ t. WellFormed (of_sizes c.args.sizes) (c.args.serial + 1) t in
-    (subst P (sym c.exchange.ensures.tables)
-        (attached-well (of_sizes c.args.sizes) c.args.serial c.args.parts.now.tables c.args.seat c.args.group c.args.prio c.requires can),
-     omega (arith, c.exchange.ensures.spare, c.in_ok-reserve.ensures.spare))
+    let P : Tables → Type 0 = λ t. WellFormed (of_sizes c.args.sizes) (c.args.serial + 1) t in (
+      subst P (sym c.exchange.ensures.tables)
+          (attached-well (of_sizes c.args.sizes) c.args.serial c.args.parts.now.tables c.args.seat c.args.group c.args.prio c.requires can),
+      omega (arith, c.exchange.ensures.spare, c.in_ok-reserve.ensures.spare),
+    )

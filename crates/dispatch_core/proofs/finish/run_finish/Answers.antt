@@ -214,18 +214,18 @@ returns-clause-answers c =
     let can : CanFinish t c.args.tag borne.issue borne.slot seat entry r = record { borne = tagged; here = here; within = found.0; sits = found.2; session = found.3 } in
     let slots : c.as_slice-slots.result.now ≡ r.bios.items = search rules in
     let now : c.deliver.new.parts.tables ≡ finished_tables t c.args.tag borne.slot seat r.bios.items c.args.outcome.now =
-        c.deliver.ensures.tables
-        ∙ ap (λ (u : Tables). record u {
-            requests = set u.requests borne.slot None;
-            tags = set u.tags c.args.tag None;
-            outboxes = set u.outboxes seat (record { items = outbox_at u.outboxes seat ++ c.as_slice-slots.result.now })
-          }) c.in_ok-complete.ensures.tables
-        ∙ ap (λ s. finished_tables t c.args.tag borne.slot seat s c.args.outcome.now) slots in
+    c.deliver.ensures.tables
+    ∙ ap (λ (u : Tables). record u {
+      requests = set u.requests borne.slot None;
+      tags = set u.tags c.args.tag None;
+      outboxes = set u.outboxes seat (record { items = outbox_at u.outboxes seat ++ c.as_slice-slots.result.now });
+    }) c.in_ok-complete.ensures.tables
+    ∙ ap (λ s. finished_tables t c.args.tag borne.slot seat s c.args.outcome.now) slots in
     let next = ap meaning now ∙ finished-meaning l n t c.args.tag borne.issue borne.slot seat entry r c.args.outcome.now c.requires can in
     let bios : length (bios_at t.bios r.bios.items) ≡ length c.as_slice-slots.result.now = length-bios_at t.bios r.bios.items (request_taken l n t borne.slot r c.requires here) ∙ sym (ap length slots) in
     sym (finish_does l (meaning t) c.args.room c.args.tag c.args.issue c.args.outcome.now within f flight same good c.if-not-room.false
-        ∙ ap (λ m. (m, Accepted (Finished (length (bios_at t.bios r.bios.items))))) (sym next)
-        ∙ ap (λ k. (meaning c.deliver.new.parts.tables, Accepted (Finished k))) bios)
+    ∙ ap (λ m. (m, Accepted (Finished (length (bios_at t.bios r.bios.items))))) (sym next)
+    ∙ ap (λ k. (meaning c.deliver.new.parts.tables, Accepted (Finished k))) bios)
 
 pub returns-clause-leaves : goal.returns-clause-leaves
 returns-clause-leaves c =
@@ -251,13 +251,14 @@ returns-clause-leaves c =
     let can : CanFinish t c.args.tag borne.issue borne.slot seat entry r = record { borne = tagged; here = here; within = found.0; sits = found.2; session = found.3 } in
     let slots : c.as_slice-slots.result.now ≡ r.bios.items = search rules in
     let now : c.deliver.new.parts.tables ≡ finished_tables t c.args.tag borne.slot seat r.bios.items c.args.outcome.now =
-        c.deliver.ensures.tables
-        ∙ ap (λ (u : Tables). record u {
-            requests = set u.requests borne.slot None;
-            tags = set u.tags c.args.tag None;
-            outboxes = set u.outboxes seat (record { items = outbox_at u.outboxes seat ++ c.as_slice-slots.result.now })
-          }) c.in_ok-complete.ensures.tables
-        ∙ ap (λ s. finished_tables t c.args.tag borne.slot seat s c.args.outcome.now) slots in
-    let P : Tables → Type 0 = λ u. WellFormed l (n + 1) u in
-    (subst P (sym now) (finished-well l n t c.args.tag borne.issue borne.slot seat entry r c.args.outcome.now c.requires can),
-     omega (arith, c.deliver.ensures.spare, c.in_ok-complete.ensures.spare, c.in_ok-reserve.ensures.spare))
+    c.deliver.ensures.tables
+    ∙ ap (λ (u : Tables). record u {
+      requests = set u.requests borne.slot None;
+      tags = set u.tags c.args.tag None;
+      outboxes = set u.outboxes seat (record { items = outbox_at u.outboxes seat ++ c.as_slice-slots.result.now });
+    }) c.in_ok-complete.ensures.tables
+    ∙ ap (λ s. finished_tables t c.args.tag borne.slot seat s c.args.outcome.now) slots in
+    let P : Tables → Type 0 = λ u. WellFormed l (n + 1) u in (
+      subst P (sym now) (finished-well l n t c.args.tag borne.issue borne.slot seat entry r c.args.outcome.now c.requires can),
+      omega (arith, c.deliver.ensures.spare, c.in_ok-complete.ensures.spare, c.in_ok-reserve.ensures.spare),
+    )

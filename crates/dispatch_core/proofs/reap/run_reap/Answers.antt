@@ -38,7 +38,7 @@ returns-clause-answers c =
     let does = reap_does (meaning t) c.args.room c.args.seat c.args.session entry c.if-seat-ge16.false sits same owed bio (bios_at t.bios rest) first c.if-not-room.false in
     let next = ap meaning now ∙ reaped-meaning l c.args.serial t c.args.seat entry c.in-Some-copied.place rest bio c.requires can in
     sym (does ∙ ap (λ m. (m, Accepted (Completed bio.serial (unwrap_or bio.result Written)))) (sym next)
-        ∙ ap (λ r. (meaning c.take_out.new.parts.tables, Accepted (Completed bio.serial r))) (sym found))
+    ∙ ap (λ r. (meaning c.take_out.new.parts.tables, Accepted (Completed bio.serial r))) (sym found))
 
 pub returns-clause-leaves : goal.returns-clause-leaves
 returns-clause-leaves c =
@@ -55,6 +55,7 @@ returns-clause-leaves c =
     let here : at t.bios c.in-Some-copied.place ≡ Some bio = search rules in
     let can : CanReap t c.args.seat entry c.in-Some-copied.place rest bio = record { within = c.if-seat-ge16.false; sits = sits; outbox = outbox; here = here } in
     let now : c.take_out.new.parts.tables ≡ reaped_tables t c.args.seat entry c.in-Some-copied.place rest = search rules in
-    let P : Tables → Type 0 = λ u. WellFormed l (c.args.serial + 1) u in
-    (subst P (sym now) (reaped-well l c.args.serial t c.args.seat entry c.in-Some-copied.place rest bio c.requires can),
-     omega (arith, c.take_out.ensures.spare, c.in_ok-reserve.ensures.spare))
+    let P : Tables → Type 0 = λ u. WellFormed l (c.args.serial + 1) u in (
+      subst P (sym now) (reaped-well l c.args.serial t c.args.seat entry c.in-Some-copied.place rest bio c.requires can),
+      omega (arith, c.take_out.ensures.spare, c.in_ok-reserve.ensures.spare),
+    )

@@ -139,8 +139,8 @@ returns-clause-answers c =
     let range : c.range_of_request.result ≡ range_of (bios_at t.bios request.bios.items) = read ∙ sym (range_is t.bios request.bios.items (request_taken l n t slot request c.requires here)) in
     let next = ap meaning now ∙ sent-meaning l n t c.in-Some.seat slot tag request c.requires can in
     sym (dispatch_does l (meaning t) n c.args.room c.in-Some.seat tag (whole t request) ((meaning (sent_tables t n c.in-Some.seat slot tag)).queue c.in-Some.seat) seat_next lowest was c.if-not-room.false
-        ∙ ap (λ m. (m, Accepted (Issued tag n request.op (range_of (bios_at t.bios request.bios.items))))) (sym next)
-        ∙ ap (λ r. (meaning c.exchange-3.new.parts.tables, Accepted (Issued tag n request.op r))) (sym range))
+    ∙ ap (λ m. (m, Accepted (Issued tag n request.op (range_of (bios_at t.bios request.bios.items))))) (sym next)
+    ∙ ap (λ r. (meaning c.exchange-3.new.parts.tables, Accepted (Issued tag n request.op r))) (sym range))
 
 pub returns-clause-leaves : goal.returns-clause-leaves
 returns-clause-leaves c =
@@ -161,6 +161,7 @@ returns-clause-leaves c =
     let can : CanSend l t c.in-Some.seat slot tag request = record { within = found.4; first = first; here = here; tag_within = omega (arith, free.within, c.requires.sized.tags); tag_free = free.is_free } in
     let was = sent-queue_was l n t c.in-Some.seat slot tag request c.requires can in
     let now : c.exchange-3.new.parts.tables ≡ sent_tables t n c.in-Some.seat slot tag = search rules in
-    let P : Tables → Type 0 = λ u. WellFormed l (n + 1) u in
-    (subst P (sym now) (sent-well l n t c.in-Some.seat slot tag request c.requires can),
-     omega (arith, c.exchange.ensures.spare, c.exchange-2.ensures.spare, c.exchange-3.ensures.spare, c.in_ok-reserve.ensures.spare))
+    let P : Tables → Type 0 = λ u. WellFormed l (n + 1) u in (
+      subst P (sym now) (sent-well l n t c.in-Some.seat slot tag request c.requires can),
+      omega (arith, c.exchange.ensures.spare, c.exchange-2.ensures.spare, c.exchange-3.ensures.spare, c.in_ok-reserve.ensures.spare),
+    )

@@ -81,8 +81,8 @@ returns-in_err-clone-clause-answers c =
     let room_left = requests_free l c.args.serial t c.in-Some-free_request.slot c.requires (search rules) in
     let goes = submit_goes l (meaning t) c.args.serial c.args.room c.args.seat c.args.session c.args.op c.args.range c.args.payload.now entry c.if-seat-ge16.false sits same some_sectors few_sectors payload in_image few room_left in
     let accepts : submit l (meaning t) c.args.serial c.args.room c.args.seat c.args.session c.args.op c.args.range c.args.payload.now
-        ≡ (submitted (meaning t) c.args.serial c.args.seat c.args.session c.args.op c.args.range c.args.payload.now, Accepted (Queued c.args.serial)) =
-        goes ∙ ap (λ b. accepted b (meaning t) (submitted (meaning t) c.args.serial c.args.seat c.args.session c.args.op c.args.range c.args.payload.now) (Queued c.args.serial)) c.if-not-room.false in
+    ≡ (submitted (meaning t) c.args.serial c.args.seat c.args.session c.args.op c.args.range c.args.payload.now, Accepted (Queued c.args.serial)) =
+    goes ∙ ap (λ b. accepted b (meaning t) (submitted (meaning t) c.args.serial c.args.seat c.args.session c.args.op c.args.range c.args.payload.now) (Queued c.args.serial)) c.if-not-room.false in
     let P : Plain × Answer → Type 0 = λ o. IsAccepted o.1 in
     Answers-err (λ m. submit l m c.args.serial c.args.room c.args.seat c.args.session c.args.op c.args.range c.args.payload.now) t t c.from_residual.result (search rules) (subst P (sym accepts) tt)
 
@@ -102,8 +102,8 @@ returns-in_err-reserve-clause-answers c =
     let room_left = requests_free l c.args.serial t c.in-Some-free_request.slot c.requires (search rules) in
     let goes = submit_goes l (meaning t) c.args.serial c.args.room c.args.seat c.args.session c.args.op c.args.range c.args.payload.now entry c.if-seat-ge16.false sits same some_sectors few_sectors payload in_image few room_left in
     let accepts : submit l (meaning t) c.args.serial c.args.room c.args.seat c.args.session c.args.op c.args.range c.args.payload.now
-        ≡ (submitted (meaning t) c.args.serial c.args.seat c.args.session c.args.op c.args.range c.args.payload.now, Accepted (Queued c.args.serial)) =
-        goes ∙ ap (λ b. accepted b (meaning t) (submitted (meaning t) c.args.serial c.args.seat c.args.session c.args.op c.args.range c.args.payload.now) (Queued c.args.serial)) c.if-not-room.false in
+    ≡ (submitted (meaning t) c.args.serial c.args.seat c.args.session c.args.op c.args.range c.args.payload.now, Accepted (Queued c.args.serial)) =
+    goes ∙ ap (λ b. accepted b (meaning t) (submitted (meaning t) c.args.serial c.args.seat c.args.session c.args.op c.args.range c.args.payload.now) (Queued c.args.serial)) c.if-not-room.false in
     let P : Plain × Answer → Type 0 = λ o. IsAccepted o.1 in
     Answers-err (λ m. submit l m c.args.serial c.args.room c.args.seat c.args.session c.args.op c.args.range c.args.payload.now) t t c.from_residual-in_err-reserve.result (search rules) (subst P (sym accepts) tt)
 
@@ -123,8 +123,8 @@ returns-clause-answers c =
     let room_left = requests_free l c.args.serial t c.in-Some-free_request.slot c.requires (search rules) in
     let goes = submit_goes l (meaning t) c.args.serial c.args.room c.args.seat c.args.session c.args.op c.args.range c.args.payload.now entry c.if-seat-ge16.false sits same some_sectors few_sectors payload in_image few room_left in
     let accepts : submit l (meaning t) c.args.serial c.args.room c.args.seat c.args.session c.args.op c.args.range c.args.payload.now
-        ≡ (submitted (meaning t) c.args.serial c.args.seat c.args.session c.args.op c.args.range c.args.payload.now, Accepted (Queued c.args.serial)) =
-        goes ∙ ap (λ b. accepted b (meaning t) (submitted (meaning t) c.args.serial c.args.seat c.args.session c.args.op c.args.range c.args.payload.now) (Queued c.args.serial)) c.if-not-room.false in
+    ≡ (submitted (meaning t) c.args.serial c.args.seat c.args.session c.args.op c.args.range c.args.payload.now, Accepted (Queued c.args.serial)) =
+    goes ∙ ap (λ b. accepted b (meaning t) (submitted (meaning t) c.args.serial c.args.seat c.args.session c.args.op c.args.range c.args.payload.now) (Queued c.args.serial)) c.if-not-room.false in
     let can : CanSubmit l t c.args.seat entry c.in-Some-free_request.slot c.in-Some-free_bio.place c.args.session c.args.op c.args.range c.args.payload.now = record {
       within = c.if-seat-ge16.false;
       sits = sits;
@@ -137,7 +137,7 @@ returns-clause-answers c =
       some_sectors = some_sectors;
       few_sectors = few_sectors;
       in_image = in_image;
-      payload_fits = payload
+      payload_fits = payload;
     } in
     let now : c.insert.new.parts.tables ≡ submitted_tables t c.args.serial c.args.seat entry c.in-Some-free_request.slot c.in-Some-free_bio.place c.args.session c.args.op c.args.range c.args.payload.now = search rules in
     sym (accepts ∙ ap (λ m. (m, Accepted (Queued c.args.serial))) (sym (ap meaning now ∙ submitted-meaning l c.args.serial t c.args.seat entry c.in-Some-free_request.slot c.in-Some-free_bio.place c.args.session c.args.op c.args.range c.args.payload.now c.requires can)))
@@ -167,9 +167,10 @@ returns-clause-leaves c =
       some_sectors = some_sectors;
       few_sectors = few_sectors;
       in_image = in_image;
-      payload_fits = payload
+      payload_fits = payload;
     } in
     let now : c.insert.new.parts.tables ≡ submitted_tables t c.args.serial c.args.seat entry c.in-Some-free_request.slot c.in-Some-free_bio.place c.args.session c.args.op c.args.range c.args.payload.now = search rules in
-    let P : Tables → Type 0 = λ u. WellFormed l (c.args.serial + 1) u in
-    (subst P (sym now) (submitted-well l c.args.serial t c.args.seat entry c.in-Some-free_request.slot c.in-Some-free_bio.place c.args.session c.args.op c.args.range c.args.payload.now c.requires can),
-     omega (arith, c.insert.ensures.spare, c.in_ok-reserve.ensures.spare))
+    let P : Tables → Type 0 = λ u. WellFormed l (c.args.serial + 1) u in (
+      subst P (sym now) (submitted-well l c.args.serial t c.args.seat entry c.in-Some-free_request.slot c.in-Some-free_bio.place c.args.session c.args.op c.args.range c.args.payload.now c.requires can),
+      omega (arith, c.insert.ensures.spare, c.in_ok-reserve.ensures.spare),
+    )

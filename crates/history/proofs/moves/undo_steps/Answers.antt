@@ -18,17 +18,16 @@ loop-preserved c =
     let one : i + 1 ≡ suc i = omega arith in
     let next : suc j ≡ old.cursor - i = omega (arith, few, all) in
     let at : get_or c.loop.roll.lengths (c.loop.roll.cursor - 1) 0 ≡ get_or old.lengths j 0 =
-        ap (λ l. get_or l (c.loop.roll.cursor - 1) 0) inv.4 ∙ ap (λ n. get_or old.lengths n 0) here in
+    ap (λ l. get_or l (c.loop.roll.cursor - 1) 0) inv.4 ∙ ap (λ n. get_or old.lengths n 0) here in
     let more : changes_of old.lengths j (i + 1) ≡ get_or old.lengths j 0 + changes_of old.lengths (old.cursor - i) i =
-        ap (changes_of old.lengths j) one ∙ changes-more old.lengths j i
-        ∙ ap (λ n. get_or old.lengths j 0 + changes_of old.lengths n i) next in
+    ap (changes_of old.lengths j) one ∙ changes-more old.lengths j i
+    ∙ ap (λ n. get_or old.lengths j 0 + changes_of old.lengths n i) next in
     let made = e.turns in
-    let before = inv.5 in
-    (
+    let before = inv.5 in (
       e.sizes ∙ inv.0,
       e.steps ∙ inv.1,
       omega (arith, was, now),
       e.last ∙ inv.3,
       e.lengths ∙ inv.4,
-      omega (arith, at, more, made, before)
+      omega (arith, at, more, made, before),
     )

@@ -13,7 +13,7 @@ invariant_of-self c =
     let counted : c.len-count.result ≡ length es = search rules in
     let lt : length es - 1 < length es = omega arith in
     let from : c.span_at-from.result.0 ≡ begin_of 0 es (length es - 1) =
-        c.span_at-from.ensures.start ∙ ap (λ l. begin_of 0 l (c.len-count.result - 1)) c.as_slice.ensures.value ∙ ap (λ m. begin_of 0 es (m - 1)) counted in
+    c.span_at-from.ensures.start ∙ ap (λ l. begin_of 0 l (c.len-count.result - 1)) c.as_slice.ensures.value ∙ ap (λ m. begin_of 0 es (m - 1)) counted in
     let cut : c.truncate.new.self.items ≡ take (begin_of 0 es (length es - 1)) xs = c.truncate.ensures.items ∙ ap (λ n. take n xs) from in
     let ends : c.truncate-2.new.self.items ≡ take (length es - 1) es = c.truncate-2.ensures.items ∙ ap (λ n. take (n - 1) es) counted in
     let P : List ℕ → Type 0 = λ l. AreEnds 0 l (length c.truncate.new.self.items) in
@@ -29,7 +29,7 @@ returns-clause-steps c =
     let counted : c.len-count.result ≡ length es = search rules in
     let lt : length es - 1 < length es = omega arith in
     let from : c.span_at-from.result.0 ≡ begin_of 0 es (length es - 1) =
-        c.span_at-from.ensures.start ∙ ap (λ l. begin_of 0 l (c.len-count.result - 1)) c.as_slice.ensures.value ∙ ap (λ m. begin_of 0 es (m - 1)) counted in
+    c.span_at-from.ensures.start ∙ ap (λ l. begin_of 0 l (c.len-count.result - 1)) c.as_slice.ensures.value ∙ ap (λ m. begin_of 0 es (m - 1)) counted in
     let cut : c.truncate.new.self.items ≡ take (begin_of 0 es (length es - 1)) xs = c.truncate.ensures.items ∙ ap (λ n. take n xs) from in
     let ends : c.truncate-2.new.self.items ≡ take (length es - 1) es = c.truncate-2.ensures.items ∙ ap (λ n. take (n - 1) es) counted in
     ap (λ l. pieces 0 l c.truncate.new.self.items) ends ∙ ap (pieces 0 (take (length es - 1) es)) cut
@@ -45,7 +45,7 @@ returns-clause-current c =
     let counted : c.len-count.result ≡ length es = search rules in
     let lt : length es - 1 < length es = omega arith in
     let from : c.span_at-from.result.0 ≡ begin_of 0 es (length es - 1) =
-        c.span_at-from.ensures.start ∙ ap (λ l. begin_of 0 l (c.len-count.result - 1)) c.as_slice.ensures.value ∙ ap (λ m. begin_of 0 es (m - 1)) counted in
+    c.span_at-from.ensures.start ∙ ap (λ l. begin_of 0 l (c.len-count.result - 1)) c.as_slice.ensures.value ∙ ap (λ m. begin_of 0 es (m - 1)) counted in
     let cut : c.truncate.new.self.items ≡ take (begin_of 0 es (length es - 1)) xs = c.truncate.ensures.items ∙ ap (λ n. take n xs) from in
     let ends : c.truncate-2.new.self.items ≡ take (length es - 1) es = c.truncate-2.ensures.items ∙ ap (λ n. take (n - 1) es) counted in
     ap (λ l. rest_of 0 l c.truncate.new.self.items) ends ∙ ap (rest_of 0 (take (length es - 1) es)) cut

@@ -20,5 +20,5 @@ invariant_of-self-2 c =
     let capacity = c.push_within.ensures.capacity in
     let done = hold-done k c.if-self.false room in
     keeper-more r r i.held true i.journal.items _ _ _ i.most Hold (Accepted (Moved r.cursor (length r.steps))) _ _ c.self.invariant refl now room
-        (omega (arith, at, has, len, capacity)) (omega arith) (omega arith)
-        (ap (λ j. (state_of r true j i.most, (Accepted (Moved r.cursor (length r.steps))))) now ∙ sym done)
+    (omega (arith, at, has, len, capacity)) (omega arith) (omega arith)
+    (ap (λ j. (state_of r true j i.most, (Accepted (Moved r.cursor (length r.steps))))) now ∙ sym done)

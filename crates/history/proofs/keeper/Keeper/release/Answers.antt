@@ -20,5 +20,5 @@ invariant_of-self-2 c =
     let capacity = c.push_within.ensures.capacity in
     let done = release-done k c.if-not-self.false room in
     keeper-more r r i.held false i.journal.items _ _ _ i.most Release (Accepted Done) _ _ c.self.invariant refl now room
-        (omega (arith, at, has, len, capacity)) (omega arith) (omega arith)
-        (ap (λ j. (state_of r false j i.most, (Accepted Done))) now ∙ sym done)
+    (omega (arith, at, has, len, capacity)) (omega arith) (omega arith)
+    (ap (λ j. (state_of r false j i.most, (Accepted Done))) now ∙ sym done)

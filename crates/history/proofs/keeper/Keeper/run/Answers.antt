@@ -16,4 +16,4 @@ loop-made-preserved c =
     let now : c.push_within.new.items.items ≡ c.loop-made.answers.items ++ c.call.result ∷ [] = c.push_within.ensures.items ∙ ap (λ l. l ++ c.call.result ∷ []) c.reserve.ensures.items in
     let cut : take (made + 1) calls ≡ take made calls ++ call ∷ [] = take_more calls made call c.loop-made-test.true ∙ ap (λ x. take made calls ++ x ∷ []) (sym c.index-calls-made.is) in
     subst P (sym cut) (subst Q (sym now) (run-more c.args.self.now.state c.loop-made.self.state c.call.new.self.state (take made calls) c.loop-made.answers.items call c.call.result
-        c.loop-made.invariant c.call.ensures.may))
+    c.loop-made.invariant c.call.ensures.may))

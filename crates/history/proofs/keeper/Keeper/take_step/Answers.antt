@@ -15,30 +15,30 @@ invariant_of-self c =
     let i = c.self.inside in
     let e = c.entry_of-entry.ensures in
     keeper-same i.roll c.step.new.self i.held i.journal.items _ _ _ _ _ i.most
-        (same-refused i.roll c.step.new.self c.has_room-room.result c.args.step.now c.in-Refused.code c.in-Refused.ensures.may) e.items e.len e.capacity c.self.invariant
+    (same-refused i.roll c.step.new.self c.has_room-room.result c.args.step.now c.in-Refused.code c.in-Refused.ensures.may) e.items e.len e.capacity c.self.invariant
 
 pub returns-in-Refused : goal.returns-in-Refused
 returns-in-Refused c =
     let i = c.self.inside in
     let P : State → Type 0 = λ s. MayCall s (Do c.args.step.now) (Refused c.in-Refused.code) (state_of c.step.new.self i.held c.entry_of-entry.new.journal.items i.most) in
     subst P (ap (λ v. v.state) c.self.view_is)
-        (may-refuse i.roll c.step.new.self i.held c.has_room-room.result i.journal.items _ i.most c.args.step.now c.in-Refused.code
-            c.if-self.false c.has_room-room.ensures c.entry_of-entry.ensures.items c.in-Refused.ensures.may)
+    (may-refuse i.roll c.step.new.self i.held c.has_room-room.result i.journal.items _ i.most c.args.step.now c.in-Refused.code
+    c.if-self.false c.has_room-room.ensures c.entry_of-entry.ensures.items c.in-Refused.ensures.may)
 
 pub invariant_of-self-in-NotYet : goal.invariant_of-self-in-NotYet
 invariant_of-self-in-NotYet c =
     let i = c.self.inside in
     let e = c.entry_of-entry.ensures in
     keeper-same i.roll c.step.new.self i.held i.journal.items _ _ _ _ _ i.most
-        (same-notyet i.roll c.step.new.self c.has_room-room.result c.args.step.now c.in-NotYet.cause c.in-NotYet.ensures.may) e.items e.len e.capacity c.self.invariant
+    (same-notyet i.roll c.step.new.self c.has_room-room.result c.args.step.now c.in-NotYet.cause c.in-NotYet.ensures.may) e.items e.len e.capacity c.self.invariant
 
 pub returns-in-NotYet : goal.returns-in-NotYet
 returns-in-NotYet c =
     let i = c.self.inside in
     let P : State → Type 0 = λ s. MayCall s (Do c.args.step.now) (NotYet c.in-NotYet.cause) (state_of c.step.new.self i.held c.entry_of-entry.new.journal.items i.most) in
     subst P (ap (λ v. v.state) c.self.view_is)
-        (may-wait i.roll c.step.new.self i.held c.has_room-room.result i.journal.items _ i.most c.args.step.now c.in-NotYet.cause
-            c.if-self.false c.has_room-room.ensures c.entry_of-entry.ensures.items c.in-NotYet.ensures.may)
+    (may-wait i.roll c.step.new.self i.held c.has_room-room.result i.journal.items _ i.most c.args.step.now c.in-NotYet.cause
+    c.if-self.false c.has_room-room.ensures c.entry_of-entry.ensures.items c.in-NotYet.ensures.may)
 
 pub invariant_of-self-in-Some : goal.invariant_of-self-in-Some
 invariant_of-self-in-Some c =
@@ -53,7 +53,7 @@ invariant_of-self-in-Some c =
     let E : Option Call → Type 0 = λ o. IfSome o (λ entry. entry ≡ Do s) in
     let entry : c.in-Some.entry ≡ Do s = subst E c.in-Some.is entries.entry in
     let now : c.push_within.new.items.items ≡ i.journal.items ++ Do s ∷ [] =
-        c.push_within.ensures.items ∙ ap (λ l. l ++ c.in-Some.entry ∷ []) entries.items ∙ ap (λ x. i.journal.items ++ x ∷ []) entry in
+    c.push_within.ensures.items ∙ ap (λ l. l ++ c.in-Some.entry ∷ []) entries.items ∙ ap (λ x. i.journal.items ++ x ∷ []) entry in
     let room : nat_lt (length i.journal.items) i.most ≡ true = sym c.has_room-room.ensures ∙ room-needed r new c.has_room-room.result s reply may in
     let R : Option Call → Type 0 = λ o. IfSome o (λ entry. vec_len c.entry_of-entry.new.journal + (c.cursor.result + 2) ≤ vec_capacity c.entry_of-entry.new.journal) in
     let has : vec_len c.entry_of-entry.new.journal + (c.cursor.result + 2) ≤ vec_capacity c.entry_of-entry.new.journal = subst R c.in-Some.is entries.room in
@@ -66,5 +66,5 @@ invariant_of-self-in-Some c =
     let len = c.push_within.ensures.len in
     let capacity = c.push_within.ensures.capacity in
     keeper-more r new i.held i.held i.journal.items _ _ _ i.most (Do s) (Accepted reply) _ _ c.self.invariant adds.sizes now room
-        (omega (arith, at, cursor, has, len, capacity)) (omega (arith, long, cut, within)) (omega (arith, last))
-        (did-it r new i.held c.has_room-room.result i.journal.items _ i.most s reply c.if-self.false c.has_room-room.ensures now may)
+    (omega (arith, at, cursor, has, len, capacity)) (omega (arith, long, cut, within)) (omega (arith, last))
+    (did-it r new i.held c.has_room-room.result i.journal.items _ i.most s reply c.if-self.false c.has_room-room.ensures now may)

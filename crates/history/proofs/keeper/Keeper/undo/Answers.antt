@@ -29,13 +29,16 @@ invariant_of-self c =
     let len = c.push_within.ensures.len in
     let capacity = c.push_within.ensures.capacity in
     keeper-more r c.undo_steps.new.roll i.held i.held i.journal.items _ _ _ i.most (Undo n) (Accepted (Moved (r.cursor - n) (length r.steps))) _ _ c.self.invariant e.sizes now room
-        (omega (arith, at, few, positive, cursor, reserved, len, capacity)) (omega (arith, steps)) (omega (arith, last))
-        ((λ j. (record {
-          limits = of_sizes (e.sizes j);
-          most = i.most;
-          line = e.steps j;
-          cursor = e.cursor j;
-          held = i.held;
-          last = e.last j;
-          journal = now j
-        }, Accepted (Moved (r.cursor - n) (length r.steps)))) ∙ sym (undo-done k n c.if-not-self.false some enough room))
+    (omega (arith, at, few, positive, cursor, reserved, len, capacity)) (omega (arith, steps)) (omega (arith, last))
+    ((λ j. (
+      record {
+        limits = of_sizes (e.sizes j);
+        most = i.most;
+        line = e.steps j;
+        cursor = e.cursor j;
+        held = i.held;
+        last = e.last j;
+        journal = now j;
+      },
+      Accepted (Moved (r.cursor - n) (length r.steps)),
+    )) ∙ sym (undo-done k n c.if-not-self.false some enough room))

@@ -21,7 +21,7 @@ invariant_of-self c =
     let P : ℕ → Type 0 = λ n. IsLine i.line.items n i.last c.forth.new.self.sizes c.forth.new.self.tables c.forth.new.tape.steps c.forth.new.tape.current in
     let e = c.in-Ok.ensures in
     subst P (omega arith) (same-line i.line.items (suc i.cursor) i.last _ _ _ _ _ _ _ _ e.sizes e.tables e.steps e.current
-        (redo-line i.line.items i.cursor i.last i.machine.sizes i.machine.tables i.tape.steps i.tape.current lt c.self.invariant))
+    (redo-line i.line.items i.cursor i.last i.machine.sizes i.machine.tables i.tape.steps i.tape.current lt c.self.invariant))
 
 pub returns-in-Ok-clause-lengths : goal.returns-in-Ok-clause-lengths
 returns-in-Ok-clause-lengths c =

@@ -15,7 +15,7 @@ invariant_of-self c =
     let count : i.cursor ≡ suc k = let h : 0 < i.cursor = subst (λ v. 0 < v.cursor) (sym c.self.view_is) c.requires in omega (arith, h) in
     let P : ℕ → Type 0 = λ n. IsLine i.line.items n i.last i.machine.sizes i.machine.tables i.tape.steps i.tape.current in
     same-line i.line.items k i.last _ _ _ _ _ _ _ _ c.back.ensures.sizes c.back.ensures.tables c.back.ensures.steps c.back.ensures.current
-        (undo-line i.line.items k i.last i.machine.sizes i.machine.tables i.tape.steps i.tape.current (subst P count c.self.invariant))
+    (undo-line i.line.items k i.last i.machine.sizes i.machine.tables i.tape.steps i.tape.current (subst P count c.self.invariant))
 
 pub returns-clause-lengths : goal.returns-clause-lengths
 returns-clause-lengths c =
