@@ -1,0 +1,147 @@
+// The keeper in examples: its calls are proved, and these say what they mean, and that a call succeeds while memory is left.
+use super::*;
+use bytes::Bytes;
+use dispatch_core::{Answer, Cause, Code, Reply, SectorView, Step};
+use sector_core::{Config, ConfigDraft, Op, Outcome, Range};
+use std::alloc::Global;
+use std::test::Fail;
+
+const ONE: Range = Range { start: 5, count: 1 };
+
+// What was answered: the number of what was accepted, or of a refusal after 100, or of a wait after 200.
+fn told(answer: &Answer) -> u64 {
+    match answer {
+        Answer::Accepted(Reply::Attached { session }) => *session,
+        Answer::Accepted(Reply::Queued { bio }) => *bio,
+        Answer::Accepted(Reply::Completed { bio, .. }) => *bio,
+        Answer::Accepted(Reply::Issued { issue, .. }) => *issue,
+        Answer::Accepted(Reply::Finished { bios }) => *bios as u64,
+        Answer::Accepted(Reply::Moved { cursor, length }) => *cursor as u64 * 10 + *length as u64,
+        Answer::Accepted(_) => 0,
+        Answer::Refused(code) => 100 + code.number() as u64,
+        Answer::NotYet(cause) => 200 + cause.number() as u64,
+    }
+}
+
+fn attach(seat: u8) -> Call {
+    Call::Do(Step::Attach {
+        seat,
+        group: 0,
+        prio: 4,
+    })
+}
+
+fn store(alloc: Global) -> Result<Call, Fail> {
+    let payload = Bytes::from_vec(vec![in alloc; 65u8; 512]?)?;
+    Ok(Call::Do(Step::Submit {
+        seat: 0,
+        session: 1,
+        op: Op::Store,
+        range: ONE,
+        payload,
+    }))
+}
+
+fn finish(issue: u64) -> Call {
+    Call::Do(Step::Finish {
+        tag: 0,
+        issue,
+        outcome: Outcome::Stored,
+    })
+}
+
+fn is_stored(keeper: &Keeper) -> bool {
+    match keeper.view().machine().sector(5) {
+        SectorView::Outside => false,
+        SectorView::Base => false,
+        SectorView::Stored(_) => true,
+    }
+}
+
+// A store is undone and redone; then its dispatch is undone, and another one made, whose serial is new.
+#[test]
+fn undone_and_redone(rt: HostRuntime) -> Result<(), Fail> {
+    let alloc = rt.alloc();
+    let mut keeper = Keeper::new(alloc, Config::check(ConfigDraft::default())?, 8)?;
+    let calls = [
+        (attach(0), 1),
+        (store(alloc)?, 2),
+        (Call::Do(Step::Dispatch), 3),
+        (finish(3), 1),
+        (Call::Release, 100 + Code::NotHeld.number() as u64),
+        (Call::Hold, 44),
+        (Call::Hold, 100 + Code::AlreadyHeld.number() as u64),
+        (attach(1), 200 + Cause::Held.number() as u64),
+        (Call::Undo { k: 0 }, 100 + Code::ZeroCount.number() as u64),
+        (Call::Undo { k: 5 }, 100 + Code::NothingToUndo.number() as u64),
+        (Call::Undo { k: 1 }, 34),
+    ];
+    for (call, wanted) in calls.iter() {
+        assert_eq!(rt; told(&keeper.call(alloc, call)), *wanted);
+    }
+    assert!(rt; !is_stored(&keeper));
+    assert!(rt; keeper.view().machine().in_flight(0).is_some());
+
+    assert_eq!(rt; told(&keeper.call(alloc, &Call::Redo { k: 1 })), 44);
+    assert!(rt; is_stored(&keeper));
+    assert_eq!(rt; keeper.view().machine().outbox_len(0), 1);
+    assert_eq!(rt; told(&keeper.call(alloc, &Call::Redo { k: 1 })), 100 + Code::NothingToRedo.number() as u64);
+
+    // Another future: the two last steps are cut off by the next one.
+    assert_eq!(rt; told(&keeper.call(alloc, &Call::Undo { k: 2 })), 24);
+    assert_eq!(rt; told(&keeper.call(alloc, &Call::Release)), 0);
+    assert_eq!(rt; told(&keeper.call(alloc, &Call::Do(Step::Dispatch))), 5);
+    assert_eq!(rt; told(&keeper.call(alloc, &finish(3))), 100 + Code::NotInFlight.number() as u64);
+    assert_eq!(rt; keeper.view().cursor(), 3);
+    assert_eq!(rt; keeper.view().length(), 3);
+    assert_eq!(rt; keeper.view().last_serial(), 5);
+    assert!(rt; !keeper.view().held());
+
+    // Four steps, a hold, an undo, a redo, an undo, a release and a step.
+    assert_eq!(rt; keeper.journal_len(), 10);
+    Ok(())
+}
+
+#[test]
+fn run_of_calls(rt: HostRuntime) -> Result<(), Fail> {
+    let alloc = rt.alloc();
+    let mut keeper = Keeper::new(alloc, Config::check(ConfigDraft::default())?, 8)?;
+    match keeper.run(alloc, &[]) {
+        Ok(answers) => assert!(rt; answers.is_empty()),
+        Err(_) => return Err(Fail::from("no call was made")),
+    }
+    let calls = [attach(0), attach(0), store(alloc)?, Call::Hold];
+    let wanted = [1, 100 + Code::SeatTaken.number() as u64, 2, 22];
+    match keeper.run(alloc, calls.as_slice()) {
+        Ok(answers) => {
+            assert_eq!(rt; answers.len(), 4);
+            for (answer, wanted) in answers.iter().zip(wanted.iter()) {
+                assert_eq!(rt; told(answer), *wanted);
+            }
+        }
+        Err(_) => return Err(Fail::from("memory for each answer")),
+    }
+    Ok(())
+}
+
+// A history for one call: the next is refused, and an Undo too.
+#[test]
+fn full_history(rt: HostRuntime) -> Result<(), Fail> {
+    let alloc = rt.alloc();
+    let mut draft = ConfigDraft::default();
+    draft.history_max = 2;
+    let mut keeper = Keeper::new(alloc, Config::check(draft)?, 8)?;
+    let full = 100 + Code::HistoryFull.number() as u64;
+    let calls = [
+        (attach(0), 1),
+        (Call::Hold, 11),
+        (Call::Undo { k: 1 }, full),
+        (Call::Release, full),
+    ];
+    for (call, wanted) in calls.iter() {
+        assert_eq!(rt; told(&keeper.call(alloc, call)), *wanted);
+    }
+    two_undos_are_one(1, 2);
+    redo_gives_back(1);
+    Ok(())
+}
