@@ -23,3 +23,6 @@ pub use change::{Change, Outbox, Seat};
 pub use parts::Parts;
 pub use room::push_within;
 pub use tape::Tape;
+
+#[cfg(test)]
+mod tests;

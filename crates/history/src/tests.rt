@@ -73,7 +73,10 @@ fn undone_and_redone(rt: HostRuntime) -> Result<(), Fail> {
         (Call::Hold, 100 + Code::AlreadyHeld.number() as u64),
         (attach(1), 200 + Cause::Held.number() as u64),
         (Call::Undo { k: 0 }, 100 + Code::ZeroCount.number() as u64),
-        (Call::Undo { k: 5 }, 100 + Code::NothingToUndo.number() as u64),
+        (
+            Call::Undo { k: 5 },
+            100 + Code::NothingToUndo.number() as u64,
+        ),
         (Call::Undo { k: 1 }, 34),
     ];
     for (call, wanted) in calls.iter() {
@@ -85,13 +88,19 @@ fn undone_and_redone(rt: HostRuntime) -> Result<(), Fail> {
     assert_eq!(rt; told(&keeper.call(alloc, &Call::Redo { k: 1 })), 44);
     assert!(rt; is_stored(&keeper));
     assert_eq!(rt; keeper.view().machine().outbox_len(0), 1);
-    assert_eq!(rt; told(&keeper.call(alloc, &Call::Redo { k: 1 })), 100 + Code::NothingToRedo.number() as u64);
+    assert_eq!(rt;
+        told(&keeper.call(alloc, &Call::Redo { k: 1 })),
+        100 + Code::NothingToRedo.number() as u64
+    );
 
     // Another future: the two last steps are cut off by the next one.
     assert_eq!(rt; told(&keeper.call(alloc, &Call::Undo { k: 2 })), 24);
     assert_eq!(rt; told(&keeper.call(alloc, &Call::Release)), 0);
     assert_eq!(rt; told(&keeper.call(alloc, &Call::Do(Step::Dispatch))), 5);
-    assert_eq!(rt; told(&keeper.call(alloc, &finish(3))), 100 + Code::NotInFlight.number() as u64);
+    assert_eq!(rt;
+        told(&keeper.call(alloc, &finish(3))),
+        100 + Code::NotInFlight.number() as u64
+    );
     assert_eq!(rt; keeper.view().cursor(), 3);
     assert_eq!(rt; keeper.view().length(), 3);
     assert_eq!(rt; keeper.view().last_serial(), 5);
