@@ -4,7 +4,7 @@ use Rattle.std.proofs.lemmas.List.{take_more, take-set, drop-set, set-get_or, le
 use Rattle.std.proofs.Math.Seq.{drop-cons}
 use Rattle.change_record.specs.declared.change.Change.{Change}
 use Rattle.change_record.specs.Tables.{Tables}
-use Rattle.change_record.specs.Exchange.{after, left_by, FitsIn, IsPut, ArePuts, FitBack, forth_tables, forth_left, back_tables, back_left}
+use Rattle.change_record.specs.Exchange.{after, left_by, FitsIn, IsPut, ArePuts, FitBack, FitForth, forth_tables, forth_left, back_tables, back_left}
 use Rattle.change_record.proofs.Exchanges.{back_tables-append, back_left-append, FitBack-first, FitBack-last, FitBack-forth, forth_tables-append, forth_left-append, back_tables-forth, back_left-forth, length-forth_left}
 
 pub take_at : (cs : List Change) (i : ℕ) (x : Change) → 0 < i → i ≤ length cs → take i cs ≡ take (i - 1) cs ++ get_or cs (i - 1) x ∷ []
@@ -107,6 +107,19 @@ forth_left-at cs now i x d t u h e f g =
     ∙ ap (λ y. done ++ y ∷ drop (i + 1) cs) left
     ∙ sym (append_assoc done (left_by (forth_tables (take i cs) t) (get_or cs i x) ∷ []) (drop (i + 1) cs))
     ∙ ap (λ l. l ++ drop (i + 1) cs) (sym (ap (λ l. forth_left l t) (take_more cs i x h) ∙ forth_left-append (take i cs) (get_or cs i x ∷ []) t))
+
+-- where turning the list forth adds no block, the exchange that comes next adds none
+FitForth-at : (cs : List Change) (i : ℕ) (x : Change) (t : Tables) → i < length cs → FitForth cs t → FitsIn (forth_tables (take i cs) t) (get_or cs i x)
+FitForth-at [] i x t h fits = absurd (omega arith)
+FitForth-at (c ∷ cs) zero x t h fits = fits.0
+FitForth-at (c ∷ cs) (suc i) x t h fits = FitForth-at cs i x (after t c) (omega arith) fits.1
+
+pub fits_next : (cs now : List Change) (i : ℕ) (x : Change) (t u : Tables) → i < length cs → now ≡ forth_left (take i cs) t ++ drop i cs
+    → u ≡ forth_tables (take i cs) t → FitForth cs t → FitsIn u (get_or now i x)
+fits_next cs now i x t u h e f fits =
+    let P : Tables → Type 0 = λ v. FitsIn v (get_or now i x) in
+    let Q : Change → Type 0 = λ c. FitsIn (forth_tables (take i cs) t) c in
+    subst P (sym f) (subst Q (sym (turned_next cs now i x t h e)) (FitForth-at cs i x t h fits))
 
 -- where an exchange is refused, those before it are turned back
 pub done_before : (cs now : List Change) (i : ℕ) (x d : Change) (t : Tables) → i < length cs → now ≡ forth_left (take i cs) t ++ drop i cs → d ≡ get_or now i x

@@ -78,6 +78,11 @@ abbrev pub FitBack : List Change → Tables → Type 0
 FitBack [] t = Unit {0}
 FitBack (c ∷ cs) t = FitBack cs t × FitsIn (back_tables cs t) c
 
+-- turning the list forth adds no block
+abbrev pub FitForth : List Change → Tables → Type 0
+FitForth [] t = Unit {0}
+FitForth (c ∷ cs) t = FitsIn t c × FitForth cs (after t c)
+
 -- the change takes no block away
 abbrev pub IsPut : Change → Type 0
 IsPut (Sector sector block) = IsSome block

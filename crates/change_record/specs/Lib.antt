@@ -1,5 +1,6 @@
 pub mod Tables
 pub mod Exchange
+pub mod Laws
 pub mod Trail
 pub mod Tape
 pub mod Machine

@@ -14,12 +14,14 @@
 //! between two others. An exchange on a place that is not there does nothing.
 
 mod change;
+mod laws;
 mod parts;
 mod room;
 mod tape;
 mod turns;
 
 pub use change::{Change, Outbox, Seat};
+pub use laws::{back_leads_forth, turned_twice};
 pub use parts::Parts;
 pub use room::push_within;
 pub use tape::Tape;

@@ -1,6 +1,6 @@
 // The tape, flat: the changes of all steps one after the other, and where each step ends.
-ghost use Rattle.std.specs.Prelude.{◌≡◌, ◌+◌, ◌≤◌, ◌<◌, ◌%◌, ◌^◌, [], ◌∷◌, ◌++◌, OnOk, OnErr, length, slice_set, slice_index, slice_range, take, drop, vec_len, ◌-◌};
-ghost use Rattle.change_record.specs.Exchange.{after, AddsBlock, FitsIn, IsPut, FitBack, ArePuts, back_tables, back_left, forth_tables, forth_left};
+ghost use Rattle.std.specs.Prelude.{◌≡◌, ◌+◌, ◌≤◌, ◌<◌, ◌%◌, ◌^◌, [], ◌∷◌, ◌++◌, IsOk, OnOk, OnErr, length, slice_set, slice_index, slice_range, take, drop, vec_len, ◌-◌};
+ghost use Rattle.change_record.specs.Exchange.{after, left_by, AddsBlock, FitsIn, IsPut, FitBack, FitForth, ArePuts, back_tables, back_left, forth_tables, forth_left};
 ghost use Rattle.change_record.specs.Trail.{KeepsTrail};
 ghost use Rattle.change_record.specs.Tape.{step_at, begin_of, AreEnds, spliced};
 
@@ -53,11 +53,17 @@ impl Tape {
     }
 
     /// Makes room for the changes and the end of a step of at most `count` changes.
+    ///
+    /// # Errors
+    ///
+    /// There is no memory for it; then the steps are as they were, and no room is lost.
     pub fn reserve(&mut self, count: usize) -> Result<(), OutOfMemory>
         ensures steps { self.new.steps ≡ self.old.steps }
         ensures current { self.new.current ≡ self.old.current }
         ensures room { OnOk result (count ≤ self.new.room) }
         ensures spare { OnOk result (1 ≤ self.new.spare) }
+        ensures kept_room { self.old.room ≤ self.new.room }
+        ensures kept_spare { self.old.spare ≤ self.new.spare }
     {
         self.changes.reserve(count)?;
         self.ends.reserve(1)?;
@@ -86,6 +92,10 @@ impl Tape {
         ensures tables { OnOk result (parts.new.tables ≡ after parts.old.tables change) }
         ensures err { OnErr result (parts.new.tables ≡ parts.old.tables) }
         ensures adds { OnErr result (AddsBlock parts.old.tables change) }
+        ensures recorded { OnOk result (self.new.current ≡ self.old.current ++ left_by parts.old.tables change ∷ []) }
+        ensures kept { OnErr result (self.new.current ≡ self.old.current) }
+        ensures turns { OnOk result (parts.new.turns ≡ (parts.old.turns + 1) % 2 ^ 64) }
+        ensures no_turn { OnErr result (parts.new.turns ≡ parts.old.turns) }
         ensures trail { KeepsTrail self.old.current parts.old.tables self.new.current parts.new.tables }
         ensures steps { self.new.steps ≡ self.old.steps }
         ensures room { self.old.room ≤ self.new.room + 1 }
@@ -107,6 +117,8 @@ impl Tape {
         requires puts { IsPut change }
         requires fits { FitsIn parts.old.tables change }
         ensures tables { parts.new.tables ≡ after parts.old.tables change }
+        ensures recorded { self.new.current ≡ self.old.current ++ left_by parts.old.tables change ∷ [] }
+        ensures turns { parts.new.turns ≡ (parts.old.turns + 1) % 2 ^ 64 }
         ensures trail { KeepsTrail self.old.current parts.old.tables self.new.current parts.new.tables }
         ensures steps { self.new.steps ≡ self.old.steps }
         ensures room { self.old.room ≤ self.new.room + 1 }
@@ -173,6 +185,7 @@ impl Tape {
         ensures steps { self.new.steps ≡ self.old.steps }
         ensures current { self.new.current ≡ [] }
         ensures tables { parts.new.tables ≡ back_tables self.old.current parts.old.tables }
+        ensures turns { parts.new.turns % 2 ^ 64 ≡ (parts.old.turns + length self.old.current) % 2 ^ 64 }
     {
         let end = self.changes.len();
         let start = last_end(self.ends.as_slice(), end);
@@ -207,6 +220,7 @@ impl Tape {
         ensures current { self.new.current ≡ self.old.current }
         ensures err { OnErr result (parts.new.tables ≡ parts.old.tables) }
         ensures kept { OnErr result (self.new.steps ≡ self.old.steps) }
+        ensures fits { FitForth (step_at self.old.steps at) parts.old.tables → IsOk result }
     {
         let (start, end) = span_at(self.ends.as_slice(), at, self.changes.len());
         match span_forth(parts, self.changes.as_mut_slice(), start, end) {
@@ -285,6 +299,7 @@ fn span_forth(
     ensures changes { OnOk result (changes.new ≡ spliced start end changes.old (forth_left (slice_range changes.old start end) parts.old.tables)) }
     ensures err { OnErr result (parts.new.tables ≡ parts.old.tables) }
     ensures kept { OnErr result (changes.new ≡ changes.old) }
+    ensures fits { FitForth (slice_range changes.old start end) parts.old.tables → IsOk result }
 {
     match turn_forth(parts, &mut changes[start..end]) {
         Ok(()) => return Ok(()),

@@ -1,6 +1,6 @@
 // Lists of exchanges, turned in order and in reverse order.
-ghost use Rattle.std.specs.Prelude.{◌≡◌, ◌+◌, ◌%◌, ◌^◌, OnOk, OnErr, length};
-ghost use Rattle.change_record.specs.Exchange.{after, left_by, FitsIn, FitBack, ArePuts, back_tables, back_left, forth_tables, forth_left};
+ghost use Rattle.std.specs.Prelude.{◌≡◌, ◌+◌, ◌%◌, ◌^◌, IsOk, OnOk, OnErr, length};
+ghost use Rattle.change_record.specs.Exchange.{after, left_by, FitsIn, FitBack, FitForth, ArePuts, back_tables, back_left, forth_tables, forth_left};
 
 use crate::{Change, Parts};
 use sector_core::OutOfMemory;
@@ -37,6 +37,7 @@ pub fn turn_forth(parts: &mut Parts, changes: &mut [Change]) -> Result<(), OutOf
     ensures turns { OnOk result (parts.new.turns % 2 ^ 64 ≡ (parts.old.turns + length changes.old) % 2 ^ 64) }
     ensures err { OnErr result (parts.new.tables ≡ parts.old.tables) }
     ensures handed_back { OnErr result (changes.new ≡ changes.old) }
+    ensures fits { FitForth changes.old parts.old.tables → IsOk result }
 {
     for i in 0..changes.len() {
         match parts.turn(&mut changes[i]) {

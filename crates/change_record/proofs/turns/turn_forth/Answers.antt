@@ -1,5 +1,5 @@
 use Rattle.std.proofs.Common.{◌≡◌, ◌+◌, ◌%◌, ◌^◌, ◌++◌, drop, set, ◌∙◌, ap, arith}
-use Rattle.change_record.proofs.Walk.{forth_tables-at, forth_left-at, fits_before, tables_before, changes_before}
+use Rattle.change_record.proofs.Walk.{forth_tables-at, forth_left-at, fits_next, fits_before, tables_before, changes_before}
 use Rattle.change_record.proofs.turns.turn_forth.Goals as goal
 
 pub turn_back-requires : goal.turn_back-requires
@@ -18,6 +18,12 @@ returns-in-Err-clause-handed_back c =
     ap (λ l. l ++ drop c.loop-i.i (set c.loop-i.changes c.loop-i.i c.turn.new.change)) c.turn_back.ensures.left
     ∙ changes_before c.args.changes.now c.loop-i.changes c.loop-i.i c.index-changes-i.result c.turn.new.change c.args.parts.now.tables c.turn.new.self.tables
     c.loop-i-test.true c.loop-i.invariant.changes c.in-Err.ensures.handed_back (ap (λ p. p.tables) c.in-Err.ensures.err ∙ c.loop-i.invariant.tables)
+
+pub returns-in-Err-clause-fits : goal.returns-in-Err-clause-fits
+returns-in-Err-clause-fits c = λ fits.
+    c.in-Err.ensures.fits
+    (fits_next c.args.changes.now c.loop-i.changes c.loop-i.i c.index-changes-i.result c.args.parts.now.tables c.loop-i.parts.tables
+    c.loop-i-test.true c.loop-i.invariant.changes c.loop-i.invariant.tables fits)
 
 pub loop-i-preserved : goal.loop-i-preserved
 loop-i-preserved c = record {

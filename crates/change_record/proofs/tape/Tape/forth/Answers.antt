@@ -1,6 +1,6 @@
 use Rattle.std.proofs.Common.{◌≡◌, ◌+◌, ◌-◌, ◌%◌, ◌^◌, ◌<◌, List, [], length, set, get_or, slice_range, subst, sym, ap, ◌∙◌, arith, rules}
 use Rattle.change_record.specs.declared.change.Change.{Change}
-use Rattle.change_record.specs.Exchange.{FitBack, ArePuts, back_tables, back_left, forth_tables, forth_left}
+use Rattle.change_record.specs.Exchange.{FitBack, FitForth, ArePuts, back_tables, back_left, forth_tables, forth_left}
 use Rattle.change_record.specs.Tape.{step_at, begin_of, pieces, rest_of, AreEnds}
 use Rattle.change_record.proofs.Exchanges.{length-back_left, length-forth_left}
 use Rattle.change_record.proofs.Pieces.{length-pieces, length-piece, span_piece, span_put, span_ordered, restored}
@@ -21,6 +21,18 @@ span_forth-requires-clause-puts c =
     c.span_at-start.ensures.start c.span_at-start.ensures.end ∙ here in
     let P : List Change → Type 0 = λ l. ArePuts l in
     subst P (sym piece) c.requires.puts
+
+pub returns-in-Err-clause-fits : goal.returns-in-Err-clause-fits
+returns-in-Err-clause-fits c = λ fits.
+    let es = c.self.inside.ends.items in
+    let xs = c.self.inside.changes.items in
+    let lt : c.args.at < length es = omega (arith, c.requires.there, length-pieces 0 es xs, ap (λ r. length r.steps) c.self.view_is) in
+    let here : step_at (pieces 0 es xs) c.args.at ≡ step_at c.args.self.now.steps c.args.at = ap (λ r. step_at r.steps c.args.at) c.self.view_is in
+    let piece : slice_range c.as_mut_slice.result.now c.span_at-start.result.0 c.span_at-start.result.1 ≡ step_at c.args.self.now.steps c.args.at =
+    span_piece es c.as_slice.result.now xs c.as_mut_slice.result.now c.args.at _ _ c.as_slice.ensures.value c.as_mut_slice.ensures.value c.self.invariant lt
+    c.span_at-start.ensures.start c.span_at-start.ensures.end ∙ here in
+    let P : List Change → Type 0 = λ l. FitForth l c.args.parts.now.tables in
+    c.in-Err.ensures.fits (subst P (sym piece) fits)
 
 pub returns-in-Ok-clause-tables : goal.returns-in-Ok-clause-tables
 returns-in-Ok-clause-tables c =
