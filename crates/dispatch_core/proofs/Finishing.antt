@@ -1,5 +1,5 @@
 -- A request that the device has finished is ready to be completed.
-use Rattle.std.proofs.Common.{◌≡◌, ◌≢◌, ℕ, ◌+◌, ◌*◌, ◌<◌, ◌≤◌, ◌^◌, List, [], ◌∷◌, length, Option, Some, None, Bool, true, false, nat_eq, refl, sym, ap, ◌∙◌, subst, arith, rules, All}
+use Rattle.std.proofs.Common.{◌≡◌, ℕ, ◌*◌, length, Option, Some, true, nat_eq, subst, arith}
 use Rattle.std.proofs.lemmas.Bool.Decides.{nat_tests}
 use Rattle.sector_core.specs.declared.bio.Op.{Op}
 use Rattle.sector_core.specs.declared.bio.Op.TheVariants.{Fetch, Store}
@@ -9,9 +9,8 @@ use Rattle.sector_core.specs.declared.bio.Outcome.TheVariants.{Fetched, Stored, 
 use Rattle.request_pool.specs.declared.Request.{Request}
 use Rattle.change_record.specs.declared.change.Seat.{Seat}
 use Rattle.change_record.specs.Tables.{Tables}
-use Rattle.change_record.specs.Machine.{bios_at}
 use Rattle.plain_machine.specs.Step.{Limits, fits, payload_length}
-use Rattle.dispatch_core.specs.WellFormed.{at, one, WellFormed, IsWaiting}
+use Rattle.dispatch_core.specs.WellFormed.{WellFormed}
 use Rattle.dispatch_core.specs.Ranges.{total_count}
 use Rattle.dispatch_core.specs.Ready.{IsReady, HasBytes, HasPayload}
 use Rattle.dispatch_core.proofs.Sides.{CanFinish}

@@ -1,21 +1,19 @@
 -- Each step leaves a machine for later serials, and means what the plain step does.
-use Rattle.std.proofs.Common.{◌≡◌, ℕ, ◌+◌, ◌-◌, ◌<◌, ◌≤◌, List, [], ◌∷◌, ◌++◌, length, Option, Some, None, set, get_or, refl, sym, ap, ◌∙◌, subst, arith, rules, length-set}
+use Rattle.std.proofs.Common.{◌≡◌, ℕ, ◌+◌, ◌-◌, List, [], ◌∷◌, length, Option, Some, None, set, refl, ◌∙◌, arith, length-set}
 use Rattle.sector_core.specs.declared.range.Range.{Range}
 use Rattle.sector_core.specs.declared.bio.Op.{Op}
 use Rattle.sector_core.specs.declared.bio.Bio.{Bio}
 use Rattle.sector_core.specs.declared.bio.Outcome.{Outcome}
 use Rattle.request_pool.specs.declared.Request.{Request}
-use Rattle.tag_set.specs.declared.Issue.{Issue}
-use Rattle.process_queue.specs.declared.Link.{Link}
 use Rattle.change_record.specs.declared.change.Seat.{Seat}
 use Rattle.change_record.specs.Tables.{Tables}
-use Rattle.change_record.specs.Machine.{Plain, meaning, bios_at, outbox_at, put}
+use Rattle.change_record.specs.Machine.{meaning, bios_at, put}
 use Rattle.plain_machine.specs.Step.{Limits, submitted, unreaped, with_unreaped, completed, delivered, after_outcome}
 use Rattle.std.specs.Option.{option_map}
-use Rattle.dispatch_core.specs.WellFormed.{at, WellFormed, Sized, Seated, Kept, Placed}
+use Rattle.dispatch_core.specs.WellFormed.{WellFormed}
 use Rattle.dispatch_core.specs.Changes.{attached_tables, submitted_tables, reaped_tables, sent_tables, finished_tables, with_bios}
 use Rattle.dispatch_core.proofs.Sides.{CanAttach, CanSubmit, CanReap, CanSend, CanFinish}
-use Rattle.dispatch_core.proofs.Bios.{attached-seated, attached-kept, attached-seat, submitted-seated, submitted-kept, submitted-seat, submitted-outbox, reaped-seated, reaped-kept, reaped-seat, reaped-outbox, sent-seated, sent-kept, finished-seated, finished-kept, finished-outbox}
+use Rattle.dispatch_core.proofs.Bios.{attached-seated, attached-kept, submitted-seated, submitted-kept, submitted-seat, submitted-outbox, reaped-seated, reaped-kept, reaped-seat, reaped-outbox, sent-seated, sent-kept, finished-seated, finished-kept, finished-outbox}
 use Rattle.dispatch_core.proofs.Queues.{whole, attached-placed, submitted-placed, submitted-queue, submitted-flight, reaped-placed, reaped-queue, reaped-flight, sent-placed, sent-queue, sent-flight, finished-placed, finished-queue, finished-flight}
 
 -- serials that are earlier stay earlier

@@ -20,3 +20,4 @@ pub mod Opening
 pub mod Looks
 pub mod Contents
 pub mod Completing
+pub mod Recorded

@@ -1,7 +1,6 @@
 -- What the code reads off the tables is what the machine shows.
-use Rattle.std.proofs.Common.{◌≡◌, ℕ, ◌<◌, ◌≤◌, List, [], length, Option, Some, None, refl, sym, ap, ◌∙◌, subst, arith, rules, ◌⊎◌, inl, inr}
+use Rattle.std.proofs.Common.{◌≡◌, ℕ, ◌<◌, List, [], length, Some, refl, sym, ap, ◌∙◌, subst, arith, inl, inr}
 use Rattle.std.proofs.lemmas.Bool.{cases_lt}
-use Rattle.sector_core.specs.declared.bio.Bio.{Bio}
 use Rattle.change_record.specs.Tables.{Tables}
 use Rattle.std.specs.Option.{option_map}
 use Rattle.sector_core.specs.declared.range.Range.{Range}

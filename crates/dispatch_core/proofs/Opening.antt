@@ -1,5 +1,5 @@
 -- A machine before its first step.
-use Rattle.std.proofs.Common.{◌≡◌, ◌≢◌, ℕ, zero, suc, ◌+◌, ◌*◌, ◌<◌, ◌≤◌, ◌^◌, List, [], ◌∷◌, length, Option, Some, None, replicate, take, drop, get_or, sum_by, count_by, Bool, cond, is_some, map, mul-zero, refl, sym, ap, ◌∙◌, subst, arith, rules, All}
+use Rattle.std.proofs.Common.{◌≡◌, ℕ, zero, suc, ◌+◌, ◌*◌, ◌<◌, ◌≤◌, ◌^◌, List, [], Option, Some, None, replicate, drop, sum_by, count_by, cond, is_some, map, mul-zero, refl, sym, ap, ◌∙◌, subst, arith, All}
 use Rattle.std.proofs.lemmas.List.{length-replicate}
 use Rattle.std.proofs.lemmas.List.Folds.{sum_by-replicate}
 use Rattle.std.proofs.lemmas.List.Sums.{sum_by-take-le, sum_by-take-drop}
@@ -15,11 +15,10 @@ use Rattle.sector_core.specs.declared.bio.Bio.{Bio}
 use Rattle.request_pool.specs.declared.Request.{Request}
 use Rattle.tag_set.specs.declared.Issue.{Issue}
 use Rattle.process_queue.specs.declared.Link.{Link}
-use Rattle.process_queue.specs.Queue.{placed, queue_slots}
+use Rattle.process_queue.specs.Queue.{placed}
 use Rattle.change_record.specs.declared.change.Seat.{Seat}
-use Rattle.change_record.specs.Tables.{Tables, empty_tables}
-use Rattle.change_record.specs.Machine.{Plain, opening, meaning, outbox_at, bios_at, whole_at}
-use Rattle.plain_machine.specs.Step.{Limits}
+use Rattle.change_record.specs.Tables.{empty_tables}
+use Rattle.change_record.specs.Machine.{opening, meaning, outbox_at, bios_at, whole_at}
 use Rattle.dispatch_core.specs.WellFormed.{at, one, taken, times, named, bears, IsCompleted, WellFormed}
 
 at-replicate : {A : Type 0} (n k : ℕ) → at (replicate {A = Option A} n None) k ≡ None

@@ -16,7 +16,7 @@ use Rattle.sector_core.specs.Table.{AllTaken, IsFirstFree}
 use Rattle.request_pool.specs.declared.Request.{Request}
 use Rattle.tag_set.specs.declared.Issue.{Issue}
 use Rattle.process_queue.specs.declared.Link.{Link}
-use Rattle.process_queue.specs.Queue.{placed, queue_slots, first_in, first_slot, is_empty}
+use Rattle.process_queue.specs.Queue.{queue_slots, first_in, first_slot, is_empty}
 use Rattle.soft_queue.specs.Turn.{numbers, seats, is_waiting, next_seat}
 use Rattle.change_record.specs.declared.change.Seat.{Seat}
 use Rattle.change_record.specs.Tables.{Tables}

@@ -1,5 +1,6 @@
 pub mod WellFormed
 pub mod Changes
+pub mod Counts
 pub mod Relation
 pub mod Ranges
 pub mod Ready

@@ -1,6 +1,5 @@
 -- The sectors of a request, read off the slots of its bios.
 use Rattle.std.specs.Prelude.{ℕ, ◌≤◌, List, [], ◌∷◌, Option, None, Some, sum_by, slice_index_or}
-use Rattle.sector_core.specs.declared.range.Range.{Range}
 use Rattle.sector_core.specs.declared.bio.Bio.{Bio}
 
 abbrev pub start_of_bio : Option Bio → ℕ

@@ -1,9 +1,8 @@
 -- What the functions of the steps say: the plain step's answer, and what is left behind.
-use Rattle.std.specs.Prelude.{◌≡◌, ℕ, ◌+◌, ◌≤◌, Result, MatchResult, List}
+use Rattle.std.specs.Prelude.{◌≡◌, ℕ, ◌+◌, ◌≤◌, Result, MatchResult, List, length}
 use Rattle.sector_core.specs.declared.memory.OutOfMemory.{OutOfMemory as WantOfMemory}
 use Rattle.change_record.specs.declared.change.Change.{Change}
 use Rattle.change_record.specs.Tables.{Tables}
-use Rattle.change_record.specs.Trail.{IsTrail}
 use Rattle.change_record.specs.Machine.{Plain, meaning}
 use Rattle.plain_machine.specs.declared.answer.Answer.{Answer}
 use Rattle.plain_machine.specs.declared.answer.Answer.TheVariants.{Accepted, Refused, NotYet}
@@ -14,8 +13,9 @@ use Rattle.dispatch_core.specs.WellFormed.{WellFormed}
 abbrev pub Answers : (Plain → Outcome_of) → Tables → Result Answer WantOfMemory → Tables → Type 0
 Answers plain before result now = MatchResult result (λ answer. (meaning now, answer) ≡ plain (meaning before)) (λ _. IsAccepted (plain (meaning before)).1)
 
--- an accepted step leaves a machine for the next serial, and room for its end on the tape; a refused one leaves all as it was
-abbrev pub Leaves : Limits → ℕ → Answer → Tables → List Change → Tables → List Change → ℕ → Type 0
-Leaves l n (Accepted reply) before changes now left spare = WellFormed l (n + 1) now × (1 ≤ spare)
-Leaves l n (Refused code) before changes now left spare = (now ≡ before) × (left ≡ changes)
-Leaves l n (NotYet cause) before changes now left spare = (now ≡ before) × (left ≡ changes)
+-- an accepted step leaves a machine for the next serial, so many changes on the tape, and room for its end; a refused one
+-- leaves all as it was
+abbrev pub Leaves : Limits → ℕ → ℕ → Answer → Tables → List Change → Tables → List Change → ℕ → Type 0
+Leaves l n count (Accepted reply) before changes now left spare = WellFormed l (n + 1) now × (1 ≤ spare) × (length left ≡ length changes + count)
+Leaves l n count (Refused code) before changes now left spare = (now ≡ before) × (left ≡ changes)
+Leaves l n count (NotYet cause) before changes now left spare = (now ≡ before) × (left ≡ changes)

@@ -1,6 +1,5 @@
 -- A machine as its callers see it: its sizes, its tables, and how many exchanges were made.
-use Rattle.std.specs.Prelude.{◌≡◌, ℕ, ◌+◌, List, [], ◌∷◌, ◌++◌, Option, Some, None}
-use Rattle.std.specs.Option.{option_map}
+use Rattle.std.specs.Prelude.{◌≡◌, ℕ, List, [], ◌∷◌, ◌++◌, length}
 use Rattle.change_record.specs.declared.change.Change.{Change}
 use Rattle.change_record.specs.Tables.{Tables}
 use Rattle.change_record.specs.Trail.{IsTrail}
@@ -9,7 +8,7 @@ use Rattle.plain_machine.specs.declared.sizes.Sizes.{Sizes}
 use Rattle.plain_machine.specs.declared.answer.Answer.{Answer}
 use Rattle.plain_machine.specs.declared.answer.Answer.TheVariants.{Accepted, Refused, NotYet}
 use Rattle.plain_machine.specs.declared.answer.Work.{Work}
-use Rattle.plain_machine.specs.Step.{Limits, of_sizes, range_of}
+use Rattle.plain_machine.specs.Step.{of_sizes, range_of}
 use Rattle.dispatch_core.specs.WellFormed.{WellFormed}
 
 pub record Running : Type 0 where
@@ -25,11 +24,13 @@ plain_of m = meaning m.tables
 abbrev pub IsFor : ℕ → Running → Type 0
 IsFor n m = WellFormed (of_sizes m.sizes) n m.tables
 
--- an accepted step adds its changes to the tape, which lead back to the tables from before; a refused one adds none and changes nothing
-abbrev pub Records : Answer → List (List Change) → Tables → List (List Change) → Tables → Type 0
-Records (Accepted reply) steps before now_steps now = (changes : List Change) × (now_steps ≡ steps ++ changes ∷ []) × IsTrail changes now before
-Records (Refused code) steps before now_steps now = (now_steps ≡ steps) × (now ≡ before)
-Records (NotYet cause) steps before now_steps now = (now_steps ≡ steps) × (now ≡ before)
+-- an accepted step adds its changes to the tape, so many, which lead back to the tables from before; a refused one adds
+-- none and changes nothing
+abbrev pub Records : Answer → ℕ → List (List Change) → Tables → List (List Change) → Tables → Type 0
+Records (Accepted reply) count steps before now_steps now =
+    (changes : List Change) × (now_steps ≡ steps ++ changes ∷ []) × (length changes ≡ count) × IsTrail changes now before
+Records (Refused code) count steps before now_steps now = (now_steps ≡ steps) × (now ≡ before)
+Records (NotYet cause) count steps before now_steps now = (now_steps ≡ steps) × (now ≡ before)
 
 -- a request in flight, as a device takes it
 abbrev pub work_of : ℕ → Flight → Work

@@ -1,5 +1,5 @@
 -- What a look at a machine shows.
-use Rattle.std.specs.Prelude.{◌≡◌, ℕ, ◌<◌, ◌≤◌, List, Option, Some, None}
+use Rattle.std.specs.Prelude.{◌≡◌, ℕ, ◌<◌, ◌≤◌, Some, None}
 use Rattle.std.specs.FinMap as map
 use Rattle.dispatch_core.specs.declared.machine.SectorView.{SectorView}
 use Rattle.dispatch_core.specs.declared.machine.SectorView.TheVariants.{Outside, Base, Stored}

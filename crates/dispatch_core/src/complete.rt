@@ -4,6 +4,7 @@ ghost use Rattle.change_record.specs.Trail.{KeepsTrail};
 ghost use Rattle.change_record.specs.Machine.{bios_at};
 ghost use Rattle.plain_machine.specs.Step.{content, with_blocks, after_outcome, completed, result_of, rest_of_outcome};
 ghost use Rattle.dispatch_core.specs.Changes.{with_bios};
+ghost use Rattle.dispatch_core.specs.Counts.{blocks_put};
 ghost use Rattle.dispatch_core.specs.Ranges.{total_count};
 ghost use Rattle.dispatch_core.specs.Ready.{IsReady, HasBytes, HasPayload};
 ghost use Rattle.dispatch_core.specs.WellFormed.{at};
@@ -30,6 +31,7 @@ pub fn complete(
     }) }
     ensures trail { KeepsTrail tape.old.current parts.old.tables tape.new.current parts.new.tables }
     ensures steps { tape.new.steps ≡ tape.old.steps }
+    ensures count { OnOk result (length tape.new.current ≡ length tape.old.current + (length slots.now + blocks_put outcome.now (total_count parts.old.tables.bios slots.now))) }
     ensures room { tape.old.room ≤ tape.new.room + (total_count parts.old.tables.bios slots.now + length slots.now) }
     ensures spare { tape.new.spare ≡ tape.old.spare }
 {
@@ -76,6 +78,7 @@ fn put_blocks(
     ensures tables { OnOk result (parts.new.tables ≡ record parts.old.tables { overlay = after_outcome outcome.now parts.old.tables.overlay (bio.now ∷ []) }) }
     ensures trail { KeepsTrail tape.old.current parts.old.tables tape.new.current parts.new.tables }
     ensures steps { tape.new.steps ≡ tape.old.steps }
+    ensures count { OnOk result (length tape.new.current ≡ length tape.old.current + blocks_put outcome.now bio.now.range.count) }
     ensures room { tape.old.room ≤ tape.new.room + bio.now.range.count }
     ensures spare { tape.new.spare ≡ tape.old.spare }
 {
@@ -153,6 +156,7 @@ fn store(
     ensures tables { OnOk result (parts.new.tables ≡ record parts.old.tables { overlay = with_blocks parts.old.tables.overlay range.start range.count payload }) }
     ensures trail { KeepsTrail tape.old.current parts.old.tables tape.new.current parts.new.tables }
     ensures steps { tape.new.steps ≡ tape.old.steps }
+    ensures count { OnOk result (length tape.new.current ≡ length tape.old.current + range.count) }
     ensures room { tape.old.room ≤ tape.new.room + range.count }
     ensures spare { tape.new.spare ≡ tape.old.spare }
 {

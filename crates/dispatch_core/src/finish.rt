@@ -1,9 +1,10 @@
 // Finish: every bio of the request gets its result and goes to its session's outbox.
 ghost use Rattle.std.specs.Prelude.{◌≡◌, ◌+◌, ◌≤◌, ◌<◌, ◌++◌, ◌≢◌, ℕ, IfOk, MatchOption, None, Some, length, slice_set, slice_index_or};
-ghost use Rattle.change_record.specs.Machine.{outbox_at};
+ghost use Rattle.change_record.specs.Machine.{meaning, outbox_at};
 ghost use Rattle.change_record.specs.declared.change.Seat.{Seat};
 ghost use Rattle.change_record.specs.Trail.{KeepsTrail};
 ghost use Rattle.plain_machine.specs.Step.{finish, fits, of_sizes};
+ghost use Rattle.dispatch_core.specs.Counts.{finish_exchanges};
 ghost use Rattle.dispatch_core.specs.Relation.{Answers, Leaves};
 ghost use Rattle.dispatch_core.specs.WellFormed.{WellFormed};
 
@@ -29,7 +30,7 @@ pub fn run_finish(
 ) -> Result<Answer, OutOfMemory>
     requires { WellFormed (of_sizes sizes) serial parts.old.tables }
     ensures answers { Answers (λ m. finish (of_sizes sizes) m room tag issue outcome.now) parts.old.tables result parts.new.tables }
-    ensures leaves { IfOk result (λ answer. Leaves (of_sizes sizes) serial answer parts.old.tables tape.old.current parts.new.tables tape.new.current tape.new.spare) }
+    ensures leaves { IfOk result (λ answer. Leaves (of_sizes sizes) serial (finish_exchanges outcome.now ((meaning parts.old.tables).flight tag)) answer parts.old.tables tape.old.current parts.new.tables tape.new.current tape.new.spare) }
     ensures trail { KeepsTrail tape.old.current parts.old.tables tape.new.current parts.new.tables }
     ensures steps { tape.new.steps ≡ tape.old.steps }
 {
@@ -105,6 +106,7 @@ fn deliver(parts: &mut Parts, tape: &mut Tape, tag: u8, slot: Slot, seat: u8, sl
     } }
     ensures trail { KeepsTrail tape.old.current parts.old.tables tape.new.current parts.new.tables }
     ensures steps { tape.new.steps ≡ tape.old.steps }
+    ensures count { length tape.new.current ≡ length tape.old.current + 3 }
     ensures spare { tape.new.spare ≡ tape.old.spare }
 {
     let outbox = outbox_joined(outbox_slots(parts, seat), slots);

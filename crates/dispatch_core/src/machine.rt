@@ -1,12 +1,13 @@
 // The machine, and its view.
-ghost use Rattle.std.specs.Prelude.{◌≡◌, ◌+◌, ◌<◌, ◌≤◌, ◌^◌, ◌%◌, ℕ, [], IfOk, OnOk, OnErr, length, slice_set};
+ghost use Rattle.std.specs.Prelude.{◌≡◌, ◌+◌, ◌<◌, ◌≤◌, ◌^◌, ◌%◌, ℕ, [], IfOk, IsOk, OnOk, OnErr, length, slice_set};
 ghost use Rattle.std.specs.Option.{option_map};
-ghost use Rattle.change_record.specs.Exchange.{FitBack, ArePuts, back_tables, back_left, forth_tables, forth_left};
+ghost use Rattle.change_record.specs.Exchange.{FitBack, FitForth, ArePuts, back_tables, back_left, forth_tables, forth_left};
 ghost use Rattle.change_record.specs.Trail.{KeepsTrail};
 ghost use Rattle.change_record.specs.Machine.{meaning, opening};
 ghost use Rattle.change_record.specs.Tape.{step_at};
 ghost use Rattle.plain_machine.specs.Step.{step as plain_step, Applies, of_sizes};
 ghost use Rattle.dispatch_core.specs.WellFormed.{WellFormed};
+ghost use Rattle.dispatch_core.specs.Counts.{exchanges_of};
 ghost use Rattle.dispatch_core.specs.Relation.{Answers, Leaves};
 ghost use Rattle.dispatch_core.specs.Running.{plain_of, IsFor, Records, work_of};
 
@@ -71,7 +72,7 @@ impl Machine {
         requires well { IsFor serial self.old }
         requires idle { tape.old.current ≡ [] }
         ensures applies { Applies (of_sizes self.old.sizes) (plain_of self.old) serial room step.now (plain_of self.new) result }
-        ensures records { Records result tape.old.steps self.old.tables tape.new.steps self.new.tables }
+        ensures records { Records result (exchanges_of (plain_of self.old) step.now) tape.old.steps self.old.tables tape.new.steps self.new.tables }
         ensures well { IsFor (serial + 1) self.new }
         ensures idle { tape.new.current ≡ [] }
         ensures sizes { self.new.sizes ≡ self.old.sizes }
@@ -117,6 +118,7 @@ impl Machine {
         ensures current { tape.new.current ≡ tape.old.current }
         ensures err { OnErr result (self.new.tables ≡ self.old.tables) }
         ensures kept { OnErr result (tape.new.steps ≡ tape.old.steps) }
+        ensures fits { FitForth (step_at tape.old.steps at) self.old.tables → IsOk result }
         ensures sizes { self.new.sizes ≡ self.old.sizes }
     {
         match tape.forth(&mut self.parts, at) {
@@ -152,7 +154,7 @@ fn perform(
 ) -> Result<Answer, OutOfMemory>
     requires { WellFormed (of_sizes sizes) serial parts.old.tables }
     ensures answers { Answers (λ m. plain_step (of_sizes sizes) m serial room step.now) parts.old.tables result parts.new.tables }
-    ensures leaves { IfOk result (λ answer. Leaves (of_sizes sizes) serial answer parts.old.tables tape.old.current parts.new.tables tape.new.current tape.new.spare) }
+    ensures leaves { IfOk result (λ answer. Leaves (of_sizes sizes) serial (exchanges_of (meaning parts.old.tables) step.now) answer parts.old.tables tape.old.current parts.new.tables tape.new.current tape.new.spare) }
     ensures trail { KeepsTrail tape.old.current parts.old.tables tape.new.current parts.new.tables }
     ensures steps { tape.new.steps ≡ tape.old.steps }
 {

@@ -24,7 +24,7 @@ pub fn run_reap(
 ) -> Result<Answer, OutOfMemory>
     requires { WellFormed (of_sizes sizes) serial parts.old.tables }
     ensures answers { Answers (λ m. reap m room seat session) parts.old.tables result parts.new.tables }
-    ensures leaves { IfOk result (λ answer. Leaves (of_sizes sizes) serial answer parts.old.tables tape.old.current parts.new.tables tape.new.current tape.new.spare) }
+    ensures leaves { IfOk result (λ answer. Leaves (of_sizes sizes) serial 3 answer parts.old.tables tape.old.current parts.new.tables tape.new.current tape.new.spare) }
     ensures trail { KeepsTrail tape.old.current parts.old.tables tape.new.current parts.new.tables }
     ensures steps { tape.new.steps ≡ tape.old.steps }
 {
@@ -80,6 +80,7 @@ fn take_out(parts: &mut Parts, tape: &mut Tape, seat: u8, entry: Seat, place: Sl
     } }
     ensures trail { KeepsTrail tape.old.current parts.old.tables tape.new.current parts.new.tables }
     ensures steps { tape.new.steps ≡ tape.old.steps }
+    ensures count { length tape.new.current ≡ length tape.old.current + 3 }
     ensures spare { tape.new.spare ≡ tape.old.spare }
 {
     let slots = outbox_slots(parts, seat);

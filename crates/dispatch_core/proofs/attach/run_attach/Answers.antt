@@ -1,9 +1,10 @@
-use Rattle.std.proofs.Common.{◌+◌, subst, sym, arith, rules}
+use Rattle.std.proofs.Common.{◌+◌, length, subst, sym, ap, arith, rules}
 use Rattle.change_record.specs.Tables.{Tables}
 use Rattle.dispatch_core.specs.WellFormed.{WellFormed}
 use Rattle.plain_machine.specs.Step.{of_sizes}
 use Rattle.dispatch_core.proofs.Sides.{CanAttach}
 use Rattle.dispatch_core.proofs.Laws.{attached-well}
+use Rattle.dispatch_core.proofs.Recorded.{one_more}
 use Rattle.dispatch_core.proofs.attach.run_attach.Goals as goal
 
 pub returns-clause-leaves : goal.returns-clause-leaves
@@ -13,4 +14,5 @@ returns-clause-leaves c =
       subst P (sym c.exchange.ensures.tables)
           (attached-well (of_sizes c.args.sizes) c.args.serial c.args.parts.now.tables c.args.seat c.args.group c.args.prio c.requires can),
       omega (arith, c.exchange.ensures.spare, c.in_ok-reserve.ensures.spare),
+      omega (arith, one_more c.reserve.new.self.current c.exchange.new.self.current _ c.exchange.ensures.recorded, ap length c.reserve.ensures.current),
     )

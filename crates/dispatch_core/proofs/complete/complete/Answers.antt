@@ -1,7 +1,11 @@
-use Rattle.std.proofs.Common.{◌+◌, get_or, drop, sym, ap, ◌∙◌, subst, arith}
+use Rattle.std.proofs.lemmas.List.{drop_more}
+use Rattle.std.proofs.Common.{◌+◌, length, get_or, drop, sym, ap, ◌∙◌, subst, arith}
 use Rattle.sector_core.specs.declared.bio.Outcome.{Outcome}
+use Rattle.dispatch_core.specs.Counts.{blocks_put}
+use Rattle.dispatch_core.specs.Ranges.{total_count}
 use Rattle.dispatch_core.specs.Ready.{IsReady}
 use Rattle.dispatch_core.proofs.Completing.{completed_tables, first_taken, first_ends, first_done, first_ends_done, first_payload, first_total, first_bytes, tables_more, total_more, ready_more, ready_at, tables_at, changes_at}
+use Rattle.dispatch_core.proofs.Recorded.{one_more, blocks_put-sum, blocks_put-rest}
 use Rattle.dispatch_core.proofs.complete.complete.Goals as goal
 
 pub done_bio-requires-clause-taken : goal.done_bio-requires-clause-taken
@@ -93,5 +97,12 @@ loop-slot-preserved c =
       trail = λ o h. c.exchange.ensures.trail o (c.put_blocks.ensures.trail o (c.loop-slot.invariant.trail o h));
       steps = c.exchange.ensures.steps ∙ c.put_blocks.ensures.steps ∙ c.loop-slot.invariant.steps;
       room = omega (arith, total, changes, more, c.loop-slot.invariant.room, c.put_blocks.ensures.room, c.exchange.ensures.room);
+      count =
+          let here = one_more c.put_blocks.new.tape.current c.exchange.new.self.current _ c.exchange.ensures.recorded in
+          let part = ap (λ k. blocks_put c.loop-slot.rest k) total ∙ blocks_put-sum c.loop-slot.rest c.in_ok-done.done.range.count (total_count c.loop-slot.parts.tables.bios others) in
+          let after = ap (λ o. blocks_put o (total_count c.exchange.new.parts.tables.bios others)) left ∙ blocks_put-rest c.loop-slot.rest c.in_ok-done.done.range.count (total_count c.exchange.new.parts.tables.bios others)
+          ∙ ap (blocks_put c.loop-slot.rest) more in
+          let now = ap (λ l. length l + blocks_put c.loop-slot.rest (total_count c.loop-slot.parts.tables.bios l)) (drop_more c.args.slots.now c.loop-slot.slot-index 0 c.loop-slot-test.true) in
+          omega (arith, c.loop-slot.invariant.count, c.in_ok-put_blocks.ensures.count, here, part, after, now);
       spare = c.exchange.ensures.spare ∙ c.put_blocks.ensures.spare ∙ c.loop-slot.invariant.spare;
     }

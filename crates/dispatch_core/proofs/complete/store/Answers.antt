@@ -4,6 +4,7 @@ use Rattle.std.specs.FinMap as blocks
 use Rattle.change_record.specs.Tables.{Tables}
 use Rattle.plain_machine.specs.Step.{with_blocks}
 use Rattle.dispatch_core.proofs.Contents.{with_blocks-more, only_overlay}
+use Rattle.dispatch_core.proofs.Recorded.{one_more}
 use Rattle.dispatch_core.proofs.complete.store.Goals as goal
 
 pub new-block-requires : goal.new-block-requires
@@ -26,6 +27,7 @@ loop-sector-preserved c =
       trail = λ o h. c.try_exchange.ensures.trail o (c.loop-sector.invariant.trail o h);
       steps = c.try_exchange.ensures.steps ∙ c.loop-sector.invariant.steps;
       room = omega (arith, c.loop-sector.invariant.room, c.try_exchange.ensures.room);
+      count = omega (arith, c.loop-sector.invariant.count, one_more c.loop-sector.tape.current c.try_exchange.new.self.current _ c.in_ok-try_exchange.ensures.recorded);
       spare = c.try_exchange.ensures.spare ∙ c.loop-sector.invariant.spare;
       bytes = omega (arith, c.loop-sector.invariant.bytes, c.loop-sector-test.true, ap length c.in_ok-split_to.ensures.rest, length-drop 512 c.loop-sector.rest);
     }

@@ -11,6 +11,7 @@ invariant-loop-sector l = record {
   trail : KeepsTrail l.fn.tape.current l.fn.parts.tables l.tape.current l.parts.tables;
   steps : l.tape.steps ≡ l.fn.tape.steps;
   room : l.fn.tape.room + l.fn.range.start ≤ l.tape.room + l.sector;
+  count : length l.tape.current + l.fn.range.start ≡ length l.fn.tape.current + l.sector;
   spare : l.tape.spare ≡ l.fn.tape.spare;
   bytes : 512 * (l.sector-end - l.sector) ≤ length l.rest;
 }

@@ -1,17 +1,16 @@
-use Rattle.std.proofs.Common.{◌≡◌, ◌≢◌, ◌+◌, ◌<◌, ◌≤◌, ◌++◌, ℕ, List, ◌∷◌, [], length, Option, Some, None, Bool, true, false, set, subst, sym, ap, ◌∙◌, refl, arith, rules}
-use Rattle.sector_core.specs.declared.bio.Outcome.{Outcome}
+use Rattle.std.proofs.Common.{◌≡◌, ◌+◌, ◌<◌, ◌++◌, ℕ, List, length, Some, None, true, set, subst, sym, ap, ◌∙◌, arith, rules}
 use Rattle.request_pool.specs.declared.Request.{Request}
 use Rattle.tag_set.specs.declared.Issue.{Issue}
 use Rattle.change_record.specs.declared.change.Seat.{Seat}
 use Rattle.change_record.specs.Tables.{Tables}
-use Rattle.change_record.specs.Machine.{Plain, WholeRequest, Flight, meaning, bios_at, outbox_at}
-use Rattle.plain_machine.specs.declared.answer.Answer.{Answer}
-use Rattle.plain_machine.specs.declared.answer.Answer.TheVariants.{Accepted, Refused, NotYet}
+use Rattle.change_record.specs.Machine.{Flight, meaning, bios_at, outbox_at}
+use Rattle.plain_machine.specs.declared.answer.Answer.TheVariants.{Accepted}
 use Rattle.plain_machine.specs.declared.answer.Reply.TheVariants.{Finished}
-use Rattle.plain_machine.specs.Step.{of_sizes, finish, fits, size_of, after_outcome, completed, IsAccepted}
+use Rattle.plain_machine.specs.Step.{of_sizes, finish, fits, size_of}
 use Rattle.dispatch_core.specs.WellFormed.{at, WellFormed}
-use Rattle.dispatch_core.specs.Changes.{finished_tables, with_bios}
+use Rattle.dispatch_core.specs.Changes.{finished_tables}
 use Rattle.dispatch_core.specs.Ranges.{HasFewSectors, total_count}
+use Rattle.dispatch_core.specs.Counts.{blocks_put, finish_exchanges}
 use Rattle.dispatch_core.specs.Ready.{IsReady}
 use Rattle.dispatch_core.proofs.Sides.{CanFinish}
 use Rattle.dispatch_core.proofs.Bios.{outbox_room}
@@ -258,7 +257,14 @@ returns-clause-leaves c =
       outboxes = set u.outboxes seat (record { items = outbox_at u.outboxes seat ++ c.as_slice-slots.result.now });
     }) c.in_ok-complete.ensures.tables
     ∙ ap (λ s. finished_tables t c.args.tag borne.slot seat s c.args.outcome.now) slots in
+    let bios : length (bios_at t.bios r.bios.items) ≡ length c.as_slice-slots.result.now = length-bios_at t.bios r.bios.items (request_taken l n t borne.slot r c.requires here) ∙ sym (ap length slots) in
+    let made : finish_exchanges c.args.outcome.now ((meaning t).flight c.args.tag)
+    ≡ length c.as_slice-slots.result.now + blocks_put c.args.outcome.now (total_count t.bios c.as_slice-slots.result.now) + 3 =
+    ap (finish_exchanges c.args.outcome.now) flight
+    ∙ ap (λ k. k + blocks_put c.args.outcome.now (size_of (bios_at t.bios r.bios.items)) + 3) bios
+    ∙ ap (λ k. length c.as_slice-slots.result.now + blocks_put c.args.outcome.now k + 3) (size ∙ count ∙ ap (total_count t.bios) (sym slots)) in
     let P : Tables → Type 0 = λ u. WellFormed l (n + 1) u in (
       subst P (sym now) (finished-well l n t c.args.tag borne.issue borne.slot seat entry r c.args.outcome.now c.requires can),
       omega (arith, c.deliver.ensures.spare, c.in_ok-complete.ensures.spare, c.in_ok-reserve.ensures.spare),
+      omega (arith, made, c.deliver.ensures.count, c.in_ok-complete.ensures.count, ap length c.reserve.ensures.current),
     )

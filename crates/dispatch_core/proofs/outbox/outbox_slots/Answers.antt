@@ -1,4 +1,4 @@
-use Rattle.std.proofs.Common.{◌≡◌, ℕ, zero, suc, List, [], ◌∷◌, Option, Some, None, get_or, refl, sym, ap, ◌∙◌, rules}
+use Rattle.std.proofs.Common.{◌≡◌, ℕ, zero, suc, List, [], ◌∷◌, None, get_or, refl, sym, ap, rules}
 use Rattle.std.specs.Prelude.{slice_get}
 use Rattle.dispatch_core.proofs.outbox.outbox_slots.Goals as goal
 

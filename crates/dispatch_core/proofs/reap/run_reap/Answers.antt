@@ -1,15 +1,12 @@
-use Rattle.std.proofs.Common.{◌≡◌, ◌≢◌, ◌+◌, ◌<◌, ◌≤◌, ℕ, List, ◌∷◌, [], length, drop, Option, Some, None, Bool, true, false, unwrap_or, subst, sym, ap, ◌∙◌, refl, arith, rules}
+use Rattle.std.proofs.Common.{◌≡◌, ◌≢◌, ◌+◌, ℕ, List, ◌∷◌, length, drop, Some, unwrap_or, subst, sym, ap, ◌∙◌, arith, rules}
 use Rattle.std.specs.Prelude.{slice_get}
 use Rattle.sector_core.specs.declared.bio.Bio.{Bio}
-use Rattle.sector_core.specs.declared.bio.BioResult.{BioResult}
 use Rattle.sector_core.specs.declared.bio.BioResult.TheVariants.{Written}
-use Rattle.change_record.specs.declared.change.Seat.{Seat}
 use Rattle.change_record.specs.Tables.{Tables}
-use Rattle.change_record.specs.Machine.{Plain, meaning, bios_at, outbox_at}
-use Rattle.plain_machine.specs.declared.answer.Answer.{Answer}
-use Rattle.plain_machine.specs.declared.answer.Answer.TheVariants.{Accepted, Refused, NotYet}
+use Rattle.change_record.specs.Machine.{meaning, bios_at, outbox_at}
+use Rattle.plain_machine.specs.declared.answer.Answer.TheVariants.{Accepted}
 use Rattle.plain_machine.specs.declared.answer.Reply.TheVariants.{Completed}
-use Rattle.plain_machine.specs.Step.{of_sizes, accepted, reap}
+use Rattle.plain_machine.specs.Step.{of_sizes}
 use Rattle.dispatch_core.specs.WellFormed.{at, WellFormed}
 use Rattle.dispatch_core.specs.Changes.{reaped_tables}
 use Rattle.dispatch_core.proofs.Sides.{CanReap}
@@ -58,4 +55,5 @@ returns-clause-leaves c =
     let P : Tables → Type 0 = λ u. WellFormed l (c.args.serial + 1) u in (
       subst P (sym now) (reaped-well l c.args.serial t c.args.seat entry c.in-Some-copied.place rest bio c.requires can),
       omega (arith, c.take_out.ensures.spare, c.in_ok-reserve.ensures.spare),
+      omega (arith, c.take_out.ensures.count, ap length c.reserve.ensures.current),
     )

@@ -1,15 +1,13 @@
-use Rattle.std.proofs.Common.{◌≡◌, ◌≢◌, ◌+◌, ◌<◌, ◌≤◌, ℕ, List, ◌∷◌, [], length, Option, Some, None, Bool, true, false, subst, sym, ap, ◌∙◌, refl, arith, rules}
-use Rattle.sector_core.specs.declared.range.Range.{Range}
+use Rattle.std.proofs.Common.{◌≡◌, ◌+◌, length, Some, None, subst, sym, ap, ◌∙◌, arith, rules}
 use Rattle.sector_core.specs.Table.{AllTaken, IsFirstFree}
 use Rattle.request_pool.specs.declared.Request.{Request}
 use Rattle.process_queue.specs.Queue.{first_slot}
 use Rattle.soft_queue.specs.Turn.{next_seat}
 use Rattle.change_record.specs.Tables.{Tables}
-use Rattle.change_record.specs.Machine.{Plain, WholeRequest, meaning, bios_at}
-use Rattle.plain_machine.specs.declared.answer.Answer.{Answer}
-use Rattle.plain_machine.specs.declared.answer.Answer.TheVariants.{Accepted, Refused, NotYet}
+use Rattle.change_record.specs.Machine.{meaning, bios_at}
+use Rattle.plain_machine.specs.declared.answer.Answer.TheVariants.{Accepted}
 use Rattle.plain_machine.specs.declared.answer.Reply.TheVariants.{Issued}
-use Rattle.plain_machine.specs.Step.{of_sizes, accepted, dispatch, next_queue, lowest_free, range_of, IsAccepted}
+use Rattle.plain_machine.specs.Step.{of_sizes, dispatch, next_queue, lowest_free, range_of}
 use Rattle.dispatch_core.specs.WellFormed.{at, WellFormed}
 use Rattle.dispatch_core.specs.Changes.{sent_tables}
 use Rattle.dispatch_core.specs.Ranges.{HasFewSectors, first_start, total_count}
@@ -18,6 +16,7 @@ use Rattle.dispatch_core.proofs.Queues.{whole, next_queue_is, no_tag_free, tag_f
 use Rattle.dispatch_core.proofs.Laws.{sent-well, sent-meaning}
 use Rattle.dispatch_core.proofs.Sectors.{few_sectors_of, range_is, request_taken}
 use Rattle.dispatch_core.proofs.Decided.{dispatch_idle, dispatch_full, dispatch_does, dispatch_late, dispatch_accepts, Answers-err}
+use Rattle.dispatch_core.proofs.Recorded.{one_more}
 use Rattle.dispatch_core.proofs.send.run_dispatch.Goals as goal
 
 pub returns-in_default-clause-answers : goal.returns-in_default-clause-answers
@@ -164,4 +163,11 @@ returns-clause-leaves c =
     let P : Tables → Type 0 = λ u. WellFormed l (n + 1) u in (
       subst P (sym now) (sent-well l n t c.in-Some.seat slot tag request c.requires can),
       omega (arith, c.exchange.ensures.spare, c.exchange-2.ensures.spare, c.exchange-3.ensures.spare, c.in_ok-reserve.ensures.spare),
+      omega (
+        arith,
+        one_more c.reserve.new.self.current c.exchange.new.self.current _ c.exchange.ensures.recorded,
+        one_more c.exchange.new.self.current c.exchange-2.new.self.current _ c.exchange-2.ensures.recorded,
+        one_more c.exchange-2.new.self.current c.exchange-3.new.self.current _ c.exchange-3.ensures.recorded,
+        ap length c.reserve.ensures.current,
+      ),
     )

@@ -1,14 +1,12 @@
-use Rattle.std.proofs.Common.{◌≡◌, ◌≢◌, ◌+◌, ◌*◌, ◌<◌, ◌≤◌, List, ◌∷◌, [], length, Option, Some, None, Bool, true, false, cond, IsTrue, subst, sym, ap, ◌∙◌, refl, arith, rules}
-use Rattle.sector_core.specs.declared.bio.Bio.{Bio}
+use Rattle.std.proofs.Common.{◌≡◌, ◌+◌, ◌<◌, ◌≤◌, length, Some, None, subst, sym, ap, ◌∙◌, arith, rules}
 use Rattle.sector_core.specs.Table.{AllTaken}
 use Rattle.request_pool.specs.Slots.{seat_slots}
-use Rattle.change_record.specs.declared.change.Seat.{Seat}
 use Rattle.change_record.specs.Tables.{Tables}
 use Rattle.change_record.specs.Machine.{Plain, meaning}
 use Rattle.plain_machine.specs.declared.answer.Answer.{Answer}
-use Rattle.plain_machine.specs.declared.answer.Answer.TheVariants.{Accepted, Refused, NotYet}
+use Rattle.plain_machine.specs.declared.answer.Answer.TheVariants.{Accepted}
 use Rattle.plain_machine.specs.declared.answer.Reply.TheVariants.{Queued}
-use Rattle.plain_machine.specs.Step.{of_sizes, accepted, payload_length, queued, in_flight, submit, submitted, IsAccepted}
+use Rattle.plain_machine.specs.Step.{of_sizes, accepted, payload_length, submit, submitted, IsAccepted}
 use Rattle.dispatch_core.specs.WellFormed.{at, WellFormed}
 use Rattle.dispatch_core.specs.Changes.{submitted_tables}
 use Rattle.dispatch_core.proofs.Sides.{CanSubmit}
@@ -173,4 +171,5 @@ returns-clause-leaves c =
     let P : Tables → Type 0 = λ u. WellFormed l (c.args.serial + 1) u in (
       subst P (sym now) (submitted-well l c.args.serial t c.args.seat entry c.in-Some-free_request.slot c.in-Some-free_bio.place c.args.session c.args.op c.args.range c.args.payload.now c.requires can),
       omega (arith, c.insert.ensures.spare, c.in_ok-reserve.ensures.spare),
+      omega (arith, c.insert.ensures.count, ap length c.reserve.ensures.current),
     )

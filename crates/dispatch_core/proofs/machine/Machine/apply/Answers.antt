@@ -1,10 +1,7 @@
-use Rattle.std.proofs.Common.{◌≡◌, ◌+◌, List, [], Result, Ok, sym, ap, ◌∙◌, subst, refl, rules}
+use Rattle.std.proofs.Common.{◌≡◌, ◌+◌, List, [], sym, ◌∙◌, subst, refl, rules}
 use Rattle.change_record.specs.declared.change.Change.{Change}
 use Rattle.change_record.specs.Tables.{Tables}
-use Rattle.change_record.specs.Exchange.{back_tables}
 use Rattle.change_record.specs.Trail.{IsTrail}
-use Rattle.plain_machine.specs.declared.answer.Answer.{Answer}
-use Rattle.plain_machine.specs.declared.answer.Answer.TheVariants.{Refused, NotYet}
 use Rattle.plain_machine.specs.Step.{of_sizes}
 use Rattle.dispatch_core.specs.WellFormed.{WellFormed}
 use Rattle.dispatch_core.specs.Running.{Running, IsFor}

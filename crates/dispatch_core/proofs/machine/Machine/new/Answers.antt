@@ -1,7 +1,6 @@
 use Rattle.std.proofs.Common.{ap, ◌∙◌, sym, subst, arith}
 use Rattle.change_record.specs.Tables.{Loose}
 use Rattle.change_record.specs.Machine.{meaning}
-use Rattle.plain_machine.specs.Step.{Limits}
 use Rattle.dispatch_core.specs.WellFormed.{WellFormed}
 use Rattle.dispatch_core.proofs.Opening.{opening_is, opening-well}
 use Rattle.dispatch_core.proofs.machine.Machine.new.Goals as goal

@@ -1,7 +1,5 @@
-use Rattle.std.proofs.Common.{◌≡◌, Option, Some, ◌∙◌, ap, sym, subst, rules}
-use Rattle.sector_core.specs.declared.bio.Bio.{Bio}
+use Rattle.std.proofs.Common.{◌≡◌, Some, ◌∙◌, ap, sym, subst, rules}
 use Rattle.request_pool.specs.declared.Request.{Request}
-use Rattle.change_record.specs.Tables.{Tables}
 use Rattle.plain_machine.specs.Step.{of_sizes}
 use Rattle.dispatch_core.specs.WellFormed.{at}
 use Rattle.dispatch_core.specs.Ranges.{HasFewSectors, first_start, total_count}

@@ -1,5 +1,4 @@
 use Rattle.std.proofs.Common.{length, ◌∙◌, ap}
-use Rattle.change_record.specs.Tables.{Tables}
 use Rattle.change_record.specs.Machine.{outbox_at}
 use Rattle.plain_machine.specs.Step.{of_sizes}
 use Rattle.dispatch_core.proofs.Looks.{length-outbox}
