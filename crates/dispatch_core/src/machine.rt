@@ -47,6 +47,7 @@ impl Machine {
     pub fn new(alloc: Global, config: Config, sectors: u64) -> Result<Machine, OutOfMemory>
         requires { sectors < 2 ^ 55 }
         ensures sizes { IfOk result (λ m. m.sizes ≡ record { sectors = sectors; requests = config.nr_requests; tags = config.tags }) }
+        ensures turns { IfOk result (λ m. m.turns ≡ 0) }
         ensures opening { IfOk result (λ m. plain_of m ≡ opening) }
         ensures well { IfOk result (λ m. IsFor 1 m) }
     {

@@ -9,6 +9,7 @@ use Rattle.plain_machine.specs.declared.answer.Answer.TheVariants.{Accepted, Ref
 use Rattle.plain_machine.specs.declared.answer.Code.TheVariants.{OutOfMemory}
 use Rattle.plain_machine.specs.Step.{Limits, of_sizes, step, IsAccepted}
 use Rattle.plain_machine.specs.Keeper.{fold}
+use Rattle.dispatch_core.specs.Counts.{exchanges_of}
 
 pub record Line : Type 0 where
   pub sizes : Sizes
@@ -42,6 +43,12 @@ abbrev pub LineAfter : Line → Step → Answer → Line → Type 0
 LineAfter old s (Accepted reply) new = AddsStep old s new
 LineAfter old s (Refused code) new = SameLine old new
 LineAfter old s (NotYet cause) new = SameLine old new
+
+-- the lists of the steps that stand stay, and an accepted step adds one with exactly its exchanges
+abbrev pub LengthsAfter : Line → Step → Answer → Line → Type 0
+LengthsAfter old s (Accepted reply) new = new.lengths ≡ take old.cursor old.lengths ++ exchanges_of (plain_at old) s ∷ []
+LengthsAfter old s (Refused code) new = new.lengths ≡ old.lengths
+LengthsAfter old s (NotYet cause) new = new.lengths ≡ old.lengths
 
 -- the answer is the plain step's, and so is the line; or memory was wanting where the plain step accepts, and the line is the same
 abbrev pub MayStep : Line → Bool → Step → Answer → Line → Type 0

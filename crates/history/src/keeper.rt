@@ -50,7 +50,9 @@ impl Keeper {
     /// There is no memory for its machine.
     pub fn new(alloc: Global, config: Config, sectors: u64) -> Result<Keeper, OutOfMemory>
         requires { sectors < 2 ^ 55 }
-        ensures { IfOk result (λ k. k.state ≡ opened (record { sectors = sectors; requests = config.nr_requests; tags = config.tags }) config.history_max) }
+        ensures opened { IfOk result (λ k. k.state ≡ opened (record { sectors = sectors; requests = config.nr_requests; tags = config.tags }) config.history_max) }
+        ensures lengths { IfOk result (λ k. k.lengths ≡ []) }
+        ensures turns { IfOk result (λ k. k.turns ≡ 0) }
     {
         let roll = Roll::new(alloc, config, sectors)?;
         Ok(Keeper {
@@ -85,13 +87,15 @@ impl Keeper {
     /// How many calls were accepted. The keeper is what comes of these calls, one after the other, on a new one.
     pub fn journal_len(&self) -> usize
         ensures len { result ≡ length self.now.state.journal }
+        ensures few { result ≤ self.now.state.most }
         ensures replay { self.now.state ≡ replay self.now.state.limits self.now.state.most self.now.state.journal }
     {
         self.journal.len()
     }
 
     fn take_step(&mut self, alloc: Global, step: &Step) -> Answer
-        ensures { MayCall self.old.state (DoStep step.now) result self.new.state }
+        ensures may { MayCall self.old.state (DoStep step.now) result self.new.state }
+        ensures turns { Turns self.old (DoStep step.now) result self.new }
     {
         if self.held {
             return Answer::NotYet(Cause::Held);
@@ -275,7 +279,8 @@ impl<'a> KeeperView<'a> {
 
     /// How many steps stand.
     pub fn cursor(&self) -> u32
-        ensures { result ≡ self.now.state.cursor }
+        ensures cursor { result ≡ self.now.state.cursor }
+        ensures within { result ≤ length self.now.state.line }
     {
         let keeper = self.keeper;
         keeper.roll.cursor() as u32
@@ -283,7 +288,9 @@ impl<'a> KeeperView<'a> {
 
     /// How many steps the line has.
     pub fn length(&self) -> u32
-        ensures { result ≡ length self.now.state.line }
+        ensures length { result ≡ length self.now.state.line }
+        ensures few { result ≤ self.now.state.most }
+        ensures lists { result ≡ length self.now.lengths }
     {
         let keeper = self.keeper;
         keeper.roll.length() as u32
@@ -291,7 +298,8 @@ impl<'a> KeeperView<'a> {
 
     /// The last serial that was given.
     pub fn last_serial(&self) -> u64
-        ensures { result ≡ self.now.state.last }
+        ensures last { result ≡ self.now.state.last }
+        ensures few { result ≤ self.now.state.most }
     {
         let keeper = self.keeper;
         keeper.roll.last()

@@ -3,7 +3,7 @@ ghost use Rattle.std.specs.Prelude.{◌≡◌, ◌+◌, ◌-◌, ◌<◌, ◌≤
 ghost use Rattle.plain_machine.specs.Step.{of_sizes, IsAccepted};
 ghost use Rattle.plain_machine.specs.Keeper.{fold};
 ghost use Rattle.dispatch_core.specs.Running.{plain_of, IsFor};
-ghost use Rattle.history.specs.Roll.{plain_at, SameLine, MayStep};
+ghost use Rattle.history.specs.Roll.{plain_at, SameLine, LengthsAfter, MayStep};
 
 use change_record::{Tape, push_within};
 use dispatch_core::{Answer, Code, Machine, Step};
@@ -49,6 +49,8 @@ impl Roll {
         ensures steps { IfOk result (λ r. r.steps ≡ []) }
         ensures cursor { IfOk result (λ r. r.cursor ≡ 0) }
         ensures last { IfOk result (λ r. r.last ≡ 0) }
+        ensures lengths { IfOk result (λ r. r.lengths ≡ []) }
+        ensures turns { IfOk result (λ r. r.turns ≡ 0) }
     {
         let machine = Machine::new(alloc, config, sectors)?;
         Ok(Roll {
@@ -80,7 +82,8 @@ impl Roll {
 
     /// How many steps the line has.
     pub fn length(&self) -> usize
-        ensures { result ≡ length self.now.steps }
+        ensures steps { result ≡ length self.now.steps }
+        ensures lists { result ≡ length self.now.lengths }
     {
         self.line.len()
     }
@@ -96,6 +99,7 @@ impl Roll {
     pub fn step(&mut self, alloc: Global, room: bool, ready: bool, step: &Step) -> Answer
         requires { self.old.last + 1 < 2 ^ 64 }
         ensures may { MayStep self.old room step.now result self.new }
+        ensures lengths { LengthsAfter self.old step.now result self.new }
         ensures ready { IsAccepted result → IsTrue ready }
     {
         let copy = copy_of(&mut self.line, ready, step);

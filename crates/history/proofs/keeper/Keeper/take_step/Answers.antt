@@ -17,8 +17,8 @@ invariant_of-self c =
     keeper-same i.roll c.step.new.self i.held i.journal.items _ _ _ _ _ i.most
     (same-refused i.roll c.step.new.self c.has_room-room.result c.args.step.now c.in-Refused.code c.in-Refused.ensures.may) e.items e.len e.capacity c.self.invariant
 
-pub returns-in-Refused : goal.returns-in-Refused
-returns-in-Refused c =
+pub returns-in-Refused-clause-may : goal.returns-in-Refused-clause-may
+returns-in-Refused-clause-may c =
     let i = c.self.inside in
     let P : State → Type 0 = λ s. MayCall s (Do c.args.step.now) (Refused c.in-Refused.code) (state_of c.step.new.self i.held c.entry_of-entry.new.journal.items i.most) in
     subst P (ap (λ v. v.state) c.self.view_is)
@@ -32,8 +32,8 @@ invariant_of-self-in-NotYet c =
     keeper-same i.roll c.step.new.self i.held i.journal.items _ _ _ _ _ i.most
     (same-notyet i.roll c.step.new.self c.has_room-room.result c.args.step.now c.in-NotYet.cause c.in-NotYet.ensures.may) e.items e.len e.capacity c.self.invariant
 
-pub returns-in-NotYet : goal.returns-in-NotYet
-returns-in-NotYet c =
+pub returns-in-NotYet-clause-may : goal.returns-in-NotYet-clause-may
+returns-in-NotYet-clause-may c =
     let i = c.self.inside in
     let P : State → Type 0 = λ s. MayCall s (Do c.args.step.now) (NotYet c.in-NotYet.cause) (state_of c.step.new.self i.held c.entry_of-entry.new.journal.items i.most) in
     subst P (ap (λ v. v.state) c.self.view_is)

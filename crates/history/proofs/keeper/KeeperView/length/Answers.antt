@@ -12,5 +12,5 @@ overflow_cast-result c =
     let few = h.few in
     let bounded = h.bounded in
     let steps = h.steps in
-    let within = c.length.ensures in
+    let within = c.length.ensures.steps in
     search (rules, bounded, few, steps, within)

@@ -8,6 +8,9 @@ use Rattle.plain_machine.specs.declared.sizes.Sizes.{Sizes}
 use Rattle.plain_machine.specs.declared.call.Stamped.{Stamped}
 use Rattle.dispatch_core.specs.WellFormed.{WellFormed}
 use Rattle.plain_machine.specs.Step.{of_sizes, step as plain_step}
+use Rattle.std.specs.List.{take-map}
+use Rattle.std.proofs.lemmas.List.{map-append}
+use Rattle.dispatch_core.specs.Counts.{exchanges_of}
 use Rattle.dispatch_core.specs.Running.{plain_of}
 use Rattle.history.specs.Line.{IsLine}
 use Rattle.history.specs.Roll.{Line, plain_at, SameLine, AddsStep, MayStep}
@@ -56,7 +59,7 @@ invariant_of-self-in-Some c =
     let Q : List Stamped → Type 0 = λ l. IsLine l (suc k) (i.last + 1) c.apply.new.self.sizes c.apply.new.self.tables c.keep_last.new.self.steps c.keep_last.new.self.current in
     subst P (omega arith) (subst Q (sym lines) (same-line _ (suc k) (i.last + 1) _ _ _ _ _ _ _ _ c.apply.ensures.sizes refl tapes (c.keep_last.ensures.current ∙ sym c.self.invariant.idle)
     (step-line i.line.items k i.last i.machine.sizes i.machine.tables c.apply.new.self.tables i.tape.steps i.tape.current r.0 c.args.step.now
-    c.self.invariant r.2 (subst W c.apply.ensures.sizes c.apply.ensures.well) made_it)))
+    c.self.invariant r.3 (subst W c.apply.ensures.sizes c.apply.ensures.well) made_it)))
 
 pub returns-in-Some-clause-may : goal.returns-in-Some-clause-may
 returns-in-Some-clause-may c =
@@ -82,3 +85,24 @@ returns-in-None-clause-may c =
     let plain : plain_of i.machine ≡ plain_at old = past-fold _ _ _ i.line.items i.cursor i.machine.tables c.self.invariant.within c.self.invariant.past in
     subst P c.self.view_is (may-want old new (plain_of i.machine) (plain_of c.apply.new.self) c.args.room c.args.step.now c.in-Accepted.reply plain
     c.in-Accepted.ensures.applies (record { sizes = c.back.ensures.sizes ∙ c.apply.ensures.sizes; steps = c.copy_of-copy.ensures.items; cursor = refl; last = refl }))
+
+pub returns-in-Some-clause-lengths : goal.returns-in-Some-clause-lengths
+returns-in-Some-clause-lengths c =
+    let i = c.self.inside in
+    let k : ℕ = i.cursor in
+    let s = c.args.step.now in
+    let r = c.in-Accepted.ensures.records in
+    let old : Line = record { sizes = i.machine.sizes; steps = i.line.items; cursor = i.cursor; last = i.last; lengths = map length i.tape.steps; turns = i.machine.turns } in
+    let plain : plain_of i.machine ≡ plain_at old = past-fold _ _ _ i.line.items i.cursor i.machine.tables c.self.invariant.within c.self.invariant.past in
+    let cut : k ≤ length i.tape.steps = let e = c.self.invariant.even in let h = c.self.invariant.within in omega (arith, e, h) in
+    let tapes : c.keep_last.new.self.steps ≡ take k i.tape.steps ++ r.0 ∷ [] =
+    c.keep_last.ensures.steps
+    ∙ ap (λ l. take k l ++ step_at l (length l - 1) ∷ []) r.1
+    ∙ kept-last i.tape.steps r.0 k cut in
+    let count : length r.0 ≡ exchanges_of (plain_of i.machine) s = r.2 in
+    let lists : map length c.keep_last.new.self.steps ≡ take k (map length i.tape.steps) ++ exchanges_of (plain_at old) s ∷ [] =
+    ap (map length) tapes ∙ map-append length (take k i.tape.steps) (r.0 ∷ [])
+    ∙ ap (λ l. l ++ length r.0 ∷ []) (sym (take-map length k i.tape.steps))
+    ∙ ap (λ n. take k (map length i.tape.steps) ++ n ∷ []) (count ∙ ap (λ m. exchanges_of m s) plain) in
+    let P : Line → Type 0 = λ v. map length c.keep_last.new.self.steps ≡ take v.cursor v.lengths ++ exchanges_of (plain_at v) s ∷ [] in
+    subst P c.self.view_is lists
