@@ -12,3 +12,6 @@ mod submit;
 
 pub use machine::{Machine, SectorView, View};
 pub use plain_machine::{Answer, Cause, Code, Reply, Sizes, Step, Work};
+
+#[cfg(test)]
+mod tests;

@@ -1,0 +1,98 @@
+// The machine in examples: its steps are proved, and these say what they mean, and that a call succeeds while memory is left.
+ghost use Rattle.std.specs.Prelude.{◌≡◌, ◌+◌, []};
+ghost use Rattle.dispatch_core.specs.Running.{IsFor};
+
+use super::*;
+use bytes::Bytes;
+use change_record::Tape;
+use sector_core::{Config, ConfigDraft, Op, Outcome, Range};
+use std::alloc::Global;
+use std::test::Fail;
+
+const ONE: Range = Range { start: 5, count: 1 };
+
+// Applies a step, and tells the number of what was accepted, or of a refusal after 100, or of a wait after 200.
+fn applied(alloc: Global, machine: &mut Machine, tape: &mut Tape, serial: u64, step: &Step) -> u64
+    requires well { IsFor serial machine.old }
+    requires idle { tape.old.current ≡ [] }
+    ensures well { IsFor (serial + 1) machine.new }
+    ensures idle { tape.new.current ≡ [] }
+{
+    match machine.apply(alloc, serial, true, step, tape) {
+        Answer::Accepted(Reply::Attached { session }) => session,
+        Answer::Accepted(Reply::Queued { bio }) => bio,
+        Answer::Accepted(Reply::Completed { bio, .. }) => bio,
+        Answer::Accepted(Reply::Issued { issue, .. }) => issue,
+        Answer::Accepted(Reply::Finished { bios }) => u64::from(bios),
+        Answer::Accepted(_) => 0,
+        Answer::Refused(code) => 100 + u64::from(code.number()),
+        Answer::NotYet(cause) => 200 + u64::from(cause.number()),
+    }
+}
+
+fn is_stored(machine: &Machine) -> bool {
+    match machine.view().sector(5) {
+        SectorView::Outside => false,
+        SectorView::Base => false,
+        SectorView::Stored(_) => true,
+    }
+}
+
+// A block is stored, step by step; the lists have 1, 4, 3, 5 and 3 exchanges.
+#[test]
+fn store_of_a_block(rt: HostRuntime) -> Result<(), Fail> {
+    let alloc = rt.alloc();
+    let mut machine = Machine::new(alloc, Config::check(ConfigDraft::default())?, 8)?;
+    let mut tape = Tape::new(alloc);
+    assert_eq!(rt; machine.turns(), 0);
+
+    let attach = Step::Attach {
+        seat: 0,
+        group: 0,
+        prio: 4,
+    };
+    assert_eq!(rt; applied(alloc, &mut machine, &mut tape, 1, &attach), 1);
+    let store = Step::Submit {
+        seat: 0,
+        session: 1,
+        op: Op::Store,
+        range: ONE,
+        payload: Bytes::from_static(&[65; 512]),
+    };
+    assert_eq!(rt; applied(alloc, &mut machine, &mut tape, 2, &store), 2);
+    assert_eq!(rt; applied(alloc, &mut machine, &mut tape, 3, &Step::Dispatch), 3);
+    assert!(rt; machine.view().in_flight(0).is_some());
+    assert!(rt; !is_stored(&machine));
+    assert_eq!(rt; machine.turns(), 8);
+
+    let finish = Step::Finish {
+        tag: 0,
+        issue: 3,
+        outcome: Outcome::Stored,
+    };
+    assert_eq!(rt; applied(alloc, &mut machine, &mut tape, 4, &finish), 1);
+    assert!(rt; is_stored(&machine));
+    assert_eq!(rt; machine.view().outbox_len(0), 1);
+    let reap = Step::Reap {
+        seat: 0,
+        session: 1,
+    };
+    assert_eq!(rt; applied(alloc, &mut machine, &mut tape, 5, &reap), 2);
+    assert_eq!(rt; machine.view().outbox_len(0), 0);
+    assert_eq!(rt; tape.len(), 5);
+    assert_eq!(rt; machine.turns(), 16);
+    Ok(())
+}
+
+// A refused step adds no list and makes no exchange.
+#[test]
+fn refused_step(rt: HostRuntime) -> Result<(), Fail> {
+    let alloc = rt.alloc();
+    let mut machine = Machine::new(alloc, Config::check(ConfigDraft::default())?, 8)?;
+    let mut tape = Tape::new(alloc);
+    let idle = 100 + u64::from(Code::NothingQueued.number());
+    assert_eq!(rt; applied(alloc, &mut machine, &mut tape, 1, &Step::Dispatch), idle);
+    assert_eq!(rt; tape.len(), 0);
+    assert_eq!(rt; machine.turns(), 0);
+    Ok(())
+}
