@@ -51,7 +51,14 @@ EndsBy-through see prints left w0 w1 lines text rest last now WriteFault ends = 
     | inr bad ↦ inr (bad.0, bad.1, ap see bad.2)
   ],
 )
-EndsBy-through see prints left w0 w1 lines text rest last now OutOfMemory ends = ends
+EndsBy-through see prints left w0 w1 lines text rest last now OutOfMemory ends = (
+  ends.0,
+  ends.1,
+  elim ends.2 [
+    | inl same ↦ inl (ap see same)
+    | inr ran ↦ inr (ran.0, ran.1, ran.2, Step-through see prints last ran.0 ran.1 now ran.3)
+  ],
+)
 
 pub IsEnd-through : {C S : Type 0} (see : C → S) (prints : S → Line → List ℕ → S → Type 0) (r0 r1 w0 w1 : Known) (c0 c1 : C) (why : ScriptEnd)
     → IsEnd (through see prints) r0 r1 w0 w1 c0 c1 why → IsEnd prints r0 r1 w0 w1 (see c0) (see c1) why

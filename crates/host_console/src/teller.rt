@@ -1,5 +1,5 @@
 // A keeper run from a script.
-ghost use Rattle.std.specs.Prelude.{◌≡◌, ℕ, List, ◌++◌, IfOk, OnOk};
+ghost use Rattle.std.specs.Prelude.{◌≡◌, ℕ, List, ◌++◌, IfOk, OnOk, OnErr, ◌⊎◌};
 ghost use Rattle.host_console.specs.Printed.{Answers, Prints, outcome_of, ended, sector_text, cursor_text};
 
 use crate::Keeps;
@@ -58,10 +58,11 @@ impl<K: Keeps> Console for Teller<K> {
 }
 
 impl<K: Keeps> Teller<K> {
-    // Makes one call, and prints its answer.
+    // Makes one call, and prints its answer; where there is no memory for its text, the call is made.
     fn answer(&mut self, alloc: Global, call: &Call, out: &mut Vec<u8>) -> Result<(), OutOfMemory>
-        ensures { OnOk result ((text : List ℕ) × (out.new.items ≡ out.old.items ++ text)
+        ensures ok { OnOk result ((text : List ℕ) × (out.new.items ≡ out.old.items ++ text)
             × Answers (K.state self.old.keeper) call.now text (K.state self.new.keeper)) }
+        ensures err { OnErr result ((text : List ℕ) × Answers (K.state self.old.keeper) call.now text (K.state self.new.keeper)) }
     {
         let answer = self.keeper.call(alloc, call);
         put_answer(&answer, out).map_err(|_| OutOfMemory)?;
@@ -71,13 +72,14 @@ impl<K: Keeps> Teller<K> {
 
     // The call of a step.
     fn step(&mut self, alloc: Global, step: Step, out: &mut Vec<u8>) -> Result<(), OutOfMemory>
-        ensures { OnOk result ((text : List ℕ) × (out.new.items ≡ out.old.items ++ text)
+        ensures ok { OnOk result ((text : List ℕ) × (out.new.items ≡ out.old.items ++ text)
             × Answers (K.state self.old.keeper) (Call.Do step) text (K.state self.new.keeper)) }
+        ensures err { OnErr result ((text : List ℕ) × Answers (K.state self.old.keeper) (Call.Do step) text (K.state self.new.keeper)) }
     {
         self.answer(alloc, &Call::Do(step), out)
     }
 
-    // The call of a `finish` line.
+    // The call of a `finish` line; where there is no memory for the bytes of the device, no call is made.
     fn finish(
         &mut self,
         alloc: Global,
@@ -86,10 +88,13 @@ impl<K: Keeps> Teller<K> {
         ending: Ending,
         out: &mut Vec<u8>,
     ) -> Result<(), OutOfMemory>
-        ensures { OnOk result ((text : List ℕ) × (out.new.items ≡ out.old.items ++ text)
+        ensures ok { OnOk result ((text : List ℕ) × (out.new.items ≡ out.old.items ++ text)
             × Answers (K.state self.old.keeper)
             (Call.Do (Step.Finish tag issue (outcome_of (K.state self.old.keeper) tag issue ending)))
             text (K.state self.new.keeper)) }
+        ensures err { OnErr result ((self.new ≡ self.old) ⊎ ((text : List ℕ) × Answers (K.state self.old.keeper)
+            (Call.Do (Step.Finish tag issue (outcome_of (K.state self.old.keeper) tag issue ending)))
+            text (K.state self.new.keeper))) }
     {
         let outcome = self.outcome(alloc, tag, issue, ending)?;
         let step = Step::Finish {

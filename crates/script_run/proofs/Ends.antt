@@ -2,7 +2,7 @@
 use Rattle.std.proofs.Common.{◌≡◌, ℕ, ◌+◌, ◌<◌, ◌≤◌, List, [], ◌∷◌, ◌++◌, length, refl, sym, ap, subst, ◌∙◌, append_assoc, append-nil, length-append, arith, inl, inr}
 use Rattle.std.specs.Io.KnownBytes.{Appends, Consumes, Keeps, IsAtEnd}
 use Rattle.script_line.specs.declared.line.Line.{Line}
-use Rattle.script_run.specs.Script.{Known, IsLine, IsSilent, IsBad, IsWhole, IsNext, IsBadNext, Step, ended, bad_text, IsEnd, too_many, too_long, no_line}
+use Rattle.script_run.specs.Script.{Known, IsLine, IsSilent, IsBad, IsWhole, IsNext, IsBadNext, Step, MayHaveRun, ended, bad_text, IsEnd, too_many, too_long, no_line}
 use Rattle.script_run.specs.Steps.{IsCut, IsBadEnd, SoFar, OneMore}
 use Rattle.script_run.specs.declared.ending.ScriptEnd.{ScriptEnd}
 use Rattle.script_run.specs.declared.ending.ScriptEnd.TheVariants.{Done, BadLine, ReadFault, WriteFault, OutOfMemory}
@@ -103,7 +103,7 @@ stops_bad prints r0 r1 w0 w1 w2 c0 c1 c2 count begun waiting s bad same OutOfMem
       each = s.each;
       few = omega arith;
       runs = s.runs;
-      ends = (bad_some r1 s.lines (begun ++ waiting) bad, subst P (sym h) s.wrote);
+      ends = (bad_some r1 s.lines (begun ++ waiting) bad, subst P (sym h) s.wrote, inl same);
     }
 
 -- one line too many
@@ -198,8 +198,9 @@ done_none prints r0 r1 w0 w1 c0 c1 count begun empty s at_end =
 
 -- there is no memory for what the line prints
 pub stops_memory : {C : Type 0} (prints : C → Line → List ℕ → C → Type 0) (r0 r1 w0 w1 : Known) (c0 c1 c2 : C) (count : ℕ) (line after : List ℕ)
-    → SoFar prints r0 r1 w0 w1 c0 c1 count line after → 0 < length line → IsEnd prints r0 r1 w0 w1 c0 c2 OutOfMemory
-stops_memory prints r0 r1 w0 w1 c0 c1 c2 count line after s some =
+    → SoFar prints r0 r1 w0 w1 c0 c1 count line after → count < 1048576 → IsWhole r1 line after
+    → 0 < length line → MayHaveRun (Step prints) c1 line c2 → IsEnd prints r0 r1 w0 w1 c0 c2 OutOfMemory
+stops_memory prints r0 r1 w0 w1 c0 c1 c2 count line after s room whole some may =
     let counted = s.counted in
     let few = s.few in
     record {
@@ -211,7 +212,14 @@ stops_memory prints r0 r1 w0 w1 c0 c1 c2 count line after s some =
       each = s.each;
       few = omega arith;
       runs = s.runs;
-      ends = (omega (arith, length-append line after), s.wrote);
+      ends = (
+        omega (arith, length-append line after),
+        s.wrote,
+        elim may [
+          | inl same ↦ inl same
+          | inr ran ↦ inr (line, ran.0, is_next prints r0 r1 w0 w1 c0 c1 count line after s room whole, ran.1)
+        ],
+      );
     }
 
 -- a read failed

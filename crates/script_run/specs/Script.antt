@@ -48,6 +48,10 @@ Step prints before line text after =
     (IsSilent line × (text ≡ []) × (after ≡ before))
     ⊎ ((l : Line) × Fits l × (line ≡ spelled l) × prints before l text after)
 
+-- the line was not run, or it was run and what it printed is lost
+abbrev pub MayHaveRun : {C L : Type 0} → (C → L → List ℕ → C → Type 0) → C → L → C → Type 0
+MayHaveRun prints before line after = (after ≡ before) ⊎ ((text : List ℕ) × prints before line text after)
+
 -- lines run one after another, from one console to another, and print their texts in turn
 abbrev pub Runs : {C : Type 0} → (C → Line → List ℕ → C → Type 0) → C → List (List ℕ) → List ℕ → C → Type 0
 Runs prints before [] text after = (text ≡ []) × (after ≡ before)
@@ -96,9 +100,10 @@ EndsBy prints left w0 w1 lines text rest last now WriteFault =
     (front : List ℕ) × (unwritten : List ℕ) × (0 < length unwritten) × Appends w0 w1 (text ++ front)
     × (((line : List ℕ) × IsNext left lines rest line × Step prints last line (front ++ unwritten) now)
     ⊎ (IsBadNext left lines rest × (front ++ unwritten ≡ bad_text (length lines + 1)) × (now ≡ last)))
--- a next line is there, of which nothing is written
+-- a next line is there, of which nothing is written, and the console is as the lines left it, or as the next line may leave it
 EndsBy prints left w0 w1 lines text rest last now OutOfMemory =
     (0 < length rest) × Appends w0 w1 text
+    × ((now ≡ last) ⊎ ((line : List ℕ) × (printed : List ℕ) × IsNext left lines rest line × Step prints last line printed now))
 
 -- A run from a reader that had r0 to read and has r1 left, to a writer that held w0 and holds w1,
 -- of a console that was c0 and is c1: the lines are the first of the bytes read, they all ran in their order,

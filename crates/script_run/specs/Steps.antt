@@ -3,7 +3,7 @@ use Rattle.std.specs.Prelude.{◌≡◌, ℕ, ◌+◌, ◌<◌, ◌≤◌, List,
 use Rattle.std.specs.List.{AllByRecursion}
 use Rattle.std.specs.Io.KnownBytes.{Appends, Consumes}
 use Rattle.script_line.specs.declared.line.Line.{Line}
-use Rattle.script_run.specs.Script.{Known, IsLine, IsBad, Step, Runs, ended, bad_text, most_lines}
+use Rattle.script_run.specs.Script.{Known, IsLine, IsBad, Step, MayHaveRun, Runs, ended, bad_text, most_lines}
 use Rattle.script_run.specs.declared.ending.ScriptEnd.{ScriptEnd}
 use Rattle.script_run.specs.declared.ending.ScriptEnd.TheVariants.{Done, BadLine, ReadFault, WriteFault, OutOfMemory}
 use Rattle.script_run.specs.declared.line.Ran.{Ran}
@@ -42,11 +42,11 @@ IsLastEnd ReadFault = ⊥
 IsLastEnd WriteFault = Unit {0}
 IsLastEnd OutOfMemory = Unit {0}
 
--- a line ran, or is bad, or had no memory
+-- a line ran, or is bad, or there was no memory for what it prints, and then it may have run
 abbrev pub HasRun : {C : Type 0} → (C → Line → List ℕ → C → Type 0) → List ℕ → C → List ℕ → C → Ran → Type 0
 HasRun prints line before text after Printed = Step prints before line text after
 HasRun prints line before text after Bad = IsBad line × (after ≡ before)
-HasRun prints line before text after NoMemory = 0 < length line
+HasRun prints line before text after NoMemory = (0 < length line) × MayHaveRun (Step prints) before line after
 
 -- the lines so far have run, one has begun, and `waiting` is read but not yet looked at
 pub record SoFar {C : Type 0} (prints : C → Line → List ℕ → C → Type 0) (r0 r1 w0 w1 : Known) (c0 c1 : C)

@@ -237,4 +237,5 @@ fn memory_ends(rt: HostRuntime) {
     let end = run_lines(rt.alloc(), &mut reader, &mut writer, &mut console);
     assert_eq!(rt; end, ScriptEnd::OutOfMemory);
     assert_eq!(rt; writer.taken.as_slice(), b"call 1\n".as_slice());
+    assert_eq!(rt; console.calls, 1);
 }

@@ -1,0 +1,20 @@
+use Rattle.std.proofs.Common.{inr}
+use Rattle.std.proofs.lemmas.Result.{on_err_weaker}
+use Rattle.host_console.proofs.teller.TellerConsole.run.Goals as goal
+
+pub returns-in-Read-clause-err : goal.returns-in-Read-clause-err
+returns-in-Read-clause-err g c =
+    rw c.in-Read.is (on_err_weaker c.step-in-Read.result (λ h. inr h) (rw c.fetch.ensures at c.step-in-Read.ensures.err))
+
+pub returns-in_ok-step-in-Write-clause-err : goal.returns-in_ok-step-in-Write-clause-err
+returns-in_ok-step-in-Write-clause-err g c =
+    rw c.in-Write.is (on_err_weaker c.step-in-Write.result (λ h. inr h) (rw c.in_ok-step-in-Write.ensures at c.step-in-Write.ensures.err))
+
+pub returns-in-Reap-clause-err : goal.returns-in-Reap-clause-err
+returns-in-Reap-clause-err g c = rw c.in-Reap.is (on_err_weaker c.step-in-Reap.result (λ h. inr h) c.step-in-Reap.ensures.err)
+
+pub returns-in-Finish-clause-err : goal.returns-in-Finish-clause-err
+returns-in-Finish-clause-err g c = rw c.in-Finish.is c.finish.ensures.err
+
+pub returns-in-Redo-clause-err : goal.returns-in-Redo-clause-err
+returns-in-Redo-clause-err g c = rw c.in-Redo.is (on_err_weaker c.answer-in-Redo.result (λ h. inr h) c.answer-in-Redo.ensures.err)
