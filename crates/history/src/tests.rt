@@ -18,9 +18,13 @@ fn told(answer: &Answer) -> u64 {
         Answer::Accepted(Reply::Finished { bios }) => *bios as u64,
         Answer::Accepted(Reply::Moved { cursor, length }) => *cursor as u64 * 10 + *length as u64,
         Answer::Accepted(_) => 0,
-        Answer::Refused(code) => 100 + code.number() as u64,
+        Answer::Refused(code) => refused(*code),
         Answer::NotYet(cause) => 200 + cause.number() as u64,
     }
+}
+
+fn refused(code: Code) -> u64 {
+    100 + code.number() as u64
 }
 
 fn attach(seat: u8) -> Call {
@@ -58,53 +62,42 @@ fn is_stored(keeper: &Keeper) -> bool {
     }
 }
 
-// A store is undone and redone; then its dispatch is undone, and another one made, whose serial is new.
+// A store is undone and redone; then its dispatch is undone, and another one made, whose serial is new. After each call:
+// the answer, the cursor, the length of the line, and whether the block is stored.
 #[test]
 fn undone_and_redone(rt: HostRuntime) -> Result<(), Fail> {
     let alloc = rt.alloc();
     let mut keeper = Keeper::new(alloc, Config::check(ConfigDraft::default())?, 8)?;
     let calls = [
-        (attach(0), 1),
-        (store(alloc)?, 2),
-        (Call::Do(Step::Dispatch), 3),
-        (finish(3), 1),
-        (Call::Release, 100 + Code::NotHeld.number() as u64),
-        (Call::Hold, 44),
-        (Call::Hold, 100 + Code::AlreadyHeld.number() as u64),
-        (attach(1), 200 + Cause::Held.number() as u64),
-        (Call::Undo { k: 0 }, 100 + Code::ZeroCount.number() as u64),
-        (
-            Call::Undo { k: 5 },
-            100 + Code::NothingToUndo.number() as u64,
-        ),
-        (Call::Undo { k: 1 }, 34),
+        (attach(0), 1, 1, 1, false),
+        (store(alloc)?, 2, 2, 2, false),
+        (Call::Do(Step::Dispatch), 3, 3, 3, false),
+        (finish(3), 1, 4, 4, true),
+        (Call::Release, refused(Code::NotHeld), 4, 4, true),
+        (Call::Hold, 44, 4, 4, true),
+        (Call::Hold, refused(Code::AlreadyHeld), 4, 4, true),
+        (attach(1), 200 + Cause::Held.number() as u64, 4, 4, true),
+        (Call::Undo { k: 0 }, refused(Code::ZeroCount), 4, 4, true),
+        (Call::Undo { k: 5 }, refused(Code::NothingToUndo), 4, 4, true),
+        (Call::Undo { k: 1 }, 34, 3, 4, false),
+        (Call::Redo { k: 1 }, 44, 4, 4, true),
+        (Call::Redo { k: 1 }, refused(Code::NothingToRedo), 4, 4, true),
+        // Another future: the two last steps are cut off by the next one.
+        (Call::Undo { k: 2 }, 24, 2, 4, false),
+        (Call::Release, 0, 2, 4, false),
+        (Call::Do(Step::Dispatch), 5, 3, 3, false),
+        (finish(3), refused(Code::NotInFlight), 3, 3, false),
     ];
-    for (call, wanted) in calls.iter() {
-        assert_eq!(rt; told(&keeper.call(alloc, call)), *wanted);
+    for (call, answer, cursor, length, stored) in calls.iter() {
+        assert_eq!(rt; told(&keeper.call(alloc, call)), *answer);
+        assert_eq!(rt; keeper.view().cursor(), *cursor);
+        assert_eq!(rt; keeper.view().length(), *length);
+        assert_eq!(rt; is_stored(&keeper), *stored);
     }
-    assert!(rt; !is_stored(&keeper));
-    assert!(rt; keeper.view().machine().in_flight(0).is_some());
-
-    assert_eq!(rt; told(&keeper.call(alloc, &Call::Redo { k: 1 })), 44);
-    assert!(rt; is_stored(&keeper));
-    assert_eq!(rt; keeper.view().machine().outbox_len(0), 1);
-    assert_eq!(rt;
-        told(&keeper.call(alloc, &Call::Redo { k: 1 })),
-        100 + Code::NothingToRedo.number() as u64
-    );
-
-    // Another future: the two last steps are cut off by the next one.
-    assert_eq!(rt; told(&keeper.call(alloc, &Call::Undo { k: 2 })), 24);
-    assert_eq!(rt; told(&keeper.call(alloc, &Call::Release)), 0);
-    assert_eq!(rt; told(&keeper.call(alloc, &Call::Do(Step::Dispatch))), 5);
-    assert_eq!(rt;
-        told(&keeper.call(alloc, &finish(3))),
-        100 + Code::NotInFlight.number() as u64
-    );
-    assert_eq!(rt; keeper.view().cursor(), 3);
-    assert_eq!(rt; keeper.view().length(), 3);
     assert_eq!(rt; keeper.view().last_serial(), 5);
     assert!(rt; !keeper.view().held());
+    assert!(rt; keeper.view().machine().in_flight(0).is_some());
+    assert_eq!(rt; keeper.view().machine().outbox_len(0), 0);
 
     // Four steps, a hold, an undo, a redo, an undo, a release and a step.
     assert_eq!(rt; keeper.journal_len(), 10);
@@ -120,7 +113,7 @@ fn run_of_calls(rt: HostRuntime) -> Result<(), Fail> {
         Err(_) => return Err(Fail::from("no call was made")),
     }
     let calls = [attach(0), attach(0), store(alloc)?, Call::Hold];
-    let wanted = [1, 100 + Code::SeatTaken.number() as u64, 2, 22];
+    let wanted = [1, refused(Code::SeatTaken), 2, 22];
     match keeper.run(alloc, calls.as_slice()) {
         Ok(answers) => {
             assert_eq!(rt; answers.len(), 4);
@@ -140,7 +133,7 @@ fn full_history(rt: HostRuntime) -> Result<(), Fail> {
     let mut draft = ConfigDraft::default();
     draft.history_max = 2;
     let mut keeper = Keeper::new(alloc, Config::check(draft)?, 8)?;
-    let full = 100 + Code::HistoryFull.number() as u64;
+    let full = refused(Code::HistoryFull);
     let calls = [
         (attach(0), 1),
         (Call::Hold, 11),

@@ -28,7 +28,7 @@ OPTIONS
     --first-budget N     sectors of a new queue's budget, 256 to --max-budget (1024)
     --max-budget N       sectors of the greatest budget, 256 to 65536 (4096)
     --timeout N          ticks until a queue in service expires, 1 to 1000 (8)
-    --history N          steps kept for undo, 1 to 16777216 (65536)
+    --history N          accepted calls at most, 1 to 16777216 (65536)
     --first-vtime N      virtual time at the start, 0 to 2^62 (0)
     --sectors N          sectors of the device in memory, 0 to 65536 (1024)
     --help, -h           print this help
