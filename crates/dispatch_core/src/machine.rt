@@ -250,6 +250,14 @@ impl<'a> View<'a> {
         })
     }
 
+    /// How many exchanges were made on it, modulo 2^64.
+    pub fn turns(&self) -> u64
+        ensures { result ≡ self.now.turns }
+    {
+        let machine = self.machine;
+        machine.turns()
+    }
+
     /// How many completed bios of a seat are not yet reaped.
     pub fn outbox_len(&self, seat: u8) -> usize
         ensures { (n : ℕ) → IsFor n self.now → result ≡ length ((plain_of self.now).outbox seat) }

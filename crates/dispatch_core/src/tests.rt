@@ -60,7 +60,10 @@ fn store_of_a_block(rt: HostRuntime) -> Result<(), Fail> {
         payload: Bytes::from_static(&[65; 512]),
     };
     assert_eq!(rt; applied(alloc, &mut machine, &mut tape, 2, &store), 2);
-    assert_eq!(rt; applied(alloc, &mut machine, &mut tape, 3, &Step::Dispatch), 3);
+    assert_eq!(rt;
+        applied(alloc, &mut machine, &mut tape, 3, &Step::Dispatch),
+        3
+    );
     assert!(rt; machine.view().in_flight(0).is_some());
     assert!(rt; !is_stored(&machine));
     assert_eq!(rt; machine.turns(), 8);
@@ -91,8 +94,37 @@ fn refused_step(rt: HostRuntime) -> Result<(), Fail> {
     let mut machine = Machine::new(alloc, Config::check(ConfigDraft::default())?, 8)?;
     let mut tape = Tape::new(alloc);
     let idle = 100 + u64::from(Code::NothingQueued.number());
-    assert_eq!(rt; applied(alloc, &mut machine, &mut tape, 1, &Step::Dispatch), idle);
+    assert_eq!(rt;
+        applied(alloc, &mut machine, &mut tape, 1, &Step::Dispatch),
+        idle
+    );
     assert_eq!(rt; tape.len(), 0);
     assert_eq!(rt; machine.turns(), 0);
+    Ok(())
+}
+
+// A step is turned back, and forth again; each makes its one exchange.
+#[test]
+fn attach_back_and_forth(rt: HostRuntime) -> Result<(), Fail> {
+    let alloc = rt.alloc();
+    let mut machine = Machine::new(alloc, Config::check(ConfigDraft::default())?, 8)?;
+    let mut tape = Tape::new(alloc);
+    let attach = Step::Attach {
+        seat: 0,
+        group: 0,
+        prio: 4,
+    };
+    match machine.apply(alloc, 1, true, &attach, &mut tape) {
+        Answer::Accepted(_) => {}
+        Answer::Refused(_) => return Err(Fail::from("the seat is free")),
+        Answer::NotYet(_) => return Err(Fail::from("no attach waits")),
+    }
+    assert_eq!(rt; tape.size(0), 1);
+    assert_eq!(rt; machine.turns(), 1);
+    machine.back(&mut tape, 0);
+    assert_eq!(rt; machine.turns(), 2);
+    machine.forth(&mut tape, 0)?;
+    assert_eq!(rt; machine.turns(), 3);
+    assert_eq!(rt; machine.view().turns(), 3);
     Ok(())
 }

@@ -5,7 +5,7 @@ use Rattle.plain_machine.specs.declared.call.Call.{Call}
 use Rattle.plain_machine.specs.declared.call.Call.TheVariants.{Do, Hold, Release, Undo, Redo}
 use Rattle.plain_machine.specs.declared.answer.Answer.{Answer}
 use Rattle.plain_machine.specs.declared.answer.Answer.TheVariants.{Accepted, Refused, NotYet}
-use Rattle.plain_machine.specs.Keeper.{machine_of}
+use Rattle.plain_machine.specs.Keeper.{machine_of, MayCall}
 use Rattle.dispatch_core.specs.Counts.{exchanges_of}
 use Rattle.history.specs.Kept.{Kept}
 
@@ -31,3 +31,11 @@ Turns old (Do s) (Refused code) new = new.lengths ≡ old.lengths
 Turns old (Do s) (NotYet cause) new = new.lengths ≡ old.lengths
 Turns old Hold answer new = (new.turns ≡ old.turns) × (new.lengths ≡ old.lengths)
 Turns old Release answer new = (new.turns ≡ old.turns) × (new.lengths ≡ old.lengths)
+
+-- calls one after the other, each answered so, and with these exchanges
+abbrev pub KeptRun : Kept → List Call → List Answer → Kept → Type 0
+KeptRun k [] [] next = next ≡ k
+KeptRun k [] (answer ∷ answers) next = ⊥
+KeptRun k (call ∷ calls) [] next = ⊥
+KeptRun k (call ∷ calls) (answer ∷ answers) next =
+    (mid : Kept) × MayCall k.state call answer mid.state × Turns k call answer mid × KeptRun mid calls answers next

@@ -1,6 +1,7 @@
 // Calls one after the other, and the laws of Undo and Redo.
 ghost use Rattle.std.specs.Prelude.{◌≡◌, ◌+◌, ◌-◌, ◌≤◌, ◌<◌, IfOk, IfErr, length, take};
 ghost use Rattle.plain_machine.specs.Keeper.{State, machine_of, called, MayRun};
+ghost use Rattle.history.specs.Turns.{KeptRun};
 
 use crate::keeper::Keeper;
 use change_record::push_within;
@@ -26,6 +27,8 @@ impl Keeper {
     pub fn run(&mut self, alloc: Global, calls: &[Call]) -> Result<Vec<Answer>, RunStop>
         ensures ok { IfOk result (λ answers. MayRun self.old.state calls.now answers.items self.new.state) }
         ensures err { IfErr result (λ stop. MayRun self.old.state (take stop.made calls.now) stop.answers.items self.new.state) }
+        ensures turns { IfOk result (λ answers. KeptRun self.old calls.now answers.items self.new) }
+        ensures stop_turns { IfErr result (λ stop. KeptRun self.old (take stop.made calls.now) stop.answers.items self.new) }
         ensures before { IfErr result (λ stop. stop.made < length calls.now) }
     {
         let mut answers = Vec::new(alloc);

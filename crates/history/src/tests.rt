@@ -78,10 +78,22 @@ fn undone_and_redone(rt: HostRuntime) -> Result<(), Fail> {
         (Call::Hold, refused(Code::AlreadyHeld), 4, 4, true),
         (attach(1), 200 + Cause::Held.number() as u64, 4, 4, true),
         (Call::Undo { k: 0 }, refused(Code::ZeroCount), 4, 4, true),
-        (Call::Undo { k: 5 }, refused(Code::NothingToUndo), 4, 4, true),
+        (
+            Call::Undo { k: 5 },
+            refused(Code::NothingToUndo),
+            4,
+            4,
+            true,
+        ),
         (Call::Undo { k: 1 }, 34, 3, 4, false),
         (Call::Redo { k: 1 }, 44, 4, 4, true),
-        (Call::Redo { k: 1 }, refused(Code::NothingToRedo), 4, 4, true),
+        (
+            Call::Redo { k: 1 },
+            refused(Code::NothingToRedo),
+            4,
+            4,
+            true,
+        ),
         // Another future: the two last steps are cut off by the next one.
         (Call::Undo { k: 2 }, 24, 2, 4, false),
         (Call::Release, 0, 2, 4, false),
@@ -98,6 +110,9 @@ fn undone_and_redone(rt: HostRuntime) -> Result<(), Fail> {
     assert!(rt; !keeper.view().held());
     assert!(rt; keeper.view().machine().in_flight(0).is_some());
     assert_eq!(rt; keeper.view().machine().outbox_len(0), 0);
+
+    // The steps make 1, 4, 3 and 5 exchanges, the Undo and the Redo of one step 5 each, the Undo of two 8, the Dispatch 3.
+    assert_eq!(rt; keeper.view().machine().turns(), 34);
 
     // Four steps, a hold, an undo, a redo, an undo, a release and a step.
     assert_eq!(rt; keeper.journal_len(), 10);

@@ -3,7 +3,8 @@ use Rattle.std.proofs.lemmas.List.{take_more}
 use Rattle.plain_machine.specs.Keeper.{MayRun}
 use Rattle.plain_machine.specs.declared.call.Call.{Call}
 use Rattle.plain_machine.specs.declared.answer.Answer.{Answer}
-use Rattle.history.proofs.Runs.{run-more}
+use Rattle.history.specs.Turns.{KeptRun}
+use Rattle.history.proofs.Runs.{run-more, kept-more}
 use Rattle.history.proofs.keeper.Keeper.run.Goals as goal
 
 pub loop-made-preserved : goal.loop-made-preserved
@@ -15,5 +16,11 @@ loop-made-preserved c =
     let Q : List Answer → Type 0 = λ l. MayRun c.args.self.now.state (take made calls ++ call ∷ []) l c.call.new.self.state in
     let now : c.push_within.new.items.items ≡ c.loop-made.answers.items ++ c.call.result ∷ [] = c.push_within.ensures.items ∙ ap (λ l. l ++ c.call.result ∷ []) c.reserve.ensures.items in
     let cut : take (made + 1) calls ≡ take made calls ++ call ∷ [] = take_more calls made call c.loop-made-test.true ∙ ap (λ x. take made calls ++ x ∷ []) (sym c.index-calls-made.is) in
-    subst P (sym cut) (subst Q (sym now) (run-more c.args.self.now.state c.loop-made.self.state c.call.new.self.state (take made calls) c.loop-made.answers.items call c.call.result
-    c.loop-made.invariant c.call.ensures.may))
+    let R : List Call → Type 0 = λ l. KeptRun c.args.self.now l c.push_within.new.items.items c.call.new.self in
+    let S : List Answer → Type 0 = λ l. KeptRun c.args.self.now (take made calls ++ call ∷ []) l c.call.new.self in
+    record {
+      run = subst P (sym cut) (subst Q (sym now) (run-more c.args.self.now.state c.loop-made.self.state c.call.new.self.state (take made calls) c.loop-made.answers.items call c.call.result
+          c.loop-made.invariant.run c.call.ensures.may));
+      kept = subst R (sym cut) (subst S (sym now) (kept-more c.args.self.now c.loop-made.self c.call.new.self (take made calls) c.loop-made.answers.items call c.call.result
+          c.loop-made.invariant.kept c.call.ensures.may c.call.ensures.turns));
+    }
