@@ -1,4 +1,5 @@
 pub mod Numbers
 pub mod Step
 pub mod Keeper
+pub mod Owed
 pub use Rattle.change_record.specs.Machine

@@ -1,0 +1,150 @@
+-- Submit and Reap: one counter changes with the queue or the outbox of its seat.
+use Rattle.std.proofs.Common.{true, ◌≡◌, ◌≢◌, ◌⊎◌, inl, inr, ℕ, suc, ◌+◌, ◌-◌, List, [], ◌∷◌, ◌++◌, length, Option, Some, None, All, refl, sym, ap, ◌∙◌, subst, arith, eqb-true}
+use Rattle.std.specs.Option.{option_map, option_map_or}
+use Rattle.std.proofs.lemmas.Bool.{cases_eq}
+use Rattle.std.proofs.lemmas.List.Elements.{All-same, All-push, All-weaker}
+use Rattle.std.proofs.lemmas.List.Sums.{sum_by_push}
+use Rattle.sector_core.specs.declared.bio.Bio.{Bio}
+use Rattle.sector_core.specs.declared.bio.Op.{Op}
+use Rattle.sector_core.specs.declared.range.Range.{Range}
+use Rattle.change_record.specs.declared.change.Seat.{Seat}
+use Rattle.change_record.specs.Machine.{WholeRequest, Plain, put}
+use Rattle.plain_machine.specs.Step.{Limits, is_session, unreaped, with_unreaped, submitted}
+use Rattle.plain_machine.specs.Owed.{bios_in, bios_of, flying, owed}
+use Rattle.plain_machine.proofs.Puts.{put_here, put_other, put_cases}
+use Rattle.plain_machine.proofs.Debts.{Seated, SitsAt, Sound, some_is, bios_in-same}
+
+-- the seats with another counter at one of them
+abbrev counted : (ℕ → Option Seat) → ℕ → ℕ → ℕ → Option Seat
+counted seats seat c = put seats seat (option_map (with_unreaped c) (seats seat))
+
+-- who sits at a seat sat there before, and has the counter that was put there or the same one
+abbrev pub SatBefore : (ℕ → Option Seat) → ℕ → ℕ → ℕ → Seat → Type 0
+SatBefore seats seat c k s =
+    (old : Seat) × (seats k ≡ Some old) × (s.session ≡ old.session) × (((k ≡ seat) × (s.unreaped ≡ c)) ⊎ ((k ≢ seat) × (s.unreaped ≡ old.unreaped)))
+
+seat_before_here : (seats : ℕ → Option Seat) (seat c k : ℕ) (s : Seat) (o : Option Seat) → k ≡ seat → seats seat ≡ o → option_map (with_unreaped c) o ≡ Some s → SatBefore seats seat c k s
+seat_before_here seats seat c k s None same is e = cc
+seat_before_here seats seat c k s (Some old) same is e =
+    let made : with_unreaped c old ≡ s = some_is (with_unreaped c old) s e in
+    (old, ap seats same ∙ is, sym (ap (λ (t : Seat). t.session) made), inl (same, sym (ap (λ (t : Seat). t.unreaped) made)))
+
+seat_before : (seats : ℕ → Option Seat) (seat c k : ℕ) (s : Seat) → counted seats seat c k ≡ Some s → SatBefore seats seat c k s
+seat_before seats seat c k s e = elim (put_cases seats seat (option_map (with_unreaped c) (seats seat)) k (Some s) e) [
+  | inl x ↦ seat_before_here seats seat c k s (seats seat) x.0 refl x.1
+  | inr x ↦ (s, x.1, refl, inr (x.0, refl))
+]
+
+is_session-with : (session c : ℕ) (o : Option Seat) → is_session session (option_map (with_unreaped c) o) ≡ is_session session o
+is_session-with session c None = refl
+is_session-with session c (Some s) = refl
+
+is_session-counted : (session : ℕ) (seats : ℕ → Option Seat) (seat c k : ℕ) → is_session session (counted seats seat c k) ≡ is_session session (seats k)
+is_session-counted session seats seat c k = elim (cases_eq k seat) [
+  | inl e ↦
+      ap (is_session session) (put_here seats seat (option_map (with_unreaped c) (seats seat)) k e)
+      ∙ is_session-with session c (seats seat) ∙ sym (ap (λ j. is_session session (seats j)) e)
+  | inr ne ↦ ap (is_session session) (put_other seats seat (option_map (with_unreaped c) (seats seat)) k ne)
+]
+
+none_with : (c : ℕ) (o : Option Seat) → option_map (with_unreaped c) o ≡ None → o ≡ None
+none_with c None e = refl
+none_with c (Some s) e = cc
+
+none_counted : (seats : ℕ → Option Seat) (seat c k : ℕ) → counted seats seat c k ≡ None → seats k ≡ None
+none_counted seats seat c k e = elim (put_cases seats seat (option_map (with_unreaped c) (seats seat)) k None e) [
+  | inl x ↦ ap seats x.0 ∙ none_with c (seats seat) x.1
+  | inr x ↦ x.1
+]
+
+Seated-counted : (n : ℕ) (seats : ℕ → Option Seat) (seat c : ℕ) → Seated n seats → Seated n (counted seats seat c)
+Seated-counted n seats seat c h = record {
+  given = λ k s e. let old = seat_before seats seat c k s e in omega (arith, old.2, h.given k old.0 old.1);
+  apart = λ j k s t e f same.
+      let a = seat_before seats seat c j s e in
+      let b = seat_before seats seat c k t f in
+      h.apart j k a.0 b.0 a.1 b.1 (sym a.2 ∙ same ∙ b.2);
+}
+
+-- a machine with another counter at a seat, and other queues and outboxes
+abbrev recounted : Plain → ℕ → ℕ → (ℕ → List WholeRequest) → (ℕ → List Bio) → Plain
+recounted m seat c queue outbox = record m { seat = counted m.seat seat c; queue = queue; outbox = outbox }
+
+-- the queue and the outbox of the seat alone change, and the counter with them
+recounted-sound : (l : Limits) (n : ℕ) (m : Plain) (seat c : ℕ) (queue : ℕ → List WholeRequest) (outbox : ℕ → List Bio) → Sound l n m
+    → ((k : ℕ) → All (SitsAt m.seat k) (queue k)) → ((k : ℕ) → m.seat k ≡ None → outbox k ≡ [])
+    → ((k : ℕ) → k ≢ seat → queue k ≡ m.queue k) → ((k : ℕ) → k ≢ seat → outbox k ≡ m.outbox k)
+    → ((s : Seat) → m.seat seat ≡ Some s → c ≡ owed l (recounted m seat c queue outbox) seat s.session)
+    → Sound l n (recounted m seat c queue outbox)
+recounted-sound l n m seat c queue outbox h sits none queues outboxes is = record {
+  seated = Seated-counted n m.seat seat c h.seated;
+  queued = λ k. All-weaker (SitsAt m.seat k) (SitsAt (counted m.seat seat c) k) (λ r p. is_session-counted r.session m.seat seat c k ∙ p) (queue k) (sits k);
+  flown = h.flown;
+  empty = λ k e. none k (none_counted m.seat seat c k e);
+  counts = λ k s e.
+      let old = seat_before m.seat seat c k s e in
+      let new = recounted m seat c queue outbox in
+      elim old.3 [
+        | inl x ↦ x.1 ∙ is old.0 (sym (ap m.seat x.0) ∙ old.1) ∙ sym (ap (λ j. owed l new j old.0.session) x.0) ∙ sym (ap (owed l new k) old.2)
+        | inr x ↦
+            x.1 ∙ h.counts k old.0 old.1
+            ∙ sym (ap (λ q. bios_of old.0.session q + bios_of old.0.session (flying l m) + length (m.outbox k)) (queues k x.0))
+            ∙ sym (ap (λ o. bios_of old.0.session (queue k) + bios_of old.0.session (flying l m) + length o) (outboxes k x.0))
+            ∙ sym (ap (owed l new k) old.2)
+      ];
+}
+
+-- what the counter of a seat is
+unreaped_is : (m : Plain) (seat : ℕ) (s : Seat) → m.seat seat ≡ Some s → unreaped m seat ≡ s.unreaped
+unreaped_is m seat s e = ap (λ o. option_map_or (λ (t : Seat). t.unreaped) o 0) e
+
+-- and the session
+session_is : (m : Plain) (seat session : ℕ) (s : Seat) → m.seat seat ≡ Some s → is_session session (m.seat seat) ≡ true → s.session ≡ session
+session_is m seat session s e sits = eqb-true s.session session (sym (ap (is_session session) e) ∙ sits)
+
+-- Submit: one bio more is queued.
+queued-push : (seats : ℕ → Option Seat) (queue : ℕ → List WholeRequest) (seat : ℕ) (r : WholeRequest) → is_session r.session (seats seat) ≡ true
+    → ((k : ℕ) → All (SitsAt seats k) (queue k)) → (k : ℕ) → All (SitsAt seats k) (put queue seat (queue seat ++ r ∷ []) k)
+queued-push seats queue seat r sits h k =
+    let more = queue seat ++ r ∷ [] in
+    elim (cases_eq k seat) [
+      | inl e ↦
+          let P : ℕ → Type 0 = λ j. All (SitsAt seats j) more in
+          All-same (SitsAt seats k) (put queue seat more k) more (put_here queue seat more k e) (subst P (sym e) (All-push (SitsAt seats seat) (queue seat) r (h seat) sits))
+      | inr ne ↦ All-same (SitsAt seats k) (put queue seat more k) (queue k) (put_other queue seat more k ne) (h k)
+    ]
+
+pub submitted-sound : (l : Limits) (n : ℕ) (m : Plain) (seat session : ℕ) (op : Op) (range : Range) (payload : List ℕ)
+    → is_session session (m.seat seat) ≡ true → Sound l n m → Sound l n (submitted m n seat session op range payload)
+submitted-sound l n m seat session op range payload sits h =
+    let bio : Bio = record { serial = n; range = range; payload = payload; result = None } in
+    let r : WholeRequest = record { session = session; op = op; bios = bio ∷ [] } in
+    let more = m.queue seat ++ r ∷ [] in
+    recounted-sound l n m seat (unreaped m seat + 1) (put m.queue seat more) m.outbox h
+    (queued-push m.seat m.queue seat r sits h.queued) h.empty
+    (λ k ne. put_other m.queue seat more k ne) (λ k ne. refl)
+    (λ s e.
+    let had = h.counts seat s e in
+    let counter = unreaped_is m seat s e in
+    let one : bios_in s.session r ≡ 1 = bios_in-same s.session r (sym (session_is m seat session s e sits)) in
+    let longer : bios_of s.session more ≡ bios_of s.session (m.queue seat) + bios_in s.session r = sum_by_push (bios_in s.session) (m.queue seat) r in
+    let here : bios_of s.session (put m.queue seat more seat) ≡ bios_of s.session more = ap (bios_of s.session) (put_here m.queue seat more seat refl) in
+    omega (arith, had, counter, one, longer, here))
+
+-- Reap: one bio less is in the outbox.
+pub reaped-sound : (l : Limits) (n : ℕ) (m : Plain) (seat : ℕ) (bio : Bio) (bios : List Bio) → m.outbox seat ≡ bio ∷ bios → Sound l n m
+    → Sound l n (record m { seat = put m.seat seat (option_map (with_unreaped (unreaped m seat - 1)) (m.seat seat)); outbox = put m.outbox seat bios })
+reaped-sound l n m seat bio bios first h =
+    recounted-sound l n m seat (unreaped m seat - 1) m.queue (put m.outbox seat bios) h
+    h.queued
+    (λ k none. elim (cases_eq k seat) [
+      | inl e ↦ let some : [] ≡ bio ∷ bios = sym (h.empty k none) ∙ ap m.outbox e ∙ first in cc
+      | inr ne ↦ put_other m.outbox seat bios k ne ∙ h.empty k none
+    ])
+    (λ k ne. refl) (λ k ne. put_other m.outbox seat bios k ne)
+    (λ s e.
+    let had = h.counts seat s e in
+    let counter = unreaped_is m seat s e in
+    let before : length (m.outbox seat) ≡ suc (length bios) = ap length first in
+    let after : length (put m.outbox seat bios seat) ≡ length bios = ap length (put_here m.outbox seat bios seat refl) in
+    omega (arith, had, counter, before, after))

@@ -1,0 +1,5 @@
+use Rattle.plain_machine.proofs.Serials.{unreaped-owed}
+use Rattle.plain_machine.proofs.laws.unreaped_is_owed.Goals as goal
+
+pub returns : goal.returns
+returns c = unreaped-owed
