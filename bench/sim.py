@@ -4,8 +4,8 @@
     python3 bench/sim.py
 
 A script of N accepted calls has cycles of one write, its dispatch, its finish and its reap, over 1,024 sectors, after
-one attach. Each figure is the median of 5 runs, in user plus system time of the process, with that of an empty script
-taken off. Peak memory is that of the process, by getrusage, with that of an empty script taken off. Beside each
+one attach. Each figure is the median of 25 rounds, in user plus system time of the process, with that of an empty script
+of the same round taken off. Peak memory is that of the process, by getrusage, with that of an empty script taken off. Beside each
 figure that has a bound stands the bound, and the status is 1 where one is not kept.
 """
 
@@ -20,7 +20,7 @@ TOP = os.path.dirname(os.path.dirname(os.path.abspath(__file__)))
 PROGRAM = os.path.join(TOP, "crates", "bfqhost", "out", "bfqhost")
 WORDS = ["sim", "--scheduler", "none", "--history", "300000"]
 
-RUNS = 5
+RUNS = 25
 SECTORS = 1024
 FEW = 6_000
 MANY = 60_000
@@ -64,13 +64,20 @@ def spent(path):
     """Seconds of user plus system time and KiB of peak memory of one run on a script.
 
     A process that Python starts counts Python's own memory in its peak. So a shell starts the program and ends, and
-    the program, whose parent it was, becomes a child of this process.
+    the program, whose parent it was, becomes a child of this process. It begins once the shell has ended, so that the
+    shell does not wait for it in this process's place.
     """
-    shell = '"$@" <"$script" >/dev/null & echo $!'
-    started = subprocess.run(
+    shell = 'exec 3<&0; { read -r go <&3; exec 3<&-; exec "$@" <"$script"; } >/dev/null & echo $!'
+    started = subprocess.Popen(
         ["/bin/sh", "-c", shell, "sh", PROGRAM, *WORDS],
-        env={**os.environ, "script": path}, stdout=subprocess.PIPE, check=True)
-    _, status, usage = os.wait4(int(started.stdout), 0)
+        env={**os.environ, "script": path}, stdin=subprocess.PIPE, stdout=subprocess.PIPE)
+    pid = int(started.stdout.read())
+    if started.wait() != 0:
+        sys.exit("bench: the program was not started")
+    started.stdin.write(b"go\n")
+    started.stdin.close()
+    started.stdout.close()
+    _, status, usage = os.wait4(pid, 0)
     if status != 0:
         sys.exit("bench: the program did not end well")
     return usage.ru_utime + usage.ru_stime, usage.ru_maxrss
@@ -122,22 +129,25 @@ def main():
                 time, peak = spent(os.path.join(folder, name))
                 seconds[name].append(time)
                 peaks[name].append(peak)
-    time = {name: statistics.median(runs) for name, runs in seconds.items()}
     peak = {name: statistics.median(runs) for name, runs in peaks.items()}
 
+    def between(name, other):
+        """How much longer one script takes than another, both in the same round."""
+        return statistics.median(time - less for time, less in zip(seconds[name], seconds[other]))
+
     def per_call(name, calls):
-        return (time[name] - time["empty"]) / calls
+        return between(name, "empty") / calls
 
     def bytes_per_call(name, calls):
         return (peak[name] - peak["empty"]) * 1024 / calls
 
-    print(f"medians of {RUNS} runs; start of the process: {time['empty'] * 1e3:.2f} ms, {peak['empty']:.0f} KiB")
+    print(f"medians of {RUNS} runs; start of the process: {statistics.median(seconds['empty']) * 1e3:.2f} ms, {peak['empty']:.0f} KiB")
     for name, calls in (("few", FEW), ("many", MANY)):
         print(f"{calls:>7,} calls: {per_call(name, calls) * 1e6:6.3f} us and {bytes_per_call(name, calls):6.0f} bytes per call, "
               f"{bytes_per_call(name, calls) - PAYLOAD_BYTES_PER_CALL:6.0f} bytes beyond payload")
-    steps = time["many"] - time["half"]
-    undo = time["undone"] - time["held"]
-    redo = time["redone"] - time["undone"]
+    steps = between("many", "half")
+    undo = between("undone", "held")
+    redo = between("redone", "undone")
     print(f"{BACK:>7,} steps: {steps * 1e3:.2f} ms; undone in {undo * 1e3:.2f} ms, redone in {redo * 1e3:.2f} ms")
 
     growth = per_call("many", MANY) / per_call("few", FEW)
