@@ -7,12 +7,16 @@
 //! | [`ProcessQueue::unlink`] | takes a slot out of its queue |
 //! | [`ProcessQueue::first`] | the earliest inserted slot of a seat's queue |
 //! | [`ProcessQueue::is_empty`] | whether a seat's queue has no slot |
+//! | [`ProcessQueue::merge_place`] | which request of a seat's queue a bio joins, and at which end |
 //!
 //! A slot is in one queue at most. A queue is the slots that are linked to its seat, in the order of their serials.
 
 ghost use Rattle.std.specs.Prelude.{◌≡◌, ◌≤◌, None, Some, IfOk, length, replicate, slice_index_or, slice_set, List, ℕ};
 ghost use Rattle.process_queue.specs.Queue.{first_in, first_slot, insert_in, is_empty, queue_slots};
 
+mod merge;
+
+pub use merge::Place;
 use sector_core::{OutOfMemory, Slot, empty_table};
 use std::alloc::Global;
 use std::marker::Model;
