@@ -1,5 +1,9 @@
-// What no clause says: that queues can be made while memory is left.
+// What no clause says: that queues can be made while memory is left. The rule of merges at numbers, taken from its words.
 use super::*;
+use arrayvec::ArrayVec;
+use bytes::Bytes;
+use request_pool::{Request, RequestPool};
+use sector_core::{Bio, Op, Range};
 use std::test::Fail;
 
 #[test]
@@ -27,5 +31,117 @@ fn queues(rt: HostRuntime) -> Result<(), Fail> {
     // Slot 4 is not there.
     assert_eq!(rt; queues.link(4, 2, 8), Some(Link { seat: 2, serial: 8 }));
     assert!(rt; queues.is_empty(2));
+    Ok(())
+}
+
+// Puts a request of session 1 in a slot of the pool, with its bios in the slots of bios from `from` on.
+fn put(pool: &mut RequestPool, slot: Slot, from: Slot, ranges: &[Range]) -> Result<(), Fail> {
+    let mut bios = ArrayVec::new();
+    let mut place = from;
+    for range in ranges {
+        let bio = Bio {
+            serial: 1,
+            range: *range,
+            payload: Bytes::new(),
+            result: None,
+        };
+        let _none = pool.exchange_bio(place, Some(bio));
+        bios.try_push(place)?;
+        place = place.saturating_add(1);
+    }
+    let request = Request {
+        session: 1,
+        op: Op::Fetch,
+        bios,
+    };
+    let _old = pool.exchange_request(slot, Some(request));
+    Ok(())
+}
+
+fn range(start: u64, count: u32) -> Range {
+    Range { start, count }
+}
+
+fn place(slot: Slot, front: bool) -> Option<Place> {
+    Some(Place { slot, front })
+}
+
+#[test]
+fn merges(rt: HostRuntime) -> Result<(), Fail> {
+    let mut pool = RequestPool::new(rt.alloc(), 8)?;
+    let mut queues = ProcessQueue::new(rt.alloc(), 8)?;
+    let bio = range(1000, 8);
+    // A slot in the queue with no request takes no bio.
+    let _free = queues.link(7, 0, 1);
+    assert_eq!(rt; queues.merge_place(&pool, 0, 1, Op::Fetch, bio), None);
+
+    // Slot 5 starts where the bio ends. Slot 4 was inserted later and ends where the bio starts.
+    put(&mut pool, 5, 0, &[range(1008, 4)])?;
+    let _free = queues.link(5, 0, 2);
+    assert_eq!(rt;
+        queues.merge_place(&pool, 0, 1, Op::Fetch, bio),
+        place(5, true)
+    );
+    put(&mut pool, 4, 1, &[range(990, 4), range(994, 6)])?;
+    let _free = queues.link(4, 0, 9);
+    assert_eq!(rt;
+        queues.merge_place(&pool, 0, 1, Op::Fetch, bio),
+        place(4, false)
+    );
+
+    // Slot 6 does so too, and was inserted before slot 4.
+    put(&mut pool, 6, 3, &[range(999, 1)])?;
+    let _free = queues.link(6, 0, 7);
+    assert_eq!(rt;
+        queues.merge_place(&pool, 0, 1, Op::Fetch, bio),
+        place(6, false)
+    );
+
+    // Another session, operation and seat, and a bio that touches no request.
+    assert_eq!(rt; queues.merge_place(&pool, 0, 2, Op::Fetch, bio), None);
+    assert_eq!(rt; queues.merge_place(&pool, 0, 1, Op::Store, bio), None);
+    assert_eq!(rt; queues.merge_place(&pool, 1, 1, Op::Fetch, bio), None);
+    let apart = range(1001, 6);
+    assert_eq!(rt; queues.merge_place(&pool, 0, 1, Op::Fetch, apart), None);
+    Ok(())
+}
+
+#[test]
+fn full_requests(rt: HostRuntime) -> Result<(), Fail> {
+    let mut pool = RequestPool::new(rt.alloc(), 8)?;
+    let mut queues = ProcessQueue::new(rt.alloc(), 8)?;
+    let bio = range(1000, 8);
+    put(&mut pool, 4, 0, &[range(999, 1)])?;
+    let _free = queues.link(4, 0, 9);
+    let _free = queues.link(6, 0, 7);
+
+    // With the bio slot 6 would have 256 sectors, and then 257.
+    put(&mut pool, 6, 32, &[range(752, 248)])?;
+    assert_eq!(rt;
+        queues.merge_place(&pool, 0, 1, Op::Fetch, bio),
+        place(6, false)
+    );
+    put(&mut pool, 6, 32, &[range(751, 249)])?;
+    assert_eq!(rt;
+        queues.merge_place(&pool, 0, 1, Op::Fetch, bio),
+        place(4, false)
+    );
+
+    // With the bio slot 6 would have 32 bios, and then 33.
+    let mut ranges = Vec::new(rt.alloc());
+    for sector in 969..1000 {
+        ranges.push(range(sector, 1))?;
+    }
+    put(&mut pool, 6, 32, ranges.as_slice())?;
+    assert_eq!(rt;
+        queues.merge_place(&pool, 0, 1, Op::Fetch, bio),
+        place(6, false)
+    );
+    ranges.insert(0, range(968, 1))?;
+    put(&mut pool, 6, 32, ranges.as_slice())?;
+    assert_eq!(rt;
+        queues.merge_place(&pool, 0, 1, Op::Fetch, bio),
+        place(4, false)
+    );
     Ok(())
 }
