@@ -9,6 +9,7 @@
 //! | [`Tape::push`] | one more exchange of the step under way |
 //! | [`Tape::back`] | turns a step's exchanges in reverse order; it cannot fail |
 //! | [`Tape::forth`] | turns a step's exchanges in order again |
+//! | [`turned_twice`], [`back_leads_forth`] | the laws of exchanges, each on an empty body |
 //!
 //! The tables change by `turn` alone. An exchange turned twice leaves the tables as they were, at every point
 //! between two others. An exchange on a place that is not there does nothing.

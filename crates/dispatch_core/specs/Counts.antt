@@ -1,4 +1,4 @@
--- How many exchanges an accepted step makes (our profile).
+-- How many exchanges an accepted step records (our profile).
 use Rattle.std.specs.Prelude.{ℕ, ◌+◌, length, Option, None, Some}
 use Rattle.sector_core.specs.declared.bio.Outcome.{Outcome}
 use Rattle.sector_core.specs.declared.bio.Outcome.TheVariants.{Fetched, Stored, Failed}
