@@ -1,5 +1,5 @@
 -- The steps of the plain machine, in the order of the table of steps.
-use Rattle.std.specs.Prelude.{◌≡◌, ℕ, zero, suc, ◌+◌, ◌-◌, ◌*◌, ◌==◌, nat_le, nat_lt, Bool, true, false, not, ◌||◌, ◌⊎◌, List, [], ◌∷◌, ◌++◌, length, map, take, drop, sum, Option, None, Some, is_some, unwrap_or, if◌then◌else◌}
+use Rattle.std.specs.Prelude.{◌≡◌, ℕ, zero, suc, ◌+◌, ◌-◌, ◌*◌, ◌==◌, nat_le, nat_lt, Bool, true, false, not, ◌||◌, ◌&&◌, ◌⊎◌, List, [], ◌∷◌, ◌++◌, length, map, take, drop, sum, Option, None, Some, is_some, unwrap_or, if◌then◌else◌}
 use Rattle.std.specs.List.{find, count_by}
 use Rattle.std.specs.Option.{option_map, option_map_or, is_none}
 use Rattle.std.specs.FinMap as blocks
@@ -15,6 +15,8 @@ use Rattle.sector_core.specs.declared.bio.Outcome.TheVariants.{Fetched, Stored, 
 use Rattle.overlay.specs.Blocks.{Blocks}
 use Rattle.soft_queue.specs.Turn.{numbers, seats}
 use Rattle.process_queue.specs.Queue.{is_empty}
+use Rattle.process_queue.specs.declared.merge.Shape.{Shape}
+use Rattle.process_queue.specs.Merge.{shape_of, merge_of, joins_at}
 use Rattle.change_record.specs.declared.change.Seat.{Seat}
 use Rattle.change_record.specs.Machine.{WholeRequest, Flight, Plain, put}
 use Rattle.plain_machine.specs.declared.answer.Code.TheVariants.{BadSeat, SeatTaken, NoSession, StaleSession, NoGroup, BadPrio, BadCount, BadLength, OutOfRange, TooManyBios, NothingOwed, NothingQueued, NoTag, BadTag, NotInFlight, BadOutcome, HistoryFull, OutOfMemory}
@@ -79,7 +81,7 @@ attach m n room seat group prio = unless (
     ∷ []) m
     (accepted room m (record m { seat = put m.seat seat (Some (record { session = n; group = group; prio = prio; unreaped = 0 })) }) (Attached n))
 
--- Submit: a bio becomes a request of its own at the end of its seat's queue.
+-- Submit: a bio joins a queued request of its seat, or becomes a request of its own at the end of the queue (blk-mq).
 
 -- 512 bytes a sector for a store, none for a fetch
 abbrev pub payload_length : Op → ℕ → ℕ
@@ -93,11 +95,41 @@ queued m = sum (map (λ seat. length (m.queue seat)) seats)
 abbrev pub in_flight : Limits → Plain → ℕ
 in_flight l m = count_by (λ tag. is_some (m.flight tag)) (numbers 0 l.tags)
 
+-- what a merge asks of a request
+abbrev pub shape : WholeRequest → Option Shape
+shape request = Some (shape_of request.session request.op request.bios)
+
+-- what a bio of a session joins in a seat's queue, and whether at its front
+abbrev pub merge_in : Plain → ℕ → ℕ → Op → Range → Option (WholeRequest × Bool)
+merge_in m seat session op range = merge_of shape (m.queue seat) session op range
+
+-- a bio that waits, named by the step's serial
+abbrev pub new_bio : ℕ → Range → List ℕ → Bio
+new_bio n range payload = record { serial = n; range = range; payload = payload; result = None }
+
+-- a request with one more bio, at its front or at its end, so that its bios stay in the order of their sectors
+abbrev pub with_bio : Bool → Bio → WholeRequest → WholeRequest
+with_bio front bio request = record request { bios = if front then bio ∷ request.bios else request.bios ++ bio ∷ [] }
+
+-- a list with its first element changed that passes a test; the others keep their places
+abbrev pub change_first : {A : Type 0} → (A → Bool) → (A → A) → List A → List A
+change_first passes change [] = []
+change_first passes change (x ∷ xs) = if passes x then change x ∷ xs else x ∷ change_first passes change xs
+
+-- a queue with one more bio: in the request that it joins, which keeps its place, or in a new one at the end
+abbrev pub queue_with : ℕ → Op → Bio → Option (WholeRequest × Bool) → List WholeRequest → List WholeRequest
+queue_with session op bio None queue = queue ++ record { session = session; op = op; bios = bio ∷ [] } ∷ []
+queue_with session op bio (Some found) queue = change_first (joins_at shape found.1 session op bio.range) (with_bio found.1 bio) queue
+
 abbrev pub submitted : Plain → ℕ → ℕ → ℕ → Op → Range → List ℕ → Plain
 submitted m n seat session op range payload = record m {
   seat = put m.seat seat (option_map (with_unreaped (unreaped m seat + 1)) (m.seat seat));
-  queue = put m.queue seat (m.queue seat ++ record { session = session; op = op; bios = record { serial = n; range = range; payload = payload; result = None } ∷ [] } ∷ []);
+  queue = put m.queue seat (queue_with session op (new_bio n range payload) (merge_in m seat session op range) (m.queue seat));
 }
+
+-- a new request needs one that is free: a bio that joins takes none
+abbrev pub needs_request : Plain → ℕ → ℕ → Op → Range → Bool
+needs_request m seat session op range = is_none (merge_in m seat session op range)
 
 abbrev pub submit : Limits → Plain → ℕ → Bool → ℕ → ℕ → Op → Range → List ℕ → Outcome_of
 submit l m n room seat session op range payload = unless (seat_tests m seat session ++ (
@@ -105,7 +137,7 @@ submit l m n room seat session op range payload = unless (seat_tests m seat sess
     ∷ (not (length payload == payload_length op range.count), Refused BadLength)
     ∷ (nat_lt l.sectors (range.start + range.count), Refused OutOfRange)
     ∷ (nat_le 32 (unreaped m seat), Refused TooManyBios)
-    ∷ (nat_le l.requests (queued m + in_flight l m), NotYet RequestsFull)
+    ∷ (needs_request m seat session op range && nat_le l.requests (queued m + in_flight l m), NotYet RequestsFull)
     ∷ [])) m
     (accepted room m (submitted m n seat session op range payload) (Queued n))
 

@@ -1,6 +1,8 @@
-// The law of the seats' running counters.
+// Laws of the machine of every keeper.
 ghost use Rattle.plain_machine.specs.Owed.{UnreapedIsOwed};
+ghost use Rattle.plain_machine.specs.Whole.{KeepsWhole, RequestsAreWhole};
 ghost use Rattle.plain_machine.specs.Step.{Limits};
+ghost use Rattle.change_record.specs.Machine.{Plain};
 ghost use Rattle.plain_machine.specs.declared.call.Call.{Call};
 ghost use Rattle.std.specs.Prelude.{ℕ, List};
 
@@ -8,4 +10,15 @@ ghost use Rattle.std.specs.Prelude.{ℕ, List};
 /// session has queued, in flight, and completed but not yet reaped. The body is empty: the contract is the law.
 pub fn unreaped_is_owed()
     ensures { (l : Limits) (most : ℕ) (journal : List Call) → UnreapedIsOwed l most journal }
+{}
+
+/// A step leaves every request with 1 to 32 bios and at most 256 sectors, each bio from where the one before it ends, where
+/// all were so before. The body is empty: the contract is the law.
+pub fn requests_stay_whole()
+    ensures { (l : Limits) (m : Plain) → KeepsWhole l m }
+{}
+
+/// So every request is on the machine of every keeper that a journal makes. The body is empty: the contract is the law.
+pub fn requests_are_whole()
+    ensures { (l : Limits) (most : ℕ) (journal : List Call) → RequestsAreWhole l most journal }
 {}

@@ -3,21 +3,24 @@
 //!
 //! The rules stand in `specs/`: `Step` has the steps of the plain machine, one definition for each, in the order of
 //! the table of steps; `Keeper` has the line, the cursor and the journal. No code stands on anything else for its meaning.
-//! `Owed` has what a seat's running counter counts.
+//! `Owed` has what a seat's running counter counts, `Whole` what every request is, `Queued` what a look at a queue shows.
 //!
 //! | call | rule that it meets |
 //! |---|---|
 //! | [`Code::number`], [`Cause::number`] | the numbers that a client reads |
 //! | [`unreaped_is_owed`] | the law of the seats' running counters |
+//! | [`requests_are_whole`], [`requests_stay_whole`] | the law of requests: 1 to 32 adjacent bios, at most 256 sectors |
 
 mod answer;
 mod call;
 mod laws;
 mod sizes;
 mod step;
+mod view;
 
 pub use answer::{Answer, Cause, Code, Reply, Work};
 pub use call::{Call, Stamped};
-pub use laws::unreaped_is_owed;
+pub use laws::{requests_are_whole, requests_stay_whole, unreaped_is_owed};
 pub use sizes::Sizes;
 pub use step::Step;
+pub use view::RequestView;

@@ -16,7 +16,7 @@ ghost use Rattle.process_queue.specs.Queue.{first_in, first_slot, insert_in, is_
 
 mod merge;
 
-pub use merge::Place;
+pub use merge::{Place, Shape};
 use sector_core::{OutOfMemory, Slot, empty_table};
 use std::alloc::Global;
 use std::marker::Model;

@@ -22,19 +22,19 @@ pub struct Place {
     pub front: bool,
 }
 
-// What a merge asks of a request.
-#[derive(Clone, Copy)]
-struct Shape {
-    // The session of its bios.
-    session: u64,
-    // What its bios ask for.
-    op: Op,
-    // The first sector of its first bio.
-    start: u64,
-    // How many sectors its bios have together.
-    size: u64,
-    // How many bios it has.
-    bios: usize,
+/// What a merge asks of a request.
+#[derive(Clone, Copy, Debug, PartialEq, Eq)]
+pub struct Shape {
+    /// The session of its bios.
+    pub session: u64,
+    /// What its bios ask for.
+    pub op: Op,
+    /// The first sector of its first bio.
+    pub start: u64,
+    /// How many sectors its bios have together.
+    pub size: u64,
+    /// How many bios it has.
+    pub bios: usize,
 }
 
 // How many sectors a range has, as a wide number.

@@ -1,0 +1,33 @@
+-- What every request of a machine is: a few bios, each from the sector where the one before it ends.
+use Rattle.std.specs.Prelude.{◌≡◌, ℕ, ◌+◌, ◌≤◌, Bool, List, [], ◌∷◌, length, All, Some}
+use Rattle.sector_core.specs.declared.bio.Bio.{Bio}
+use Rattle.change_record.specs.Machine.{WholeRequest, Flight, Plain}
+use Rattle.plain_machine.specs.declared.step.Step.{Step}
+use Rattle.plain_machine.specs.declared.call.Call.{Call}
+use Rattle.plain_machine.specs.Step.{Limits, step, size_of, range_of}
+use Rattle.plain_machine.specs.Keeper.{machine_of, replay}
+
+-- bios one after the other from a sector on (blk-mq: the bios of a request are adjacent, in the order of their sectors)
+abbrev pub AreInOrder : ℕ → List Bio → Type 0
+AreInOrder start [] = Unit {0}
+AreInOrder start (bio ∷ bios) = (bio.range.start ≡ start) × AreInOrder (start + bio.range.count) bios
+
+-- 1 to 32 bios with at most 256 sectors together (our profile)
+pub record IsWhole (request : WholeRequest) : Type 0 where
+  pub some_bios : 1 ≤ length request.bios
+  pub few_bios : length request.bios ≤ 32
+  pub few_sectors : size_of request.bios ≤ 256
+  pub in_order : AreInOrder (range_of request.bios).start request.bios
+
+-- so is each request that is queued or in flight
+pub record AreWhole (m : Plain) : Type 0 where
+  pub queued : (seat : ℕ) → All IsWhole (m.queue seat)
+  pub flying : (tag : ℕ) (flight : Flight) → m.flight tag ≡ Some flight → IsWhole flight.request
+
+-- every step leaves them so
+abbrev pub KeepsWhole : Limits → Plain → Type 0
+KeepsWhole l m = (n : ℕ) (room : Bool) (s : Step) → AreWhole m → AreWhole (step l m n room s).0
+
+-- so they are on the machine of every keeper that a journal makes
+abbrev pub RequestsAreWhole : Limits → ℕ → List Call → Type 0
+RequestsAreWhole l most journal = AreWhole (machine_of (replay l most journal))
