@@ -1,17 +1,18 @@
 -- Submit and Reap: one counter changes with the queue or the outbox of its seat.
-use Rattle.std.proofs.Common.{true, ◌≡◌, ◌≢◌, ◌⊎◌, inl, inr, ℕ, suc, ◌+◌, ◌-◌, List, [], ◌∷◌, ◌++◌, length, Option, Some, None, All, refl, sym, ap, ◌∙◌, subst, arith, eqb-true}
+use Rattle.std.proofs.Common.{true, false, Bool, ◌≡◌, ◌≢◌, ◌⊎◌, inl, inr, ℕ, suc, ◌+◌, ◌-◌, List, [], ◌∷◌, ◌++◌, length, Option, Some, None, All, refl, sym, ap, ◌∙◌, subst, arith, eqb-true}
 use Rattle.std.specs.Option.{option_map, option_map_or}
 use Rattle.std.proofs.lemmas.Bool.{cases_eq}
-use Rattle.std.proofs.lemmas.List.Elements.{All-same, All-push, All-weaker}
-use Rattle.std.proofs.lemmas.List.Sums.{sum_by_push}
+use Rattle.std.proofs.lemmas.List.Elements.{All-same, All-weaker}
+use Rattle.std.proofs.lemmas.List.{length_push}
 use Rattle.sector_core.specs.declared.bio.Bio.{Bio}
 use Rattle.sector_core.specs.declared.bio.Op.{Op}
 use Rattle.sector_core.specs.declared.range.Range.{Range}
 use Rattle.change_record.specs.declared.change.Seat.{Seat}
 use Rattle.change_record.specs.Machine.{WholeRequest, Plain, put}
-use Rattle.plain_machine.specs.Step.{Limits, is_session, unreaped, with_unreaped, submitted}
+use Rattle.plain_machine.specs.Step.{Limits, is_session, unreaped, with_unreaped, merge_in, new_bio, with_bio, queue_with, submitted}
 use Rattle.plain_machine.specs.Owed.{bios_in, bios_of, flying, owed}
 use Rattle.plain_machine.proofs.Puts.{put_here, put_other, put_cases}
+use Rattle.plain_machine.proofs.Joins.{All-queue_with, sum_by-queue_with, joined_is}
 use Rattle.plain_machine.proofs.Debts.{Seated, SitsAt, Sound, some_is, bios_in-same}
 
 -- the seats with another counter at one of them
@@ -102,34 +103,47 @@ unreaped_is m seat s e = ap (λ o. option_map_or (λ (t : Seat). t.unreaped) o 0
 session_is : (m : Plain) (seat session : ℕ) (s : Seat) → m.seat seat ≡ Some s → is_session session (m.seat seat) ≡ true → s.session ≡ session
 session_is m seat session s e sits = eqb-true s.session session (sym (ap (is_session session) e) ∙ sits)
 
--- Submit: one bio more is queued.
-queued-push : (seats : ℕ → Option Seat) (queue : ℕ → List WholeRequest) (seat : ℕ) (r : WholeRequest) → is_session r.session (seats seat) ≡ true
-    → ((k : ℕ) → All (SitsAt seats k) (queue k)) → (k : ℕ) → All (SitsAt seats k) (put queue seat (queue seat ++ r ∷ []) k)
-queued-push seats queue seat r sits h k =
-    let more = queue seat ++ r ∷ [] in
-    elim (cases_eq k seat) [
-      | inl e ↦
-          let P : ℕ → Type 0 = λ j. All (SitsAt seats j) more in
-          All-same (SitsAt seats k) (put queue seat more k) more (put_here queue seat more k e) (subst P (sym e) (All-push (SitsAt seats seat) (queue seat) r (h seat) sits))
-      | inr ne ↦ All-same (SitsAt seats k) (put queue seat more k) (queue k) (put_other queue seat more k ne) (h k)
-    ]
+-- the queues with another one at a seat, whose requests are of the session that sits there
+queued-put : (seats : ℕ → Option Seat) (queue : ℕ → List WholeRequest) (seat : ℕ) (more : List WholeRequest) → All (SitsAt seats seat) more
+    → ((k : ℕ) → All (SitsAt seats k) (queue k)) → (k : ℕ) → All (SitsAt seats k) (put queue seat more k)
+queued-put seats queue seat more sits h k = elim (cases_eq k seat) [
+  | inl e ↦
+      let P : ℕ → Type 0 = λ j. All (SitsAt seats j) more in
+      All-same (SitsAt seats k) (put queue seat more k) more (put_here queue seat more k e) (subst P (sym e) sits)
+  | inr ne ↦ All-same (SitsAt seats k) (put queue seat more k) (queue k) (put_other queue seat more k ne) (h k)
+]
 
+-- a request has one bio more at either end
+length-with_bio : (front : Bool) (bio : Bio) (r : WholeRequest) → length (with_bio front bio r).bios ≡ length r.bios + 1
+length-with_bio true bio r = omega arith
+length-with_bio false bio r = length_push r.bios bio
+
+-- so its session has one more in it
+bios_in-with_bio : (front : Bool) (session : ℕ) (bio : Bio) (r : WholeRequest) → r.session ≡ session → bios_in session (with_bio front bio r) ≡ bios_in session r + 1
+bios_in-with_bio front session bio r its =
+    bios_in-same session (with_bio front bio r) its ∙ length-with_bio front bio r ∙ sym (ap (λ n. n + 1) (bios_in-same session r its))
+
+-- Submit: one bio more is queued.
 pub submitted-sound : (l : Limits) (n : ℕ) (m : Plain) (seat session : ℕ) (op : Op) (range : Range) (payload : List ℕ)
     → is_session session (m.seat seat) ≡ true → Sound l n m → Sound l n (submitted m n seat session op range payload)
 submitted-sound l n m seat session op range payload sits h =
-    let bio : Bio = record { serial = n; range = range; payload = payload; result = None } in
+    let bio : Bio = new_bio n range payload in
     let r : WholeRequest = record { session = session; op = op; bios = bio ∷ [] } in
-    let more = m.queue seat ++ r ∷ [] in
+    let found = merge_in m seat session op range in
+    let more = queue_with session op bio found (m.queue seat) in
+    let all : All (SitsAt m.seat seat) more = All-queue_with (SitsAt m.seat seat) session op bio found (m.queue seat) sits (λ front q joined its. its) (h.queued seat) in
     recounted-sound l n m seat (unreaped m seat + 1) (put m.queue seat more) m.outbox h
-    (queued-push m.seat m.queue seat r sits h.queued) h.empty
+    (queued-put m.seat m.queue seat more all h.queued) h.empty
     (λ k ne. put_other m.queue seat more k ne) (λ k ne. refl)
     (λ s e.
     let had = h.counts seat s e in
     let counter = unreaped_is m seat s e in
-    let one : bios_in s.session r ≡ 1 = bios_in-same s.session r (sym (session_is m seat session s e sits)) in
-    let longer : bios_of s.session more ≡ bios_of s.session (m.queue seat) + bios_in s.session r = sum_by_push (bios_in s.session) (m.queue seat) r in
+    let same : session ≡ s.session = sym (session_is m seat session s e sits) in
+    let longer : bios_of s.session more ≡ bios_of s.session (m.queue seat) + 1 =
+    sum_by-queue_with (bios_in s.session) 1 session op bio found (m.queue seat) refl (bios_in-same s.session r same)
+    (λ front q joined. bios_in-with_bio front s.session bio q ((joined_is front session op range q joined).0 ∙ same)) in
     let here : bios_of s.session (put m.queue seat more seat) ≡ bios_of s.session more = ap (bios_of s.session) (put_here m.queue seat more seat refl) in
-    omega (arith, had, counter, one, longer, here))
+    omega (arith, had, counter, longer, here))
 
 -- Reap: one bio less is in the outbox.
 pub reaped-sound : (l : Limits) (n : ℕ) (m : Plain) (seat : ℕ) (bio : Bio) (bios : List Bio) → m.outbox seat ≡ bio ∷ bios → Sound l n m

@@ -9,8 +9,5 @@ pub enum RequestView {
     /// The queue has fewer requests.
     Past,
     /// A queued request: its sectors, and how many bios it has.
-    Queued {
-        range: Range,
-        bios: u32,
-    },
+    Queued { range: Range, bios: u32 },
 }
