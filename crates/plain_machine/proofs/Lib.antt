@@ -6,3 +6,4 @@ pub mod Counters
 pub mod Sendings
 pub mod Stepped
 pub mod Serials
+pub mod Wholes

@@ -1,5 +1,5 @@
 -- The keeper: a line of steps, a cursor, and a journal. Its machine is the fold over the steps that stand.
-use Rattle.std.specs.Prelude.{◌≡◌, ℕ, ◌+◌, ◌-◌, ◌==◌, nat_le, nat_lt, Bool, true, false, not, List, [], ◌∷◌, ◌++◌, length, take, Option, None, Some, if◌then◌else◌, ◌⊎◌}
+use Rattle.std.specs.Prelude.{◌≡◌, ℕ, ◌+◌, ◌-◌, ◌==◌, nat_lt, Bool, true, false, not, List, [], ◌∷◌, ◌++◌, length, take, None, Some, if◌then◌else◌, ◌⊎◌}
 use Rattle.sector_core.specs.First.{first_of}
 use Rattle.change_record.specs.Machine.{Plain, opening}
 use Rattle.plain_machine.specs.declared.step.Step.{Step}

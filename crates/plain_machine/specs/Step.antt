@@ -22,7 +22,7 @@ use Rattle.change_record.specs.Machine.{WholeRequest, Flight, Plain, put}
 use Rattle.plain_machine.specs.declared.answer.Code.TheVariants.{BadSeat, SeatTaken, NoSession, StaleSession, NoGroup, BadPrio, BadCount, BadLength, OutOfRange, TooManyBios, NothingOwed, NothingQueued, NoTag, BadTag, NotInFlight, BadOutcome, HistoryFull, OutOfMemory}
 use Rattle.plain_machine.specs.declared.answer.Cause.TheVariants.{RequestsFull, NotCompleted}
 use Rattle.plain_machine.specs.declared.answer.Reply.{Reply}
-use Rattle.plain_machine.specs.declared.answer.Reply.TheVariants.{Attached, Queued, Completed, Issued, Finished, Done}
+use Rattle.plain_machine.specs.declared.answer.Reply.TheVariants.{Attached, Queued, Completed, Issued, Finished}
 use Rattle.plain_machine.specs.declared.answer.Answer.{Answer}
 use Rattle.plain_machine.specs.declared.answer.Answer.TheVariants.{Accepted, Refused, NotYet}
 use Rattle.plain_machine.specs.declared.sizes.Sizes.{Sizes}

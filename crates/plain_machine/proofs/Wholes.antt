@@ -1,0 +1,196 @@
+-- Every step leaves every request with 1 to 32 adjacent bios and at most 256 sectors.
+use Rattle.std.proofs.Common.{true, false, Bool, ◌≡◌, inl, inr, ℕ, ◌+◌, ◌<◌, ◌≤◌, ◌==◌, nat_le, nat_lt, not, ◌||◌, List, [], ◌∷◌, ◌++◌, length, map, take, Option, Some, None, All, refl, sym, ◌∙◌, subst, arith, unwrap_or, eqb-true}
+use Rattle.std.specs.Option.{is_none}
+use Rattle.std.proofs.lemmas.Bool.{cases_eq, ltb-false, or_parts}
+use Rattle.std.proofs.lemmas.List.{length_push}
+use Rattle.std.proofs.lemmas.List.Elements.{All-nil, All-same, All-head, All-tail}
+use Rattle.std.proofs.lemmas.List.Sums.{sum_by-cons}
+use Rattle.sector_core.specs.declared.bio.Bio.{Bio}
+use Rattle.sector_core.specs.declared.bio.BioResult.TheVariants.{Written}
+use Rattle.sector_core.specs.declared.bio.Op.{Op}
+use Rattle.sector_core.specs.declared.bio.Outcome.{Outcome}
+use Rattle.sector_core.specs.declared.range.Range.{Range}
+use Rattle.process_queue.specs.Merge.{shape_of, joins_at}
+use Rattle.change_record.specs.declared.change.Seat.{Seat}
+use Rattle.change_record.specs.Machine.{WholeRequest, Flight, Plain, opening, put}
+use Rattle.plain_machine.specs.declared.answer.Reply.TheVariants.{Attached, Queued, Completed, Issued, Finished}
+use Rattle.plain_machine.specs.declared.step.Step.TheVariants.{Attach, Submit, Reap, Dispatch, Finish}
+use Rattle.plain_machine.specs.declared.call.Call.{Call}
+use Rattle.plain_machine.specs.declared.call.Stamped.{Stamped}
+use Rattle.plain_machine.specs.Step.{Limits, accepted, is_session, attach, shape, merge_in, new_bio, with_bio, queue_with, submitted, submit, reaped, reap, next_queue, lowest_free, size_of, range_of, sent, dispatch_to, finished, finish_of, finish, step}
+use Rattle.plain_machine.specs.Keeper.{replay, fold_from}
+use Rattle.plain_machine.specs.Whole.{AreInOrder, IsWhole, AreWhole, KeepsWhole, RequestsAreWhole}
+use Rattle.plain_machine.proofs.Puts.{put_here, put_other, put_cases, unless-keeps, accepted-keeps, first_fails}
+use Rattle.plain_machine.proofs.Debts.{some_is}
+use Rattle.plain_machine.proofs.Joins.{All-queue_with, joined_is}
+use Rattle.plain_machine.proofs.Sendings.{dispatched, done_with}
+
+-- a list of bios has the sectors of its first and of the rest
+size_of-cons : (bio : Bio) (bios : List Bio) → size_of (bio ∷ bios) ≡ bio.range.count + size_of bios
+size_of-cons bio bios = omega (arith, sum_by-cons (λ n. n) bio.range.count (map (λ b. b.range.count) bios))
+
+-- and with one more at its end, the sectors of both
+size_of-push : (bios : List Bio) (bio : Bio) → size_of (bios ++ bio ∷ []) ≡ size_of bios + bio.range.count
+size_of-push [] bio = omega arith
+size_of-push (b ∷ bios) bio = omega (arith, size_of-cons b bios, size_of-cons b (bios ++ bio ∷ []), size_of-push bios bio)
+
+-- bios in order stay so with one more at the end, from where they end
+AreInOrder-push : (start : ℕ) (bios : List Bio) (bio : Bio) → AreInOrder start bios → start + size_of bios ≡ bio.range.start → AreInOrder start (bios ++ bio ∷ [])
+AreInOrder-push start [] bio h e = (omega (arith, e), tt)
+AreInOrder-push start (b ∷ bios) bio h e =
+    (h.0, AreInOrder-push (start + b.range.count) bios bio h.1 (omega (arith, e, size_of-cons b bios)))
+
+-- what a merge asks of a request is where its range starts
+start_of_shape : (session : ℕ) (op : Op) (bios : List Bio) → (shape_of session op bios).start ≡ (range_of bios).start
+start_of_shape session op [] = refl
+start_of_shape session op (bio ∷ bios) = refl
+
+-- one more bio at the end does not move the start
+start-push : (bios : List Bio) (bio : Bio) → 1 ≤ length bios → (range_of (bios ++ bio ∷ [])).start ≡ (range_of bios).start
+start-push [] bio h = absurd (omega (arith, h))
+start-push (b ∷ bios) bio h = refl
+
+-- a new request is whole: one bio of at most 64 sectors
+IsWhole-new : (session : ℕ) (op : Op) (bio : Bio) → bio.range.count ≤ 64 → IsWhole (record { session = session; op = op; bios = bio ∷ [] })
+IsWhole-new session op bio few = record {
+  some_bios = omega arith;
+  few_bios = omega arith;
+  few_sectors = omega (arith, few);
+  in_order = (refl, tt);
+}
+
+-- a request that a bio joins stays whole
+IsWhole-joined : (session : ℕ) (op : Op) (bio : Bio) (front : Bool) (r : WholeRequest) → joins_at shape front session op bio.range r ≡ true → IsWhole r → IsWhole (with_bio front bio r)
+IsWhole-joined session op bio true r joined h =
+    let j = joined_is true session op bio.range r joined in
+    let at : bio.range.start + bio.range.count ≡ (shape_of r.session r.op r.bios).start = eqb-true (bio.range.start + bio.range.count) (shape_of r.session r.op r.bios).start j.3 in
+    let next : (range_of r.bios).start ≡ bio.range.start + bio.range.count = sym (at ∙ start_of_shape r.session r.op r.bios) in
+    let few : length r.bios < 32 = j.2 in
+    let sectors : size_of r.bios + bio.range.count ≤ 256 = j.1 in
+    record {
+      some_bios = omega arith;
+      few_bios = omega (arith, few);
+      few_sectors = omega (arith, sectors, size_of-cons bio r.bios);
+      in_order = (refl, subst (λ s. AreInOrder s r.bios) next h.in_order);
+    }
+IsWhole-joined session op bio false r joined h =
+    let j = joined_is false session op bio.range r joined in
+    let at : (shape_of r.session r.op r.bios).start + size_of r.bios ≡ bio.range.start = eqb-true ((shape_of r.session r.op r.bios).start + size_of r.bios) bio.range.start j.3 in
+    let first : (shape_of r.session r.op r.bios).start ≡ (range_of r.bios).start = start_of_shape r.session r.op r.bios in
+    let ends : (range_of r.bios).start + size_of r.bios ≡ bio.range.start = omega (arith, at, first) in
+    let same : (range_of r.bios).start ≡ (range_of (r.bios ++ bio ∷ [])).start = sym (start-push r.bios bio h.some_bios) in
+    let few : length r.bios < 32 = j.2 in
+    let sectors : size_of r.bios + bio.range.count ≤ 256 = j.1 in
+    record {
+      some_bios = omega (arith, length_push r.bios bio);
+      few_bios = omega (arith, few, length_push r.bios bio);
+      few_sectors = omega (arith, sectors, size_of-push r.bios bio);
+      in_order = subst (λ s. AreInOrder s (r.bios ++ bio ∷ [])) same (AreInOrder-push (range_of r.bios).start r.bios bio h.in_order ends);
+    }
+
+-- the queues with another one at a seat, whose requests are whole too
+queued-whole : (queue : ℕ → List WholeRequest) (seat : ℕ) (more : List WholeRequest) → All IsWhole more
+    → ((k : ℕ) → All IsWhole (queue k)) → (k : ℕ) → All IsWhole (put queue seat more k)
+queued-whole queue seat more all h k = elim (cases_eq k seat) [
+  | inl e ↦ All-same IsWhole (put queue seat more k) more (put_here queue seat more k e) all
+  | inr ne ↦ All-same IsWhole (put queue seat more k) (queue k) (put_other queue seat more k ne) (h k)
+]
+
+-- before the first step no request is queued or in flight
+pub AreWhole-opening : AreWhole opening
+AreWhole-opening = record { queued = λ seat. All-nil IsWhole; flying = λ tag f e. cc }
+
+-- Attach leaves the requests as they are.
+attach-whole : (m : Plain) (n : ℕ) (room : Bool) (seat group prio : ℕ) → AreWhole m → AreWhole (attach m n room seat group prio).0
+attach-whole m n room seat group prio h =
+    let entry : Seat = record { session = n; group = group; prio = prio; unreaped = 0 } in
+    let next : Plain = record m { seat = put m.seat seat (Some entry) } in
+    unless-keeps AreWhole _ m (accepted room m next (Attached n)) h
+    (λ _. accepted-keeps AreWhole room m next (Attached n) h (record { queued = h.queued; flying = h.flying }))
+
+-- Submit: a bio of at most 64 sectors joins a request, or becomes one.
+submitted-whole : (m : Plain) (n seat session : ℕ) (op : Op) (range : Range) (payload : List ℕ) → range.count ≤ 64 → AreWhole m → AreWhole (submitted m n seat session op range payload)
+submitted-whole m n seat session op range payload few h =
+    let bio : Bio = new_bio n range payload in
+    let found = merge_in m seat session op range in
+    let more = queue_with session op bio found (m.queue seat) in
+    record {
+      queued = queued-whole m.queue seat more
+          (All-queue_with IsWhole session op bio found (m.queue seat) (IsWhole-new session op bio few) (IsWhole-joined session op bio) (h.queued seat)) h.queued;
+      flying = h.flying;
+    }
+
+submit-whole : (l : Limits) (m : Plain) (n : ℕ) (room : Bool) (seat session : ℕ) (op : Op) (range : Range) (payload : List ℕ)
+    → AreWhole m → AreWhole (submit l m n room seat session op range payload).0
+submit-whole l m n room seat session op range payload h =
+    let next = submitted m n seat session op range payload in
+    unless-keeps AreWhole _ m (accepted room m next (Queued n)) h
+    (λ e.
+    let within = first_fails (nat_le 16 seat) _ _ e in
+    let taken = first_fails (is_none (m.seat seat)) _ _ within.1 in
+    let its = first_fails (not (is_session session (m.seat seat))) _ _ taken.1 in
+    let count = first_fails (range.count == 0 || nat_lt 64 range.count) _ _ its.1 in
+    let parts = or_parts (range.count == 0) (nat_lt 64 range.count) count.0 in
+    accepted-keeps AreWhole room m next (Queued n) h (submitted-whole m n seat session op range payload (ltb-false 64 range.count parts.1) h))
+
+-- Reap takes from an outbox alone.
+reaped-whole : (m : Plain) (room : Bool) (seat : ℕ) (bios : List Bio) → AreWhole m → AreWhole (reaped room m seat bios).0
+reaped-whole m room seat [] h = h
+reaped-whole m room seat (bio ∷ bios) h =
+    accepted-keeps AreWhole room m _ (Completed bio.serial (unwrap_or bio.result Written)) h (record { queued = h.queued; flying = h.flying })
+
+reap-whole : (m : Plain) (room : Bool) (seat session : ℕ) → AreWhole m → AreWhole (reap m room seat session).0
+reap-whole m room seat session h = unless-keeps AreWhole _ m (reaped room m seat (m.outbox seat)) h (λ _. reaped-whole m room seat (m.outbox seat) h)
+
+-- Dispatch: a queued request is sent as it is.
+sent-whole : (m : Plain) (n : ℕ) (room : Bool) (seat tag : ℕ) (requests : List WholeRequest) → m.queue seat ≡ requests → AreWhole m → AreWhole (sent m n room seat tag requests).0
+sent-whole m n room seat tag [] e h = h
+sent-whole m n room seat tag (r ∷ rest) e h =
+    let all : All IsWhole (r ∷ rest) = All-same IsWhole (r ∷ rest) (m.queue seat) (sym e) (h.queued seat) in
+    let f : Flight = record { issue = n; request = r } in
+    accepted-keeps AreWhole room m (dispatched m n seat tag r rest) (Issued tag n r.op (range_of r.bios)) h (record {
+      queued = queued-whole m.queue seat rest (All-tail IsWhole r rest all) h.queued;
+      flying = λ k g at. elim (put_cases m.flight tag (Some f) k (Some g) at) [
+        | inl x ↦ subst (λ (v : Flight). IsWhole v.request) (some_is f g x.1) (All-head IsWhole r rest all)
+        | inr x ↦ h.flying k g x.1
+      ];
+    })
+
+dispatch_to-whole : (m : Plain) (n : ℕ) (room : Bool) (seat tag : Option ℕ) → AreWhole m → AreWhole (dispatch_to m n room seat tag).0
+dispatch_to-whole m n room None tag h = h
+dispatch_to-whole m n room (Some seat) None h = h
+dispatch_to-whole m n room (Some seat) (Some tag) h = sent-whole m n room seat tag (m.queue seat) refl h
+
+-- Finish: a flight ends.
+finish_of-whole : (m : Plain) (room : Bool) (tag issue : ℕ) (outcome : Outcome) (o : Option Flight) → AreWhole m → AreWhole (finish_of m room tag issue outcome o).0
+finish_of-whole m room tag issue outcome None h = h
+finish_of-whole m room tag issue outcome (Some f) h =
+    unless-keeps AreWhole _ m (finished m room tag outcome f.request) h
+    (λ _. accepted-keeps AreWhole room m (done_with m tag outcome f.request) (Finished (length f.request.bios)) h (record {
+      queued = h.queued;
+      flying = λ k g at. elim (put_cases m.flight tag None k (Some g) at) [
+        | inl x ↦ cc
+        | inr x ↦ h.flying k g x.1
+      ];
+    }))
+
+finish-whole : (l : Limits) (m : Plain) (room : Bool) (tag issue : ℕ) (outcome : Outcome) → AreWhole m → AreWhole (finish l m room tag issue outcome).0
+finish-whole l m room tag issue outcome h =
+    unless-keeps AreWhole _ m (finish_of m room tag issue outcome (m.flight tag)) h (λ _. finish_of-whole m room tag issue outcome (m.flight tag) h)
+
+-- every step leaves the requests whole
+pub step-whole : (l : Limits) (m : Plain) → KeepsWhole l m
+step-whole l m n room (Attach seat group prio) h = attach-whole m n room seat group prio h
+step-whole l m n room (Submit seat session op range payload) h = submit-whole l m n room seat session op range payload h
+step-whole l m n room (Reap seat session) h = reap-whole m room seat session h
+step-whole l m n room Dispatch h = dispatch_to-whole m n room (next_queue m) (lowest_free l m) h
+step-whole l m n room (Finish tag issue outcome) h = finish-whole l m room tag issue outcome h
+
+-- and so does a line of steps
+fold_from-whole : (l : Limits) (m : Plain) (steps : List Stamped) → AreWhole m → AreWhole (fold_from l m steps)
+fold_from-whole l m [] h = h
+fold_from-whole l m (s ∷ steps) h = fold_from-whole l (step l m s.serial true s.step).0 steps (step-whole l m s.serial true s.step h)
+
+-- so every keeper's machine has whole requests
+pub requests-whole : (l : Limits) (most : ℕ) (journal : List Call) → RequestsAreWhole l most journal
+requests-whole l most journal = let k = replay l most journal in fold_from-whole k.limits opening (take k.cursor k.line) AreWhole-opening
