@@ -118,7 +118,7 @@ length-with_bio : (front : Bool) (bio : Bio) (r : WholeRequest) → length (with
 length-with_bio true bio r = omega arith
 length-with_bio false bio r = length_push r.bios bio
 
--- so its session has one more in it
+-- so its session has one bio more there
 bios_in-with_bio : (front : Bool) (session : ℕ) (bio : Bio) (r : WholeRequest) → r.session ≡ session → bios_in session (with_bio front bio r) ≡ bios_in session r + 1
 bios_in-with_bio front session bio r its =
     bios_in-same session (with_bio front bio r) its ∙ length-with_bio front bio r ∙ sym (ap (λ n. n + 1) (bios_in-same session r its))

@@ -120,6 +120,7 @@ submitted-whole m n seat session op range payload few h =
       flying = h.flying;
     }
 
+-- with the test of its length before it
 submit-whole : (l : Limits) (m : Plain) (n : ℕ) (room : Bool) (seat session : ℕ) (op : Op) (range : Range) (payload : List ℕ)
     → AreWhole m → AreWhole (submit l m n room seat session op range payload).0
 submit-whole l m n room seat session op range payload h =
@@ -139,6 +140,7 @@ reaped-whole m room seat [] h = h
 reaped-whole m room seat (bio ∷ bios) h =
     accepted-keeps AreWhole room m _ (Completed bio.serial (unwrap_or bio.result Written)) h (record { queued = h.queued; flying = h.flying })
 
+-- whatever stands in the outbox
 reap-whole : (m : Plain) (room : Bool) (seat session : ℕ) → AreWhole m → AreWhole (reap m room seat session).0
 reap-whole m room seat session h = unless-keeps AreWhole _ m (reaped room m seat (m.outbox seat)) h (λ _. reaped-whole m room seat (m.outbox seat) h)
 
@@ -156,6 +158,7 @@ sent-whole m n room seat tag (r ∷ rest) e h =
       ];
     })
 
+-- whichever queue and tag were found
 dispatch_to-whole : (m : Plain) (n : ℕ) (room : Bool) (seat tag : Option ℕ) → AreWhole m → AreWhole (dispatch_to m n room seat tag).0
 dispatch_to-whole m n room None tag h = h
 dispatch_to-whole m n room (Some seat) None h = h
@@ -174,6 +177,7 @@ finish_of-whole m room tag issue outcome (Some f) h =
       ];
     }))
 
+-- whatever the tag bears
 finish-whole : (l : Limits) (m : Plain) (room : Bool) (tag issue : ℕ) (outcome : Outcome) → AreWhole m → AreWhole (finish l m room tag issue outcome).0
 finish-whole l m room tag issue outcome h =
     unless-keeps AreWhole _ m (finish_of m room tag issue outcome (m.flight tag)) h (λ _. finish_of-whole m room tag issue outcome (m.flight tag) h)
