@@ -1,14 +1,15 @@
 -- What each step does to the tables, place by place (our profile).
-use Rattle.std.specs.Prelude.{ℕ, ◌+◌, ◌-◌, List, [], ◌∷◌, ◌++◌, Option, None, Some, slice_set}
+use Rattle.std.specs.Prelude.{ℕ, ◌+◌, ◌-◌, Bool, List, [], ◌∷◌, ◌++◌, Option, None, Some, slice_set, if◌then◌else◌}
 use Rattle.std.specs.Option.{option_map_or}
 use Rattle.sector_core.specs.declared.range.Range.{Range}
 use Rattle.sector_core.specs.declared.bio.Op.{Op}
 use Rattle.sector_core.specs.declared.bio.Bio.{Bio}
 use Rattle.sector_core.specs.declared.bio.Outcome.{Outcome}
+use Rattle.request_pool.specs.declared.Request.{Request}
 use Rattle.change_record.specs.declared.change.Seat.{Seat}
 use Rattle.change_record.specs.Tables.{Tables}
 use Rattle.change_record.specs.Machine.{bios_at, outbox_at}
-use Rattle.plain_machine.specs.Step.{with_unreaped, after_outcome, completed}
+use Rattle.plain_machine.specs.Step.{with_unreaped, new_bio, after_outcome, completed}
 use Rattle.dispatch_core.specs.WellFormed.{at}
 
 abbrev pub unreaped_at : Tables → ℕ → ℕ
@@ -22,9 +23,25 @@ attached_tables t n seat group prio = record t {
 -- the bio goes into one slot, the request into another, and that slot to the end of the queue
 abbrev pub submitted_tables : Tables → ℕ → ℕ → Seat → ℕ → ℕ → ℕ → Op → Range → List ℕ → Tables
 submitted_tables t n seat entry slot place session op range payload = record t {
-  bios = slice_set t.bios place (Some (record { serial = n; range = range; payload = payload; result = None }));
+  bios = slice_set t.bios place (Some (new_bio n range payload));
   requests = slice_set t.requests slot (Some (record { session = session; op = op; bios = record { items = place ∷ [] } }));
   links = slice_set t.links slot (Some (record { seat = seat; serial = n }));
+  seats = slice_set t.seats seat (Some (with_unreaped (entry.unreaped + 1) entry));
+}
+
+-- the slots of a request's bios with one more, at the front or at the end
+abbrev pub joined_slots : Bool → ℕ → List ℕ → List ℕ
+joined_slots front place slots = if front then place ∷ slots else slots ++ place ∷ []
+
+-- the request with that slot
+abbrev pub joined_request : Bool → ℕ → Request → Request
+joined_request front place request = record { session = request.session; op = request.op; bios = record { items = joined_slots front place request.bios.items } }
+
+-- the bio goes into a slot, and that slot to the front or the end of the bios of a queued request
+abbrev pub joined_tables : Tables → ℕ → ℕ → Seat → ℕ → ℕ → Request → Bool → Range → List ℕ → Tables
+joined_tables t n seat entry slot place request front range payload = record t {
+  bios = slice_set t.bios place (Some (new_bio n range payload));
+  requests = slice_set t.requests slot (Some (joined_request front place request));
   seats = slice_set t.seats seat (Some (with_unreaped (entry.unreaped + 1) entry));
 }
 

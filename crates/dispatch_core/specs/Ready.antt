@@ -1,9 +1,14 @@
--- What a request's bios are when the device has finished it: each in a slot of its own, with all the bytes that it needs (our profile).
-use Rattle.std.specs.Prelude.{◌≡◌, ℕ, ◌+◌, ◌*◌, ◌<◌, ◌≤◌, ◌^◌, List, length, All, Option, Some}
+-- What has been shown before the tables are changed (our profile).
+use Rattle.std.specs.Prelude.{◌≡◌, ℕ, ◌+◌, ◌*◌, ◌<◌, ◌≤◌, ◌^◌, List, length, All, Option, None, Some}
+use Rattle.sector_core.specs.declared.range.Range.{Range}
+use Rattle.sector_core.specs.declared.bio.Op.{Op}
 use Rattle.sector_core.specs.declared.bio.Bio.{Bio}
 use Rattle.sector_core.specs.declared.bio.Outcome.{Outcome}
 use Rattle.sector_core.specs.declared.bio.Outcome.TheVariants.{Fetched, Stored, Failed}
-use Rattle.dispatch_core.specs.WellFormed.{at, one, times}
+use Rattle.change_record.specs.declared.change.Seat.{Seat}
+use Rattle.change_record.specs.Tables.{Tables}
+use Rattle.plain_machine.specs.Step.{Limits, payload_length}
+use Rattle.dispatch_core.specs.WellFormed.{at, one, times, IsSlotOf}
 use Rattle.dispatch_core.specs.Ranges.{total_count}
 
 -- the outcome has the bytes of so many sectors, if it has any
@@ -18,6 +23,7 @@ HasPayload (Fetched bytes) bio = Unit {0}
 HasPayload Stored bio = 512 * bio.range.count ≤ length bio.payload
 HasPayload (Failed kind) bio = Unit {0}
 
+-- the bios of a request that the device has finished: each in a slot of its own, with all the bytes that it needs
 pub record IsReady (bios : List (Option Bio)) (slots : List ℕ) (outcome : Outcome) : Type 0 where
   -- no slot stands twice in the list, and each has a bio
   pub distinct : (slot : ℕ) → times slot slots ≤ 1
@@ -27,3 +33,16 @@ pub record IsReady (bios : List (Option Bio)) (slots : List ℕ) (outcome : Outc
   pub small : (slot : ℕ) (bio : Bio) → at bios slot ≡ Some bio → bio.range.count ≤ 64
   pub payloads : All (λ slot. (bio : Bio) → at bios slot ≡ Some bio → HasPayload outcome bio) slots
   pub bytes : HasBytes (total_count bios slots) outcome
+
+-- what Submit's tests have shown before a request is sought that the bio joins, and a free slot for the bio
+pub record MaySubmit (l : Limits) (t : Tables) (seat : ℕ) (entry : Seat) (place session : ℕ) (op : Op) (range : Range) (payload : List ℕ) : Type 0 where
+  pub within : seat < 16
+  pub sits : at t.seats seat ≡ Some entry
+  pub session_is : entry.session ≡ session
+  pub few : entry.unreaped < 32
+  pub some_sectors : 1 ≤ range.count
+  pub few_sectors : range.count ≤ 64
+  pub in_image : range.start + range.count ≤ l.sectors
+  pub payload_fits : length payload ≡ payload_length op range.count
+  pub place_of : IsSlotOf seat place
+  pub place_free : at t.bios place ≡ None

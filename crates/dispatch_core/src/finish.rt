@@ -9,7 +9,7 @@ ghost use Rattle.dispatch_core.specs.Relation.{Answers, Leaves};
 ghost use Rattle.dispatch_core.specs.WellFormed.{WellFormed};
 
 use crate::complete::complete;
-use crate::outbox::{outbox_from, outbox_joined, outbox_slots};
+use crate::slots::{list_from, list_joined, outbox_slots};
 use crate::send::range_of_request;
 use crate::{Answer, Code, Reply, Sizes};
 use change_record::{Change, Parts, Tape};
@@ -56,7 +56,7 @@ pub fn run_finish(
     let Some(seat) = seat_of(parts, request.session) else {
         unreachable!()
     };
-    let slots = outbox_from(request.bios.as_slice());
+    let slots = list_from(request.bios.as_slice());
     let slots = slots.as_slice();
     let bios = slots.len() as u32;
     tape.reserve(size as usize + slots.len() + 3)?;
@@ -109,7 +109,7 @@ fn deliver(parts: &mut Parts, tape: &mut Tape, tag: u8, slot: Slot, seat: u8, sl
     ensures count { length tape.new.current ≡ length tape.old.current + 3 }
     ensures spare { tape.new.spare ≡ tape.old.spare }
 {
-    let outbox = outbox_joined(outbox_slots(parts, seat), slots);
+    let outbox = list_joined(outbox_slots(parts, seat), slots);
     tape.exchange(
         parts,
         Change::RequestSlot {

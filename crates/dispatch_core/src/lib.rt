@@ -4,10 +4,12 @@
 mod attach;
 mod complete;
 mod finish;
+mod join;
 mod machine;
-mod outbox;
 mod reap;
 mod send;
+mod slots;
+mod start;
 mod submit;
 
 pub use machine::{Machine, SectorView, View};

@@ -13,7 +13,7 @@ ghost use Rattle.dispatch_core.specs.Running.{plain_of, IsFor, Records, work_of}
 
 use crate::attach::run_attach;
 use crate::finish::run_finish;
-use crate::outbox::outbox_slots;
+use crate::slots::outbox_slots;
 use crate::reap::run_reap;
 use crate::send::{range_of_request, run_dispatch};
 use crate::submit::run_submit;

@@ -7,7 +7,7 @@ ghost use Rattle.plain_machine.specs.Step.{reap, with_unreaped, of_sizes};
 ghost use Rattle.dispatch_core.specs.Relation.{Answers, Leaves};
 ghost use Rattle.dispatch_core.specs.WellFormed.{WellFormed};
 
-use crate::outbox::{outbox_from, outbox_slots};
+use crate::slots::{list_from, outbox_slots};
 use crate::{Answer, Cause, Code, Reply, Sizes};
 use change_record::{Change, Parts, Seat, Tape};
 use sector_core::{Bio, BioResult, OutOfMemory, Slot};
@@ -85,7 +85,7 @@ fn take_out(parts: &mut Parts, tape: &mut Tape, seat: u8, entry: Seat, place: Sl
 {
     let slots = outbox_slots(parts, seat);
     let (_, rest) = slots.split_at(1);
-    let outbox = outbox_from(rest);
+    let outbox = list_from(rest);
     let entry = Seat {
         unreaped: entry.unreaped - 1,
         ..entry

@@ -1,17 +1,18 @@
-// Submit: a bio becomes a request at the end of its seat's queue.
-ghost use Rattle.std.specs.Prelude.{length, ◌≡◌, ◌+◌, ◌<◌, ◌≤◌, ◌↔◌, [], ◌∷◌, IfOk, IsTrue, Some, slice_set};
+// Submit: a bio joins a queued request of its seat, or becomes a request of its own at the end of the queue.
+ghost use Rattle.std.specs.Prelude.{length, ◌≡◌, ◌+◌, ◌≤◌, ◌↔◌, IfOk, IsTrue};
 ghost use Rattle.change_record.specs.Trail.{KeepsTrail};
-ghost use Rattle.plain_machine.specs.Step.{submit, payload_length, with_unreaped, of_sizes};
+ghost use Rattle.change_record.specs.Machine.{meaning};
+ghost use Rattle.plain_machine.specs.Step.{submit, payload_length, merge_in, of_sizes};
+ghost use Rattle.dispatch_core.specs.Counts.{submit_exchanges};
 ghost use Rattle.dispatch_core.specs.Relation.{Answers, Leaves};
 ghost use Rattle.dispatch_core.specs.WellFormed.{WellFormed};
 
-use crate::{Answer, Cause, Code, Reply, Sizes};
-use arrayvec::ArrayVec;
+use crate::join::submit_joined;
+use crate::start::submit_new;
+use crate::{Answer, Code, Sizes};
 use bytes::Bytes;
-use change_record::{Change, Parts, Seat, Tape};
-use process_queue::Link;
-use request_pool::Request;
-use sector_core::{Bio, Op, OutOfMemory, Range, Slot};
+use change_record::{Parts, Tape};
+use sector_core::{Op, OutOfMemory, Range};
 
 /// The bio is named by the step's serial; a store has 512 bytes for each sector, a fetch none.
 pub fn run_submit(
@@ -28,7 +29,7 @@ pub fn run_submit(
 ) -> Result<Answer, OutOfMemory>
     requires { WellFormed (of_sizes sizes) serial parts.old.tables }
     ensures answers { Answers (λ m. submit (of_sizes sizes) m serial room seat session op range payload.now) parts.old.tables result parts.new.tables }
-    ensures leaves { IfOk result (λ answer. Leaves (of_sizes sizes) serial 4 answer parts.old.tables tape.old.current parts.new.tables tape.new.current tape.new.spare) }
+    ensures leaves { IfOk result (λ answer. Leaves (of_sizes sizes) serial (submit_exchanges (merge_in (meaning parts.old.tables) seat session op range)) answer parts.old.tables tape.old.current parts.new.tables tape.new.current tape.new.spare) }
     ensures trail { KeepsTrail tape.old.current parts.old.tables tape.new.current parts.new.tables }
     ensures steps { tape.new.steps ≡ tape.old.steps }
 {
@@ -53,24 +54,17 @@ pub fn run_submit(
     if entry.unreaped >= 32 {
         return Ok(Answer::Refused(Code::TooManyBios));
     }
-    let Some(slot) = parts.pool().free_request() else {
-        return Ok(Answer::NotYet(Cause::RequestsFull));
-    };
-    if !room {
-        return Ok(Answer::Refused(Code::HistoryFull));
-    }
     let Some(place) = parts.pool().free_bio(seat) else {
         unreachable!()
     };
-    let bio = Bio {
-        serial,
-        range,
-        payload: payload.clone()?,
-        result: None,
-    };
-    tape.reserve(4)?;
-    insert(parts, tape, seat, entry, slot, place, session, op, bio);
-    Ok(Answer::Accepted(Reply::Queued { bio: serial }))
+    match parts.queues().merge_place(parts.pool(), seat, session, op, range) {
+        Some(found) => return submit_joined(
+            sizes, parts, tape, serial, room, seat, entry, place, found, session, op, range, payload,
+        ),
+        None => return submit_new(
+            sizes, parts, tape, serial, room, seat, entry, place, session, op, range, payload,
+        ),
+    }
 }
 
 // How many bytes the payload of a bio has.
@@ -89,67 +83,4 @@ fn is_within(range: Range, sectors: u64) -> bool
     ensures { IsTrue result ↔ (range.start + range.count ≤ sectors) }
 {
     range.start <= sectors && u64::from(range.count) <= sectors - range.start
-}
-
-// Puts the bio and its request into their slots, and the request at the end of the seat's queue.
-fn insert(
-    parts: &mut Parts,
-    tape: &mut Tape,
-    seat: u8,
-    entry: Seat,
-    slot: Slot,
-    place: Slot,
-    session: u64,
-    op: Op,
-    bio: Bio,
-)
-    requires room { 4 ≤ tape.old.room }
-    requires few { entry.unreaped < 32 }
-    ensures tables { parts.new.tables ≡ record parts.old.tables {
-      bios = slice_set parts.old.tables.bios place (Some bio);
-      requests = slice_set parts.old.tables.requests slot (Some (record { session = session; op = op; bios = record { items = place ∷ [] } }));
-      links = slice_set parts.old.tables.links slot (Some (record { seat = seat; serial = bio.serial }));
-      seats = slice_set parts.old.tables.seats seat (Some (with_unreaped (entry.unreaped + 1) entry));
-    } }
-    ensures trail { KeepsTrail tape.old.current parts.old.tables tape.new.current parts.new.tables }
-    ensures steps { tape.new.steps ≡ tape.old.steps }
-    ensures count { length tape.new.current ≡ length tape.old.current + 4 }
-    ensures spare { tape.new.spare ≡ tape.old.spare }
-{
-    let serial = bio.serial;
-    let mut bios = ArrayVec::new();
-    bios.push(place);
-    let request = Request { session, op, bios };
-    let entry = Seat {
-        unreaped: entry.unreaped + 1,
-        ..entry
-    };
-    tape.exchange(
-        parts,
-        Change::BioSlot {
-            slot: place,
-            bio: Some(bio),
-        },
-    );
-    tape.exchange(
-        parts,
-        Change::RequestSlot {
-            slot,
-            request: Some(request),
-        },
-    );
-    tape.exchange(
-        parts,
-        Change::QueueLink {
-            slot,
-            link: Some(Link { seat, serial }),
-        },
-    );
-    tape.exchange(
-        parts,
-        Change::SeatEntry {
-            seat,
-            entry: Some(entry),
-        },
-    );
 }

@@ -1,9 +1,9 @@
-// A seat's outbox as a list of slots.
+// Lists of the slots of bios: a seat's outbox, a request's bios.
 ghost use Rattle.std.specs.Prelude.{◌≡◌, ◌≤◌, ◌+◌, ◌++◌, length};
 ghost use Rattle.change_record.specs.Machine.{outbox_at};
 
 use arrayvec::ArrayVec;
-use change_record::{Outbox, Parts};
+use change_record::Parts;
 use sector_core::Slot;
 
 /// The slots of the completed bios of a seat, the first to be reaped first.
@@ -17,28 +17,28 @@ pub fn outbox_slots(parts: &Parts, seat: u8) -> &[Slot]
     }
 }
 
-/// An outbox of these slots.
-pub fn outbox_from(slots: &[Slot]) -> Outbox
+/// A list of these slots.
+pub fn list_from(slots: &[Slot]) -> ArrayVec<Slot, 32>
     requires { length slots.now ≤ 32 }
     ensures { result.items ≡ slots.now }
 {
-    let mut outbox = ArrayVec::new();
-    match outbox.try_extend_from_slice(slots) {
+    let mut list = ArrayVec::new();
+    match list.try_extend_from_slice(slots) {
         Ok(()) => {}
         Err(_) => unreachable!(),
     }
-    outbox
+    list
 }
 
-/// An outbox of these slots, and then those.
-pub fn outbox_joined(slots: &[Slot], others: &[Slot]) -> Outbox
+/// A list of these slots, and then those.
+pub fn list_joined(slots: &[Slot], others: &[Slot]) -> ArrayVec<Slot, 32>
     requires { length slots.now + length others.now ≤ 32 }
     ensures { result.items ≡ slots.now ++ others.now }
 {
-    let mut outbox = outbox_from(slots);
-    match outbox.try_extend_from_slice(others) {
+    let mut list = list_from(slots);
+    match list.try_extend_from_slice(others) {
         Ok(()) => {}
         Err(_) => unreachable!(),
     }
-    outbox
+    list
 }

@@ -1,6 +1,6 @@
 use Rattle.std.proofs.Common.{◌≡◌, ℕ, zero, suc, List, [], ◌∷◌, None, get_or, refl, sym, ap, rules}
 use Rattle.std.specs.Prelude.{slice_get}
-use Rattle.dispatch_core.proofs.outbox.outbox_slots.Goals as goal
+use Rattle.dispatch_core.proofs.slots.outbox_slots.Goals as goal
 
 slice_get-none : {A : Type 0} (xs : List A) (i : ℕ) (d : A) → slice_get xs i ≡ None → get_or xs i d ≡ d
 slice_get-none [] i d e = refl

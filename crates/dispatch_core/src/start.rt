@@ -1,0 +1,122 @@
+// A bio that becomes a request of its own.
+ghost use Rattle.std.specs.Prelude.{length, ◌≡◌, ◌+◌, ◌<◌, ◌≤◌, [], ◌∷◌, IfOk, None, Some, slice_set};
+ghost use Rattle.process_queue.specs.Merge.{merge_place};
+ghost use Rattle.process_queue.specs.Queue.{queue_slots};
+ghost use Rattle.change_record.specs.Trail.{KeepsTrail};
+ghost use Rattle.change_record.specs.Machine.{meaning};
+ghost use Rattle.plain_machine.specs.Step.{submit, merge_in, with_unreaped, of_sizes};
+ghost use Rattle.dispatch_core.specs.Counts.{submit_exchanges};
+ghost use Rattle.dispatch_core.specs.Ready.{MaySubmit};
+ghost use Rattle.dispatch_core.specs.Relation.{Answers, Leaves};
+ghost use Rattle.dispatch_core.specs.WellFormed.{WellFormed};
+
+use crate::{Answer, Cause, Code, Reply, Sizes};
+use arrayvec::ArrayVec;
+use bytes::Bytes;
+use change_record::{Change, Parts, Seat, Tape};
+use process_queue::Link;
+use request_pool::Request;
+use sector_core::{Bio, Op, OutOfMemory, Range, Slot};
+
+/// The end of Submit where the bio joins no request: it needs one that is free, which goes to the end of the queue.
+pub fn submit_new(
+    sizes: Sizes,
+    parts: &mut Parts,
+    tape: &mut Tape,
+    serial: u64,
+    room: bool,
+    seat: u8,
+    entry: Seat,
+    place: Slot,
+    session: u64,
+    op: Op,
+    range: Range,
+    payload: &Bytes,
+) -> Result<Answer, OutOfMemory>
+    requires well { WellFormed (of_sizes sizes) serial parts.old.tables }
+    requires may { MaySubmit (of_sizes sizes) parts.old.tables seat entry place session op range payload.now }
+    requires alone { merge_place parts.old.tables.requests parts.old.tables.bios (queue_slots seat parts.old.tables.links) session op range ≡ None }
+    ensures answers { Answers (λ m. submit (of_sizes sizes) m serial room seat session op range payload.now) parts.old.tables result parts.new.tables }
+    ensures leaves { IfOk result (λ answer. Leaves (of_sizes sizes) serial (submit_exchanges (merge_in (meaning parts.old.tables) seat session op range)) answer parts.old.tables tape.old.current parts.new.tables tape.new.current tape.new.spare) }
+    ensures trail { KeepsTrail tape.old.current parts.old.tables tape.new.current parts.new.tables }
+    ensures steps { tape.new.steps ≡ tape.old.steps }
+{
+    let Some(slot) = parts.pool().free_request() else {
+        return Ok(Answer::NotYet(Cause::RequestsFull));
+    };
+    if !room {
+        return Ok(Answer::Refused(Code::HistoryFull));
+    }
+    let bio = Bio {
+        serial,
+        range,
+        payload: payload.clone()?,
+        result: None,
+    };
+    tape.reserve(4)?;
+    insert(parts, tape, seat, entry, slot, place, session, op, bio);
+    Ok(Answer::Accepted(Reply::Queued { bio: serial }))
+}
+
+// Puts the bio and its request into their slots, and the request at the end of the seat's queue.
+fn insert(
+    parts: &mut Parts,
+    tape: &mut Tape,
+    seat: u8,
+    entry: Seat,
+    slot: Slot,
+    place: Slot,
+    session: u64,
+    op: Op,
+    bio: Bio,
+)
+    requires room { 4 ≤ tape.old.room }
+    requires few { entry.unreaped < 32 }
+    ensures tables { parts.new.tables ≡ record parts.old.tables {
+      bios = slice_set parts.old.tables.bios place (Some bio);
+      requests = slice_set parts.old.tables.requests slot (Some (record { session = session; op = op; bios = record { items = place ∷ [] } }));
+      links = slice_set parts.old.tables.links slot (Some (record { seat = seat; serial = bio.serial }));
+      seats = slice_set parts.old.tables.seats seat (Some (with_unreaped (entry.unreaped + 1) entry));
+    } }
+    ensures trail { KeepsTrail tape.old.current parts.old.tables tape.new.current parts.new.tables }
+    ensures steps { tape.new.steps ≡ tape.old.steps }
+    ensures count { length tape.new.current ≡ length tape.old.current + 4 }
+    ensures spare { tape.new.spare ≡ tape.old.spare }
+{
+    let serial = bio.serial;
+    let mut bios = ArrayVec::new();
+    bios.push(place);
+    let request = Request { session, op, bios };
+    let entry = Seat {
+        unreaped: entry.unreaped + 1,
+        ..entry
+    };
+    tape.exchange(
+        parts,
+        Change::BioSlot {
+            slot: place,
+            bio: Some(bio),
+        },
+    );
+    tape.exchange(
+        parts,
+        Change::RequestSlot {
+            slot,
+            request: Some(request),
+        },
+    );
+    tape.exchange(
+        parts,
+        Change::QueueLink {
+            slot,
+            link: Some(Link { seat, serial }),
+        },
+    );
+    tape.exchange(
+        parts,
+        Change::SeatEntry {
+            seat,
+            entry: Some(entry),
+        },
+    );
+}
