@@ -1,5 +1,5 @@
 -- What the plain step says where the code has made its tests.
-use Rattle.std.proofs.Common.{◌≡◌, ◌≢◌, ℕ, ◌+◌, ◌-◌, ◌<◌, ◌≤◌, List, [], ◌∷◌, length, Some, None, Bool, true, false, not, ◌||◌, nat_le, nat_lt, nat_eq, drop, unwrap_or, Result, Ok, Err, IsErr, refl, sym, ap, ◌∙◌, subst, arith, rules}
+use Rattle.std.proofs.Common.{◌≡◌, ◌≢◌, ℕ, ◌+◌, ◌-◌, ◌<◌, ◌≤◌, List, [], ◌∷◌, length, Some, None, Bool, true, false, not, ◌||◌, ◌&&◌, nat_le, nat_lt, nat_eq, drop, unwrap_or, Result, Ok, Err, IsErr, refl, sym, ap, ◌∙◌, subst, arith, rules}
 use Rattle.std.specs.Option.{option_map}
 use Rattle.std.specs.Prelude.{slice_get}
 use Rattle.std.proofs.lemmas.Bool.Decides.{nat_tests}
@@ -18,7 +18,7 @@ use Rattle.plain_machine.specs.declared.answer.Cause.TheVariants.{RequestsFull, 
 use Rattle.plain_machine.specs.declared.answer.Reply.TheVariants.{Queued, Completed, Issued, Finished}
 use Rattle.plain_machine.specs.declared.answer.Answer.{Answer}
 use Rattle.plain_machine.specs.declared.answer.Answer.TheVariants.{Accepted, Refused, NotYet}
-use Rattle.plain_machine.specs.Step.{Limits, Outcome_of, accepted, unreaped, payload_length, queued, in_flight, submitted, submit, with_unreaped, reap, next_queue, lowest_free, sent, dispatch_to, dispatch, fits, size_of, range_of, after_outcome, delivered, completed, finished, finish, IsAccepted}
+use Rattle.plain_machine.specs.Step.{Limits, Outcome_of, accepted, unreaped, payload_length, queued, in_flight, submitted, submit, needs_request, with_unreaped, reap, next_queue, lowest_free, sent, dispatch_to, dispatch, fits, size_of, range_of, after_outcome, delivered, completed, finished, finish, IsAccepted}
 
 lt_16 : (seat : ℕ) → seat < 16 → nat_le 16 seat ≡ false
 lt_16 seat h = grind (arith, nat_tests)
@@ -44,10 +44,16 @@ not_zero a h = grind (arith, nat_tests)
 neither : (a b : Bool) → a ≡ false → b ≡ false → (a || b) ≡ false
 neither a b e f = ap (λ x. x || b) e ∙ f
 
+-- one of two tests fails
+pub not_both : (a b : Bool) → b ≡ false → (a && b) ≡ false
+not_both true b e = e
+not_both false b e = refl
+
 module _ (l : Limits) (m : Plain) (n : ℕ) (room : Bool) (seat session : ℕ) (op : Op) (range : Range) (payload : List ℕ) (s : Seat)
     (h : seat < 16) (sits : m.seat seat ≡ Some s) (same : s.session ≡ session) (some_sectors : 1 ≤ range.count) (few_sectors : range.count ≤ 64)
     (fits_payload : length payload ≡ payload_length op range.count) (in_image : range.start + range.count ≤ l.sectors) (few : s.unreaped < 32) where
-  pub submit_full : nat_le l.requests (queued m + in_flight l m) ≡ true → submit l m n room seat session op range payload ≡ (m, NotYet RequestsFull)
+  pub submit_full : (needs_request m seat session op range && nat_le l.requests (queued m + in_flight l m)) ≡ true
+      → submit l m n room seat session op range payload ≡ (m, NotYet RequestsFull)
   submit_full full =
       let e1 = lt_16 seat h in
       let e3 = same_number s.session session same in
@@ -57,7 +63,7 @@ module _ (l : Limits) (m : Plain) (n : ℕ) (room : Bool) (seat session : ℕ) (
       let e7 = not_le s.unreaped 32 few in
       rw (e1, sits, e3, e4, e5, e6, e7, full) refl
 
-  pub submit_goes : nat_le l.requests (queued m + in_flight l m) ≡ false
+  pub submit_goes : (needs_request m seat session op range && nat_le l.requests (queued m + in_flight l m)) ≡ false
       → submit l m n room seat session op range payload ≡ accepted room m (submitted m n seat session op range payload) (Queued n)
   submit_goes free =
       let e1 = lt_16 seat h in

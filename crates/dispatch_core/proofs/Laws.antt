@@ -1,5 +1,5 @@
 -- Each step leaves a machine for later serials, and means what the plain step does.
-use Rattle.std.proofs.Common.{◌≡◌, ℕ, ◌+◌, ◌-◌, List, [], ◌∷◌, length, Option, Some, None, set, refl, ◌∙◌, arith, length-set}
+use Rattle.std.proofs.Common.{◌≡◌, ℕ, ◌+◌, ◌-◌, List, [], ◌∷◌, length, Option, Some, None, Bool, set, refl, sym, ap, ◌∙◌, arith, length-set}
 use Rattle.sector_core.specs.declared.range.Range.{Range}
 use Rattle.sector_core.specs.declared.bio.Op.{Op}
 use Rattle.sector_core.specs.declared.bio.Bio.{Bio}
@@ -7,13 +7,20 @@ use Rattle.sector_core.specs.declared.bio.Outcome.{Outcome}
 use Rattle.request_pool.specs.declared.Request.{Request}
 use Rattle.change_record.specs.declared.change.Seat.{Seat}
 use Rattle.change_record.specs.Tables.{Tables}
-use Rattle.change_record.specs.Machine.{meaning, bios_at, put}
-use Rattle.plain_machine.specs.Step.{Limits, submitted, unreaped, with_unreaped, completed, delivered, after_outcome}
+use Rattle.process_queue.specs.declared.merge.Place.{Place}
+use Rattle.process_queue.specs.Queue.{queue_slots}
+use Rattle.process_queue.specs.Merge.{merge_place}
+use Rattle.change_record.specs.Machine.{WholeRequest, Plain, meaning, bios_at, put}
+use Rattle.plain_machine.specs.Step.{Limits, submitted, merge_in, queue_with, new_bio, unreaped, with_unreaped, completed, delivered, after_outcome}
 use Rattle.std.specs.Option.{option_map}
 use Rattle.dispatch_core.specs.WellFormed.{WellFormed}
-use Rattle.dispatch_core.specs.Changes.{attached_tables, submitted_tables, reaped_tables, sent_tables, finished_tables, with_bios}
-use Rattle.dispatch_core.proofs.Sides.{CanAttach, CanSubmit, CanReap, CanSend, CanFinish}
+use Rattle.dispatch_core.specs.Changes.{attached_tables, submitted_tables, joined_tables, reaped_tables, sent_tables, finished_tables, with_bios}
+use Rattle.dispatch_core.proofs.Sides.{CanAttach, CanSubmit, CanJoin, CanReap, CanSend, CanFinish}
 use Rattle.dispatch_core.proofs.Bios.{attached-seated, attached-kept, submitted-seated, submitted-kept, submitted-seat, submitted-outbox, reaped-seated, reaped-kept, reaped-seat, reaped-outbox, sent-seated, sent-kept, finished-seated, finished-kept, finished-outbox}
+use Rattle.dispatch_core.proofs.QueueFacts.{whole_with}
+use Rattle.dispatch_core.proofs.Merges.{merge_found, merge_some}
+use Rattle.dispatch_core.proofs.Joined as join
+use Rattle.dispatch_core.proofs.JoinedQueues as join_queue
 use Rattle.dispatch_core.proofs.Queues.{whole, attached-placed, submitted-placed, submitted-queue, submitted-flight, reaped-placed, reaped-queue, reaped-flight, sent-placed, sent-queue, sent-flight, finished-placed, finished-queue, finished-flight}
 
 -- serials that are earlier stay earlier
@@ -89,17 +96,66 @@ submitted-well l n t seat entry slot place session op range payload w can = reco
   served = w.served;
 }
 
-pub submitted-meaning : (l : Limits) (n : ℕ) (t : Tables) (seat : ℕ) (entry : Seat) (slot place session : ℕ) (op : Op) (range : Range) (payload : List ℕ)
-    → WellFormed l n t → CanSubmit l t seat entry slot place session op range payload
-    → meaning (submitted_tables t n seat entry slot place session op range payload) ≡ submitted (meaning t) n seat session op range payload
-submitted-meaning l n t seat entry slot place session op range payload w can i = record {
-  overlay = t.overlay;
-  seat = submitted-seat l n t seat entry slot place session op range payload w can i;
-  queue = submitted-queue l n t seat entry slot place session op range payload w can i;
-  outbox = submitted-outbox l n t seat entry slot place session op range payload w can i;
-  flight = submitted-flight l n t seat entry slot place session op range payload w can i;
-  served = t.served;
+-- the plain machine after a bio was submitted that joins this, or nothing
+abbrev queued_with : Plain → ℕ → ℕ → ℕ → Op → Range → List ℕ → Option (WholeRequest × Bool) → Plain
+queued_with m n seat session op range payload found = record m {
+  seat = put m.seat seat (option_map (with_unreaped (unreaped m seat + 1)) (m.seat seat));
+  queue = put m.queue seat (queue_with session op (new_bio n range payload) found (m.queue seat));
 }
+
+pub submitted-meaning : (l : Limits) (n : ℕ) (t : Tables) (seat : ℕ) (entry : Seat) (slot place session : ℕ) (op : Op) (range : Range) (payload : List ℕ)
+    → WellFormed l n t → CanSubmit l t seat entry slot place session op range payload → merge_in (meaning t) seat session op range ≡ None
+    → meaning (submitted_tables t n seat entry slot place session op range payload) ≡ submitted (meaning t) n seat session op range payload
+submitted-meaning l n t seat entry slot place session op range payload w can alone =
+    let with_queue : Plain = record (meaning t) {
+      seat = put (meaning t).seat seat (option_map (with_unreaped (unreaped (meaning t) seat + 1)) ((meaning t).seat seat));
+      queue = put (meaning t).queue seat (queue_with session op (new_bio n range payload) None ((meaning t).queue seat));
+    } in
+    let changed : meaning (submitted_tables t n seat entry slot place session op range payload) ≡ with_queue = λ i. record {
+      overlay = t.overlay;
+      seat = submitted-seat l n t seat entry slot place session op range payload w can i;
+      queue = submitted-queue l n t seat entry slot place session op range payload w can i;
+      outbox = submitted-outbox l n t seat entry slot place session op range payload w can i;
+      flight = submitted-flight l n t seat entry slot place session op range payload w can i;
+      served = t.served;
+    } in
+    changed ∙ ap (queued_with (meaning t) n seat session op range payload) (sym alone)
+
+pub joined-well : (l : Limits) (n : ℕ) (t : Tables) (seat : ℕ) (entry : Seat) (slot place session : ℕ) (op : Op) (range : Range) (payload : List ℕ) (request : Request) (front : Bool)
+    → WellFormed l n t → CanJoin l t seat entry slot place session op range payload request → WellFormed l (n + 1) (joined_tables t n seat entry slot place request front range payload)
+joined-well l n t seat entry slot place session op range payload request front w can = record {
+  sized = record {
+    requests = length-set t.requests slot _ ∙ w.sized.requests;
+    bios = length-set t.bios place _ ∙ w.sized.bios;
+    tags = w.sized.tags;
+    links = w.sized.links;
+    outboxes = w.sized.outboxes;
+    seats = length-set t.seats seat _ ∙ w.sized.seats;
+    few_tags = w.sized.few_tags;
+    small_image = w.sized.small_image;
+  };
+  seated = join.seated l n t seat entry slot place session op range payload request front w can;
+  kept = join.kept l n t seat entry slot place session op range payload request front w can;
+  placed = join_queue.placed l n t seat entry slot place session op range payload request front w can;
+  first = let h = w.first in omega arith;
+  served = w.served;
+}
+
+pub joined-meaning : (l : Limits) (n : ℕ) (t : Tables) (seat : ℕ) (entry : Seat) (place session : ℕ) (op : Op) (range : Range) (payload : List ℕ) (request : Request) (found : Place)
+    → WellFormed l n t → CanJoin l t seat entry found.slot place session op range payload request
+    → merge_place t.requests t.bios (queue_slots seat t.links) session op range ≡ Some found
+    → meaning (joined_tables t n seat entry found.slot place request found.front range payload) ≡ submitted (meaning t) n seat session op range payload
+joined-meaning l n t seat entry place session op range payload request found w can joins =
+    let with_queue : Plain = queued_with (meaning t) n seat session op range payload (Some (whole_with t.bios request, found.front)) in
+    let changed : meaning (joined_tables t n seat entry found.slot place request found.front range payload) ≡ with_queue = λ i. record {
+      overlay = t.overlay;
+      seat = join.seat_is l n t seat entry found.slot place session op range payload request found.front w can i;
+      queue = join_queue.queue_is l n t seat entry found.slot place session op range payload request found.front w can (merge_found t seat session op range found joins) i;
+      outbox = join.outbox_is l n t seat entry found.slot place session op range payload request found.front w can i;
+      flight = join_queue.flight_is l n t seat entry found.slot place session op range payload request found.front w can i;
+      served = t.served;
+    } in
+    changed ∙ ap (queued_with (meaning t) n seat session op range payload) (sym (merge_some t seat session op range found joins request can.here))
 
 pub reaped-well : (l : Limits) (n : ℕ) (t : Tables) (seat : ℕ) (entry : Seat) (place : ℕ) (rest : List ℕ) (bio : Bio) → WellFormed l n t → CanReap t seat entry place rest bio
     → WellFormed l (n + 1) (reaped_tables t seat entry place rest)

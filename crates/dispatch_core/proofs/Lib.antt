@@ -12,6 +12,10 @@ pub mod QueueLists
 pub mod Counts
 pub mod QueueFacts
 pub mod Queues
+pub mod Joins
+pub mod Merges
+pub mod Joined
+pub mod JoinedQueues
 pub mod Laws
 pub mod Decided
 pub mod Sectors

@@ -124,13 +124,13 @@ flight_is l n t tag issue w here =
 -- Attach.
 
 -- a session that still sits at its seat
-record IsKept (t now_tables : Tables) (k : ℕ) (s : Seat) : Type 0 where
-  now : Seat
-  there : at now_tables.seats k ≡ Some now
-  session : now.session ≡ s.session
+pub record IsKept (t now_tables : Tables) (k : ℕ) (s : Seat) : Type 0 where
+  pub now : Seat
+  pub there : at now_tables.seats k ≡ Some now
+  pub session : now.session ≡ s.session
 
 -- a link stays one of a queued request while its request stays and the sessions stay at their seats
-moved : (n : ℕ) (t u : Tables) (slot : ℕ) (link : Link) → IsQueued n t slot link → at u.requests slot ≡ at t.requests slot
+pub moved : (n : ℕ) (t u : Tables) (slot : ℕ) (link : Link) → IsQueued n t slot link → at u.requests slot ≡ at t.requests slot
     → ((k : ℕ) (s : Seat) → at t.seats k ≡ Some s → IsKept t u k s) → IsQueued (n + 1) u slot link
 moved n t u slot link q e seats =
     let k : IsKept t u link.seat q.entry = seats link.seat q.entry q.sits in
@@ -146,7 +146,7 @@ moved n t u slot link q e seats =
     }
 
 -- the entry of a seat with another count is of the same session
-counted_again : (t u : Tables) (seat : ℕ) (entry : Seat) (count : ℕ) → at t.seats seat ≡ Some entry → u.seats ≡ set t.seats seat (Some (with_unreaped count entry))
+pub counted_again : (t u : Tables) (seat : ℕ) (entry : Seat) (count : ℕ) → at t.seats seat ≡ Some entry → u.seats ≡ set t.seats seat (Some (with_unreaped count entry))
     → (k : ℕ) (s : Seat) → at t.seats k ≡ Some s → IsKept t u k s
 counted_again t u seat entry count sits same k s e = elim (cases_eq k seat) [
   | inl here ↦

@@ -4,12 +4,14 @@ use Rattle.sector_core.specs.declared.range.Range.{Range}
 use Rattle.sector_core.specs.declared.bio.Op.{Op}
 use Rattle.sector_core.specs.declared.bio.Bio.{Bio}
 use Rattle.request_pool.specs.declared.Request.{Request}
+use Rattle.process_queue.specs.declared.Link.{Link}
 use Rattle.process_queue.specs.Queue.{first_slot}
 use Rattle.change_record.specs.declared.change.Seat.{Seat}
 use Rattle.change_record.specs.Tables.{Tables}
 use Rattle.change_record.specs.Machine.{outbox_at}
 use Rattle.plain_machine.specs.Step.{Limits, payload_length}
 use Rattle.dispatch_core.specs.WellFormed.{at, IsSlotOf}
+use Rattle.dispatch_core.specs.Ready.{MaySubmit}
 
 pub record CanAttach (t : Tables) (seat : ℕ) : Type 0 where
   pub within : seat < 16
@@ -29,6 +31,16 @@ pub record CanSubmit (l : Limits) (t : Tables) (seat : ℕ) (entry : Seat) (slot
   pub few_sectors : range.count ≤ 64
   pub in_image : range.start + range.count ≤ l.sectors
   pub payload_fits : length payload ≡ payload_length op range.count
+
+-- a request that is linked to the seat, with room for one bio more, and one of the seat's free slots
+pub record CanJoin (l : Limits) (t : Tables) (seat : ℕ) (entry : Seat) (slot place session : ℕ) (op : Op) (range : Range) (payload : List ℕ) (request : Request) : Type 0 where
+  pub may : MaySubmit l t seat entry place session op range payload
+  pub here : at t.requests slot ≡ Some request
+  pub session_is : request.session ≡ session
+  pub op_is : request.op ≡ op
+  pub link : Link
+  pub linked : at t.links slot ≡ Some link
+  pub link_seat : link.seat ≡ seat
 
 -- the first completed bio of the seat
 pub record CanReap (t : Tables) (seat : ℕ) (entry : Seat) (place : ℕ) (rest : List ℕ) (bio : Bio) : Type 0 where
