@@ -1,6 +1,6 @@
 -- What the plain step says where the code has made its tests.
 use Rattle.std.proofs.Common.{◌≡◌, ◌≢◌, ℕ, ◌+◌, ◌-◌, ◌<◌, ◌≤◌, List, [], ◌∷◌, length, Some, None, Bool, true, false, not, ◌||◌, ◌&&◌, nat_le, nat_lt, nat_eq, drop, unwrap_or, Result, Ok, Err, IsErr, refl, sym, ap, ◌∙◌, subst, arith, rules}
-use Rattle.std.specs.Option.{option_map}
+use Rattle.std.specs.Option.{option_map, is_none}
 use Rattle.std.specs.Prelude.{slice_get}
 use Rattle.std.proofs.lemmas.Bool.Decides.{nat_tests}
 use Rattle.sector_core.specs.declared.range.Range.{Range}
@@ -18,7 +18,7 @@ use Rattle.plain_machine.specs.declared.answer.Cause.TheVariants.{RequestsFull, 
 use Rattle.plain_machine.specs.declared.answer.Reply.TheVariants.{Queued, Completed, Issued, Finished}
 use Rattle.plain_machine.specs.declared.answer.Answer.{Answer}
 use Rattle.plain_machine.specs.declared.answer.Answer.TheVariants.{Accepted, Refused, NotYet}
-use Rattle.plain_machine.specs.Step.{Limits, Outcome_of, accepted, unreaped, payload_length, queued, in_flight, submitted, submit, needs_request, with_unreaped, reap, next_queue, lowest_free, sent, dispatch_to, dispatch, fits, size_of, range_of, after_outcome, delivered, completed, finished, finish, IsAccepted}
+use Rattle.plain_machine.specs.Step.{Limits, Outcome_of, accepted, unreaped, payload_length, queued, in_flight, submitted, submit, merge_in, needs_request, with_unreaped, reap, next_queue, lowest_free, sent, dispatch_to, dispatch, fits, size_of, range_of, after_outcome, delivered, completed, finished, finish, IsAccepted}
 
 lt_16 : (seat : ℕ) → seat < 16 → nat_le 16 seat ≡ false
 lt_16 seat h = grind (arith, nat_tests)
@@ -48,6 +48,11 @@ neither a b e f = ap (λ x. x || b) e ∙ f
 pub not_both : (a b : Bool) → b ≡ false → (a && b) ≡ false
 not_both true b e = e
 not_both false b e = refl
+
+-- a bio that joins no request needs one
+pub needs_full : (m : Plain) (seat session : ℕ) (op : Op) (range : Range) (full : Bool) → merge_in m seat session op range ≡ None → full ≡ true
+    → (needs_request m seat session op range && full) ≡ true
+needs_full m seat session op range full alone e = ap (λ o. is_none o && full) alone ∙ e
 
 module _ (l : Limits) (m : Plain) (n : ℕ) (room : Bool) (seat session : ℕ) (op : Op) (range : Range) (payload : List ℕ) (s : Seat)
     (h : seat < 16) (sits : m.seat seat ≡ Some s) (same : s.session ≡ session) (some_sectors : 1 ≤ range.count) (few_sectors : range.count ≤ 64)

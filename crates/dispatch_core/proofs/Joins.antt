@@ -152,19 +152,19 @@ pub found_linked : (test : ℕ → Bool) (q slot : ℕ) (links : List (Option Li
     → (link : Link) × (at links slot ≡ Some link) × (link.seat ≡ q)
 found_linked test q slot links found =
     found_in (placed q 0 links) (each_queued Linked q links (λ k link e h. (link, e, h))) found where
-  -- an entry's slot is linked to the seat
-  Linked : ℕ × ℕ → Type 0
-  Linked e = (link : Link) × (at links e.1 ≡ Some link) × (link.seat ≡ q)
+      -- an entry's slot is linked to the seat
+      Linked : ℕ × ℕ → Type 0
+      Linked e = (link : Link) × (at links e.1 ≡ Some link) × (link.seat ≡ q)
 
-  found_in : (xs : List (ℕ × ℕ)) → AllByRecursion Linked xs → find test (slots_in xs) ≡ Some slot → (link : Link) × (at links slot ≡ Some link) × (link.seat ≡ q)
-  found_in [] ps e = cc
-  found_in (x ∷ xs) ps e = elim (test x.1) as (λ b. cond b (Some x.1) (find test (slots_in xs)) ≡ Some slot → (link : Link) × (at links slot ≡ Some link) × (link.seat ≡ q)) [
-    | true ↦ λ g.
-        let same_slot : x.1 ≡ slot = cc in
-        let P : ℕ → Type 0 = λ s. (link : Link) × (at links s ≡ Some link) × (link.seat ≡ q) in
-        subst P same_slot ps.0
-    | false ↦ λ g. found_in xs ps.1 g
-  ] e
+      found_in : (xs : List (ℕ × ℕ)) → AllByRecursion Linked xs → find test (slots_in xs) ≡ Some slot → (link : Link) × (at links slot ≡ Some link) × (link.seat ≡ q)
+      found_in [] ps e = cc
+      found_in (x ∷ xs) ps e = elim (test x.1) as (λ b. cond b (Some x.1) (find test (slots_in xs)) ≡ Some slot → (link : Link) × (at links slot ≡ Some link) × (link.seat ≡ q)) [
+        | true ↦ λ g.
+            let same_slot : x.1 ≡ slot = cc in
+            let P : ℕ → Type 0 = λ s. (link : Link) × (at links s ≡ Some link) × (link.seat ≡ q) in
+            subst P same_slot ps.0
+        | false ↦ λ g. found_in xs ps.1 g
+      ] e
 
 -- a bio that joins none of the slots joins none of their requests, and one that joins a slot joins its request
 

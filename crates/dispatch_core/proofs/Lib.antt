@@ -25,3 +25,4 @@ pub mod Looks
 pub mod Contents
 pub mod Completing
 pub mod Recorded
+pub mod Bounds

@@ -9,8 +9,8 @@ ghost use Rattle.dispatch_core.specs.Relation.{Answers, Leaves};
 ghost use Rattle.dispatch_core.specs.WellFormed.{WellFormed};
 
 use crate::complete::complete;
-use crate::slots::{list_from, list_joined, outbox_slots};
 use crate::send::range_of_request;
+use crate::slots::{list_from, list_joined, outbox_slots};
 use crate::{Answer, Code, Reply, Sizes};
 use change_record::{Change, Parts, Tape};
 use sector_core::{Op, OutOfMemory, Outcome, Slot};

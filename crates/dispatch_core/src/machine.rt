@@ -13,12 +13,13 @@ ghost use Rattle.dispatch_core.specs.Running.{plain_of, IsFor, Records, work_of}
 
 use crate::attach::run_attach;
 use crate::finish::run_finish;
-use crate::slots::outbox_slots;
 use crate::reap::run_reap;
 use crate::send::{range_of_request, run_dispatch};
+use crate::slots::outbox_slots;
 use crate::submit::run_submit;
 use crate::{Answer, Code, Sizes, Step, Work};
 use change_record::{Parts, Tape};
+use plain_machine::requests_stay_whole;
 use sector_core::{Block, Config, OutOfMemory};
 use std::alloc::Global;
 use std::marker::Model;
@@ -78,6 +79,7 @@ impl Machine {
         ensures idle { tape.new.current ≡ [] }
         ensures sizes { self.new.sizes ≡ self.old.sizes }
     {
+        requests_stay_whole();
         match perform(alloc, self.sizes, &mut self.parts, tape, serial, room, step) {
             Ok(Answer::Accepted(reply)) => {
                 tape.close();

@@ -57,9 +57,13 @@ pub fn run_submit(
     let Some(place) = parts.pool().free_bio(seat) else {
         unreachable!()
     };
-    match parts.queues().merge_place(parts.pool(), seat, session, op, range) {
+    match parts
+        .queues()
+        .merge_place(parts.pool(), seat, session, op, range)
+    {
         Some(found) => return submit_joined(
-            sizes, parts, tape, serial, room, seat, entry, place, found, session, op, range, payload,
+            sizes, parts, tape, serial, room, seat, entry, place, found, session, op, range,
+            payload,
         ),
         None => return submit_new(
             sizes, parts, tape, serial, room, seat, entry, place, session, op, range, payload,

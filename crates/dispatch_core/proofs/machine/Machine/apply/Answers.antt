@@ -1,36 +1,65 @@
-use Rattle.std.proofs.Common.{◌≡◌, ◌+◌, List, [], sym, ◌∙◌, subst, refl, rules}
+use Rattle.std.proofs.Common.{◌≡◌, ◌+◌, ◌≤◌, List, [], ◌∷◌, ◌++◌, length, sym, ap, ◌∙◌, subst, refl, rules}
 use Rattle.change_record.specs.declared.change.Change.{Change}
 use Rattle.change_record.specs.Tables.{Tables}
 use Rattle.change_record.specs.Trail.{IsTrail}
+use Rattle.change_record.specs.Machine.{meaning}
 use Rattle.plain_machine.specs.Step.{of_sizes}
+use Rattle.plain_machine.specs.Whole.{AreWhole}
+use Rattle.plain_machine.specs.declared.answer.Answer.{Answer}
+use Rattle.dispatch_core.specs.Relation.{Leaves}
 use Rattle.dispatch_core.specs.WellFormed.{WellFormed}
-use Rattle.dispatch_core.specs.Running.{Running, IsFor}
+use Rattle.dispatch_core.specs.Counts.{exchanges_of}
+use Rattle.dispatch_core.specs.Running.{Running, IsFor, plain_of}
 use Rattle.dispatch_core.proofs.Laws.{WellFormed-later}
+use Rattle.dispatch_core.proofs.Bounds.{exchanges_few}
 use Rattle.dispatch_core.proofs.machine.Machine.apply.Goals as goal
 
 pub returns-in-Ok-Refused-clause-well : goal.returns-in-Ok-Refused-clause-well
 returns-in-Ok-Refused-clause-well c =
     let P : Running → Type 0 = λ m. IsFor c.args.serial m in
     let Q : Tables → Type 0 = λ t. WellFormed (of_sizes c.self.inside.sizes) (c.args.serial + 1) t in
+    let W : Tables → Type 0 = λ t. AreWhole (meaning t) in
     let here = subst P (sym c.self.view_is) c.requires.well in
     let same : c.perform.new.parts.tables ≡ c.self.inside.parts.tables = search rules in
-    subst Q (sym same) (WellFormed-later (of_sizes c.self.inside.sizes) c.args.serial c.self.inside.parts.tables here)
+    (subst Q (sym same) (WellFormed-later (of_sizes c.self.inside.sizes) c.args.serial c.self.inside.parts.tables here.0), subst W (sym same) here.1)
 
 pub returns-in-Ok-NotYet-clause-well : goal.returns-in-Ok-NotYet-clause-well
 returns-in-Ok-NotYet-clause-well c =
     let P : Running → Type 0 = λ m. IsFor c.args.serial m in
     let Q : Tables → Type 0 = λ t. WellFormed (of_sizes c.self.inside.sizes) (c.args.serial + 1) t in
+    let W : Tables → Type 0 = λ t. AreWhole (meaning t) in
     let here = subst P (sym c.self.view_is) c.requires.well in
     let same : c.perform.new.parts.tables ≡ c.self.inside.parts.tables = search rules in
-    subst Q (sym same) (WellFormed-later (of_sizes c.self.inside.sizes) c.args.serial c.self.inside.parts.tables here)
+    (subst Q (sym same) (WellFormed-later (of_sizes c.self.inside.sizes) c.args.serial c.self.inside.parts.tables here.0), subst W (sym same) here.1)
 
 pub returns-in-Err-clause-well : goal.returns-in-Err-clause-well
 returns-in-Err-clause-well c =
     let P : Running → Type 0 = λ m. IsFor c.args.serial m in
     let Q : Tables → Type 0 = λ t. WellFormed (of_sizes c.self.inside.sizes) (c.args.serial + 1) t in
     let R : List Change → Type 0 = λ l. IsTrail l c.self.inside.parts.tables c.self.inside.parts.tables in
+    let W : Tables → Type 0 = λ t. AreWhole (meaning t) in
     let here = subst P (sym c.self.view_is) c.requires.well in
     let begun : IsTrail [] c.self.inside.parts.tables c.self.inside.parts.tables = record { back = refl; fits = tt; puts = tt } in
     let trail = c.perform.ensures.trail c.self.inside.parts.tables (subst R (sym c.requires.idle) begun) in
     let same : c.abandon.new.parts.tables ≡ c.self.inside.parts.tables = c.abandon.ensures.tables ∙ trail.back in
-    subst Q (sym same) (WellFormed-later (of_sizes c.self.inside.sizes) c.args.serial c.self.inside.parts.tables here)
+    (subst Q (sym same) (WellFormed-later (of_sizes c.self.inside.sizes) c.args.serial c.self.inside.parts.tables here.0), subst W (sym same) here.1)
+
+pub returns-in-Ok-Accepted-clause-records : goal.returns-in-Ok-Accepted-clause-records
+returns-in-Ok-Accepted-clause-records c =
+    let P : Running → Type 0 = λ m. IsFor c.args.serial m in
+    let here = subst P (sym c.self.view_is) c.requires.well in
+    let E : Running → Type 0 = λ m. exchanges_of (plain_of m) c.args.step.now ≤ 512 in
+    let few : exchanges_of (plain_of c.args.self.now) c.args.step.now ≤ 512 = subst E c.self.view_is (exchanges_few (meaning c.self.inside.parts.tables) c.args.step.now here.1) in
+    let same : c.self.inside.parts.tables ≡ c.args.self.now.tables = ap (λ (m : Running). m.tables) c.self.view_is in
+    let R : List Change → Type 0 = λ l. IsTrail l c.self.inside.parts.tables c.self.inside.parts.tables in
+    let T : Tables → Type 0 = λ t. IsTrail c.perform.new.tape.current c.perform.new.parts.tables t in
+    let begun : IsTrail [] c.self.inside.parts.tables c.self.inside.parts.tables = record { back = refl; fits = tt; puts = tt } in
+    let trail = c.in-Ok-Accepted.ensures.trail c.self.inside.parts.tables (subst R (sym c.requires.idle) begun) in
+    let steps : c.close.new.self.steps ≡ c.args.tape.now.steps ++ c.perform.new.tape.current ∷ [] = search rules in
+    let L : Answer → Type 0 =
+    λ a. Leaves (of_sizes c.self.inside.sizes) c.args.serial (exchanges_of (meaning c.self.inside.parts.tables) c.args.step.now) a c.self.inside.parts.tables c.args.tape.now.current
+    c.perform.new.parts.tables c.perform.new.tape.current c.perform.new.tape.spare in
+    let left = subst L c.in-Ok-Accepted.field-0-is c.in-Ok-Accepted.ensures.leaves in
+    let count : length c.perform.new.tape.current ≡ exchanges_of (plain_of c.args.self.now) c.args.step.now =
+    omega (arith, left.2, ap length c.requires.idle, ap (λ m. exchanges_of (plain_of m) c.args.step.now) c.self.view_is) in
+    (c.perform.new.tape.current, steps, count, few, subst T same trail)

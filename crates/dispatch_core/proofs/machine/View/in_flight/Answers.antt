@@ -16,7 +16,7 @@ returns c = λ n w.
     let tagged : at t.tags c.args.tag ≡ Some c.in-Some.issue = search rules in
     let here : at t.requests c.in-Some.issue.slot ≡ Some r = search rules in
     let pool : c.pool-2.result.now.bios ≡ t.bios = c.pool-2.ensures.bios ∙ ap (λ u. u.bios) same in
-    let few : HasFewSectors c.pool-2.result.now.bios = subst HasFewSectors (sym pool) (few_sectors_of l n t w) in
+    let few : HasFewSectors c.pool-2.result.now.bios = subst HasFewSectors (sym pool) (few_sectors_of l n t w.0) in
     let start : c.range_of_request.result.start ≡ first_start t.bios r.bios.items = c.range_of_request.ensures.start ∙ ap (λ b. first_start b r.bios.items) pool in
     let count : c.range_of_request.result.count ≡ total_count t.bios r.bios.items = c.range_of_request.ensures.count few ∙ ap (λ b. total_count b r.bios.items) pool in
-    shown_flight l n t c.args.tag c.in-Some.issue r c.range_of_request.result w tagged here start count
+    shown_flight l n t c.args.tag c.in-Some.issue r c.range_of_request.result w.0 tagged here start count

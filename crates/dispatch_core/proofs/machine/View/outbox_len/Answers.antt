@@ -8,4 +8,4 @@ pub returns : goal.returns
 returns c = λ n w.
     ap length c.outbox_slots.ensures.slots
     ∙ ap (λ m. length (outbox_at m.tables.outboxes c.args.seat)) (c.machine.view_is ∙ c.self.view_is)
-    ∙ length-outbox (of_sizes c.args.self.now.sizes) n c.args.self.now.tables c.args.seat w
+    ∙ length-outbox (of_sizes c.args.self.now.sizes) n c.args.self.now.tables c.args.seat w.0
