@@ -1,30 +1,28 @@
 -- A bio that joins a queued request: queues, tags and requests.
-use Rattle.std.proofs.Common.{◌≡◌, ◌≢◌, ℕ, ◌+◌, ◌*◌, ◌<◌, ◌≤◌, List, [], ◌∷◌, ◌++◌, length, Option, Some, None, Bool, true, false, is_some, IsSome, inl, inr, count_by, set, refl, sym, ap, ◌∙◌, subst, arith}
-use Rattle.std.specs.List.{filter_map, cons_option, find}
+use Rattle.std.proofs.Common.{◌≡◌, ◌≢◌, ℕ, ◌+◌, ◌*◌, ◌<◌, List, [], ◌∷◌, ◌++◌, length, Option, Some, None, Bool, true, false, IsSome, inl, inr, set, refl, sym, ap, ◌∙◌, subst, arith}
+use Rattle.std.specs.List.{cons_option, find}
 use Rattle.std.specs.Option.{option_map}
 use Rattle.std.proofs.Math.Path.{fun_ext}
 use Rattle.std.proofs.lemmas.Bool.{cases_eq}
 use Rattle.std.proofs.lemmas.List.{get_or-set_same, get_or-set_other}
 use Rattle.std.proofs.lemmas.List.Elements.{filter_map-append}
-use Rattle.std.proofs.lemmas.Option.{same_Some}
 use Rattle.sector_core.specs.declared.range.Range.{Range}
 use Rattle.sector_core.specs.declared.bio.Op.{Op}
 use Rattle.sector_core.specs.declared.bio.Bio.{Bio}
 use Rattle.request_pool.specs.declared.Request.{Request}
-use Rattle.tag_set.specs.declared.Issue.{Issue}
 use Rattle.process_queue.specs.declared.Link.{Link}
 use Rattle.process_queue.specs.Queue.{queue_slots}
 use Rattle.process_queue.specs.Merge.{shape_at, joins_at}
 use Rattle.change_record.specs.declared.change.Seat.{Seat}
 use Rattle.change_record.specs.Tables.{Tables}
 use Rattle.change_record.specs.Machine.{WholeRequest, meaning, bios_at, whole_at, put}
-use Rattle.plain_machine.specs.Step.{Limits, with_unreaped, new_bio, with_bio, change_first, shape}
-use Rattle.dispatch_core.specs.WellFormed.{at, one, times, bears, WellFormed, Placed, IsQueued}
+use Rattle.plain_machine.specs.Step.{Limits, new_bio, with_bio, change_first, shape}
+use Rattle.dispatch_core.specs.WellFormed.{at, one, times, WellFormed, Placed, IsQueued}
 use Rattle.dispatch_core.specs.Changes.{joined_slots, joined_request, joined_tables}
 use Rattle.dispatch_core.proofs.Sides.{CanJoin}
 use Rattle.dispatch_core.proofs.QueueLists.{within_of, same_queue}
 use Rattle.dispatch_core.proofs.Counts.{taken-set}
-use Rattle.dispatch_core.proofs.QueueFacts.{put_is, set_cases, bios_at_other, whole_with, whole_same, flight_same, unnamed_free, unlinked_borne}
+use Rattle.dispatch_core.proofs.QueueFacts.{put_is, bios_at_other, whole_with, whole_same, flight_same, unnamed_free, unlinked_borne}
 use Rattle.dispatch_core.proofs.Queues.{moved, counted_again}
 use Rattle.dispatch_core.proofs.Joins.{change_read, queue_distinct}
 use Rattle.dispatch_core.proofs.Merges.{tests_agree}

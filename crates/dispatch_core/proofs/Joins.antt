@@ -1,21 +1,14 @@
 -- Which request of a queue a bio joins, as the slots say it and as the plain machine says it.
-use Rattle.std.proofs.Common.{◌≡◌, ◌≢◌, ◌⊎◌, inl, inr, ℕ, ◌+◌, ◌<◌, ◌≤◌, List, [], ◌∷◌, ◌++◌, length, map, Option, Some, None, Bool, true, false, cond, ◌&&◌, ◌==◌, nat_lt, set, get_or, refl, sym, ap, ◌∙◌, subst, arith, eqb-true}
+use Rattle.std.proofs.Common.{◌≡◌, ◌≢◌, inl, inr, ℕ, ◌+◌, ◌<◌, ◌≤◌, List, [], ◌∷◌, map, Option, Some, None, Bool, true, false, cond, ◌==◌, nat_lt, get_or, refl, sym, ap, ◌∙◌, subst, arith}
 use Rattle.std.specs.List.{filter_map, cons_option, find, AllByRecursion}
 use Rattle.std.specs.Option.{option_map, option_map_or, option_or, option_and_then}
-use Rattle.sector_core.specs.declared.range.Range.{Range}
-use Rattle.sector_core.specs.declared.bio.Op.{Op}
-use Rattle.sector_core.specs.declared.bio.Op.TheVariants.{Fetch, Store}
-use Rattle.sector_core.specs.declared.bio.Bio.{Bio}
-use Rattle.request_pool.specs.declared.Request.{Request}
 use Rattle.process_queue.specs.declared.Link.{Link}
-use Rattle.process_queue.specs.declared.merge.Shape.{Shape}
 use Rattle.process_queue.specs.declared.merge.Place.{Place}
 use Rattle.process_queue.specs.Queue.{insert_in, placed, queue_slots}
-use Rattle.process_queue.specs.Merge.{shape_of, shape_at, same_op, has_room, may_join, joins, joins_at, first_merge, merge_of, place_of}
-use Rattle.change_record.specs.Machine.{WholeRequest, bios_at, whole_at}
-use Rattle.plain_machine.specs.Step.{shape, change_first}
+use Rattle.process_queue.specs.Merge.{place_of}
+use Rattle.plain_machine.specs.Step.{change_first}
 use Rattle.dispatch_core.specs.WellFormed.{at, times}
-use Rattle.dispatch_core.proofs.Times.{same, same_is, same_not, times-cons, Apart, Apart_from_times, filter_map_same}
+use Rattle.dispatch_core.proofs.Times.{same, same_not, times-cons, Apart, filter_map_same}
 use Rattle.dispatch_core.proofs.Room.{Distinct, Distinct-head, Distinct-tail}
 use Rattle.std.proofs.lemmas.Bool.{cases_eq}
 use Rattle.dispatch_core.proofs.QueueLists.{each_queued}
