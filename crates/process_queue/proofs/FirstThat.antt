@@ -18,7 +18,7 @@ abbrev pub IsRising : List (ℕ × ℕ) → Type 0
 IsRising [] = Unit {0}
 IsRising (x ∷ xs) = FromSerial x.0 xs × IsRising xs
 
-FromSerial-le : (m n : ℕ) (xs : List (ℕ × ℕ)) → m ≤ n → FromSerial n xs → FromSerial m xs
+pub FromSerial-le : (m n : ℕ) (xs : List (ℕ × ℕ)) → m ≤ n → FromSerial n xs → FromSerial m xs
 FromSerial-le m n [] le h = tt
 FromSerial-le m n (x ∷ xs) le h = let n_le : n ≤ x.0 = h.0 in (omega arith, FromSerial-le m n xs le h.1)
 
@@ -49,41 +49,41 @@ IsRising-placed seat base (Some l ∷ links) =
     ]
 
 -- an entry that fails the test changes nothing
-find-insert_in-fails : (p : ℕ → Bool) (e : ℕ × ℕ) (xs : List (ℕ × ℕ)) → p e.1 ≡ false → find (λ x. p x.1) (insert_in e xs) ≡ find (λ x. p x.1) xs
+find-insert_in-fails : (p : ℕ × ℕ → Bool) (e : ℕ × ℕ) (xs : List (ℕ × ℕ)) → p e ≡ false → find p (insert_in e xs) ≡ find p xs
 find-insert_in-fails p e [] fails = rw fails refl
 find-insert_in-fails p e (x ∷ xs) fails =
-    elim (nat_lt x.0 e.0) as (λ b. find (λ y. p y.1) (cond b (x ∷ insert_in e xs) (e ∷ x ∷ xs)) ≡ find (λ y. p y.1) (x ∷ xs)) [
-      | true ↦ ap (λ o. cond (p x.1) (Some x) o) (find-insert_in-fails p e xs fails)
+    elim (nat_lt x.0 e.0) as (λ b. find p (cond b (x ∷ insert_in e xs) (e ∷ x ∷ xs)) ≡ find p (x ∷ xs)) [
+      | true ↦ ap (λ o. cond (p x) (Some x) o) (find-insert_in-fails p e xs fails)
       | false ↦ rw fails refl
     ]
 
 -- what is found has no serial below those of the list
-found_from : (p : ℕ → Bool) (n : ℕ) (xs : List (ℕ × ℕ)) (y : ℕ × ℕ) → FromSerial n xs → find (λ x. p x.1) xs ≡ Some y → n ≤ y.0
+found_from : (p : ℕ × ℕ → Bool) (n : ℕ) (xs : List (ℕ × ℕ)) (y : ℕ × ℕ) → FromSerial n xs → find p xs ≡ Some y → n ≤ y.0
 found_from p n [] y h found = cc
 found_from p n (x ∷ xs) y h found =
-    let P : Bool → Type 0 = λ b. cond b (Some x) (find (λ z. p z.1) xs) ≡ Some y → n ≤ y.0 in
-    let at : P (p x.1) = elim (p x.1) as P [
+    let P : Bool → Type 0 = λ b. cond b (Some x) (find p xs) ≡ Some y → n ≤ y.0 in
+    let at : P (p x) = elim (p x) as P [
       | true ↦ λ e. subst (λ (z : ℕ × ℕ). n ≤ z.0) (same_Some x y e) h.0
       | false ↦ λ e. found_from p n xs y h.1 e
     ] in at found
 
 -- an entry with no later serial than all the others is the first of itself and what is found among them
-first_before : (p : ℕ → Bool) (e : ℕ × ℕ) (xs : List (ℕ × ℕ)) → FromSerial e.0 xs → Some e ≡ first_in (insert_in e (cons_option (find (λ x. p x.1) xs) []))
+first_before : (p : ℕ × ℕ → Bool) (e : ℕ × ℕ) (xs : List (ℕ × ℕ)) → FromSerial e.0 xs → Some e ≡ first_in (insert_in e (cons_option (find p xs) []))
 first_before p e xs h =
-    let P : Option (ℕ × ℕ) → Type 0 = λ o. find (λ x. p x.1) xs ≡ o → Some e ≡ first_in (insert_in e (cons_option o [])) in
-    let at : P (find (λ x. p x.1) xs) = elim (find (λ x. p x.1) xs) as P [
+    let P : Option (ℕ × ℕ) → Type 0 = λ o. find p xs ≡ o → Some e ≡ first_in (insert_in e (cons_option o [])) in
+    let at : P (find p xs) = elim (find p xs) as P [
       | None ↦ λ _. refl
       | Some y ↦ λ found. let le : e.0 ≤ y.0 = found_from p e.0 xs y h found in let no : nat_lt y.0 e.0 ≡ false = le-ltb y.0 e.0 le in rw no refl
     ] in at refl
 
 -- an entry that passes is put beside the one that was found
-find-insert_in-passes : (p : ℕ → Bool) (e : ℕ × ℕ) (xs : List (ℕ × ℕ)) → p e.1 ≡ true → IsRising xs
-    → find (λ x. p x.1) (insert_in e xs) ≡ first_in (insert_in e (cons_option (find (λ x. p x.1) xs) []))
+find-insert_in-passes : (p : ℕ × ℕ → Bool) (e : ℕ × ℕ) (xs : List (ℕ × ℕ)) → p e ≡ true → IsRising xs
+    → find p (insert_in e xs) ≡ first_in (insert_in e (cons_option (find p xs) []))
 find-insert_in-passes p e [] passes h = rw passes refl
 find-insert_in-passes p e (x ∷ xs) passes h =
-    let P : Bool → Type 0 = λ b. nat_lt x.0 e.0 ≡ b → find (λ y. p y.1) (cond b (x ∷ insert_in e xs) (e ∷ x ∷ xs)) ≡ first_in (insert_in e (cons_option (find (λ y. p y.1) (x ∷ xs)) [])) in
+    let P : Bool → Type 0 = λ b. nat_lt x.0 e.0 ≡ b → find p (cond b (x ∷ insert_in e xs) (e ∷ x ∷ xs)) ≡ first_in (insert_in e (cons_option (find p (x ∷ xs)) [])) in
     let at : P (nat_lt x.0 e.0) = elim (nat_lt x.0 e.0) as P [
-      | true ↦ λ lt. elim (p x.1) as (λ b. cond b (Some x) (find (λ y. p y.1) (insert_in e xs)) ≡ first_in (insert_in e (cons_option (cond b (Some x) (find (λ y. p y.1) xs)) []))) [
+      | true ↦ λ lt. elim (p x) as (λ b. cond b (Some x) (find p (insert_in e xs)) ≡ first_in (insert_in e (cons_option (cond b (Some x) (find p xs)) []))) [
         | true ↦ rw lt refl
         | false ↦ find-insert_in-passes p e xs passes h.1
       ]
@@ -102,30 +102,30 @@ find-map p (x ∷ xs) =
     ]
 
 -- the walk over the links: a slot that passes is put beside the one that was found
-pub found_here : (p : ℕ → Bool) (seat i next : ℕ) (links : List (Option Link)) (l : Link) (found : Option (ℕ × ℕ)) (first : ℕ × ℕ)
-    → next ≡ i + 1 → i < length links → get_or links i None ≡ Some l → l.seat ≡ seat → p i ≡ true
-    → found ≡ find (λ e. p e.1) (placed seat next (drop next links))
+pub found_here : (p : ℕ × ℕ → Bool) (seat i next : ℕ) (links : List (Option Link)) (l : Link) (found : Option (ℕ × ℕ)) (first : ℕ × ℕ)
+    → next ≡ i + 1 → i < length links → get_or links i None ≡ Some l → l.seat ≡ seat → p (l.serial, i) ≡ true
+    → found ≡ find p (placed seat next (drop next links))
     → ((entries : List (ℕ × ℕ)) → found ≡ first_in entries → Some first ≡ first_in (insert_in (l.serial, i) entries))
-    → Some first ≡ find (λ e. p e.1) (placed seat i (drop i links))
+    → Some first ≡ find p (placed seat i (drop i links))
 found_here p seat i next links l found first after h here same passes was earlier =
     let rest : List (ℕ × ℕ) = placed seat (i + 1) (drop (i + 1) links) in
-    let was_rest : found ≡ find (λ e. p e.1) rest = was ∙ ap (λ n. find (λ e. p e.1) (placed seat n (drop n links))) after in
+    let was_rest : found ≡ find p rest = was ∙ ap (λ n. find p (placed seat n (drop n links))) after in
     let one : found ≡ first_in (cons_option found []) = elim found as (λ o. o ≡ first_in (cons_option o [])) [ None ↦ refl | Some x ↦ refl ] in
     earlier (cons_option found []) one ∙ ap (λ o. first_in (insert_in (l.serial, i) (cons_option o []))) was_rest
     ∙ sym (find-insert_in-passes p (l.serial, i) rest passes (IsRising-placed seat (i + 1) (drop (i + 1) links)))
-    ∙ ap (find (λ e. p e.1)) (sym (placed_here seat i links l h here same))
+    ∙ ap (find p) (sym (placed_here seat i links l h here same))
 
 -- a slot that is linked elsewhere, or that fails, changes nothing
-pub found_past : (p : ℕ → Bool) (seat i next : ℕ) (links : List (Option Link)) (l : Link) (found : Option (ℕ × ℕ))
-    → next ≡ i + 1 → i < length links → get_or links i None ≡ Some l → (l.seat ≡ seat → p i ≡ false)
-    → found ≡ find (λ e. p e.1) (placed seat next (drop next links))
-    → found ≡ find (λ e. p e.1) (placed seat i (drop i links))
+pub found_past : (p : ℕ × ℕ → Bool) (seat i next : ℕ) (links : List (Option Link)) (l : Link) (found : Option (ℕ × ℕ))
+    → next ≡ i + 1 → i < length links → get_or links i None ≡ Some l → (l.seat ≡ seat → p (l.serial, i) ≡ false)
+    → found ≡ find p (placed seat next (drop next links))
+    → found ≡ find p (placed seat i (drop i links))
 found_past p seat i next links l found after h here fails was =
     let rest : List (ℕ × ℕ) = placed seat (i + 1) (drop (i + 1) links) in
-    let was_rest : found ≡ find (λ e. p e.1) rest = was ∙ ap (λ n. find (λ e. p e.1) (placed seat n (drop n links))) after in
+    let was_rest : found ≡ find p rest = was ∙ ap (λ n. find p (placed seat n (drop n links))) after in
     elim (cases_eq l.seat seat) [
-      | inl same ↦ was_rest ∙ sym (find-insert_in-fails p (l.serial, i) rest (fails same)) ∙ ap (find (λ e. p e.1)) (sym (placed_here seat i links l h here same))
-      | inr other ↦ was_rest ∙ ap (find (λ e. p e.1)) (sym (placed_other seat i links l h here other))
+      | inl same ↦ was_rest ∙ sym (find-insert_in-fails p (l.serial, i) rest (fails same)) ∙ ap (find p) (sym (placed_here seat i links l h here same))
+      | inr other ↦ was_rest ∙ ap (find p) (sym (placed_other seat i links l h here other))
     ]
 
 -- what the whole walk found

@@ -1,3 +1,4 @@
 pub mod Placed
 pub mod Shapes
 pub mod FirstThat
+pub mod Nth

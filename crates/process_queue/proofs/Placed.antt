@@ -1,5 +1,5 @@
 -- The walk over the links, one slot at a time.
-use Rattle.std.proofs.Common.{◌≡◌, ◌≢◌, ℕ, ◌+◌, ◌<◌, List, [], ◌∷◌, Option, Some, None, Bool, true, false, cond, eqb, length, get_or, drop, map, nat_lt, refl, sym, ap, ◌∙◌, subst, arith, rules, add-one}
+use Rattle.std.proofs.Common.{◌≡◌, ◌≢◌, ℕ, ◌+◌, ◌<◌, List, [], ◌∷◌, Option, Some, None, true, false, cond, length, get_or, drop, map, nat_lt, refl, sym, ap, ◌∙◌, rules, add-one}
 use Rattle.std.proofs.Math.Seq.{drop-cons}
 use Rattle.process_queue.specs.declared.Link.{Link}
 use Rattle.process_queue.specs.Queue.{placed, insert_in, first_in, is_empty, queue_slots}

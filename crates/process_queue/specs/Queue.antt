@@ -1,5 +1,5 @@
 -- A software queue: the slots linked to a seat, in order of insertion (blk-mq: a software queue is a list; order by serial is our profile).
-use Rattle.std.specs.Prelude.{ℕ, ◌+◌, List, [], ◌∷◌, Bool, true, false, Option, Some, None, map, nat_lt, ◌==◌, if◌then◌else◌}
+use Rattle.std.specs.Prelude.{ℕ, zero, suc, ◌+◌, List, [], ◌∷◌, Bool, true, false, Option, Some, None, map, nat_lt, ◌==◌, ◌&&◌, ◌||◌, if◌then◌else◌}
 use Rattle.process_queue.specs.declared.Link.{Link}
 
 -- an entry, a serial and a slot, put before the first one with a greater or an equal serial
@@ -31,3 +31,18 @@ is_empty (x ∷ xs) = false
 -- the earliest inserted slot of a seat's queue
 abbrev pub first_slot : ℕ → List (Option Link) → Option ℕ
 first_slot seat links = first_in (queue_slots seat links)
+
+-- the element at a place of a list
+abbrev pub nth_in : {A : Type 0} → List A → ℕ → Option A
+nth_in [] place = None
+nth_in (x ∷ xs) zero = Some x
+nth_in (x ∷ xs) (suc place) = nth_in xs place
+
+-- the slot at a place of a seat's queue, in order of insertion
+abbrev pub nth_slot : ℕ → List (Option Link) → ℕ → Option ℕ
+nth_slot seat links place = nth_in (queue_slots seat links) place
+
+-- whether an entry comes after the last one seen, if there is one: by its serial, and of equal serials by its slot
+abbrev pub is_after : Option (ℕ × ℕ) → ℕ × ℕ → Bool
+is_after None e = true
+is_after (Some seen) e = nat_lt seen.0 e.0 || (seen.0 == e.0) && nat_lt seen.1 e.1

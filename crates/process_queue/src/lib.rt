@@ -6,6 +6,7 @@
 //! | [`ProcessQueue::link`] | puts a slot into a seat's queue, under the serial of its insertion |
 //! | [`ProcessQueue::unlink`] | takes a slot out of its queue |
 //! | [`ProcessQueue::first`] | the earliest inserted slot of a seat's queue |
+//! | [`ProcessQueue::nth`] | the slot at a place of a seat's queue |
 //! | [`ProcessQueue::is_empty`] | whether a seat's queue has no slot |
 //! | [`ProcessQueue::merge_place`] | which request of a seat's queue a bio joins, and at which end |
 //!
@@ -15,6 +16,7 @@ ghost use Rattle.std.specs.Prelude.{◌≡◌, ◌≤◌, None, Some, IfOk, leng
 ghost use Rattle.process_queue.specs.Queue.{first_in, first_slot, insert_in, is_empty, queue_slots};
 
 mod merge;
+mod place;
 
 pub use merge::{Place, Shape};
 use sector_core::{OutOfMemory, Slot, empty_table};

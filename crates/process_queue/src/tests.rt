@@ -34,6 +34,34 @@ fn queues(rt: HostRuntime) -> Result<(), Fail> {
     Ok(())
 }
 
+#[test]
+fn places(rt: HostRuntime) -> Result<(), Fail> {
+    let mut queues = ProcessQueue::new(rt.alloc(), 6)?;
+    assert_eq!(rt; queues.nth(0, 0), None);
+    // Seat 0 has slot 4, then slots 1 and 3 of one serial, then slot 0; seat 1 has slots 5 and 2.
+    for link in [
+        (0, 0, 9),
+        (1, 0, 7),
+        (2, 1, 8),
+        (3, 0, 7),
+        (4, 0, 5),
+        (5, 1, 6),
+    ] {
+        let _free = queues.link(link.0, link.1, link.2);
+    }
+    assert_eq!(rt; queues.nth(0, 0), Some(4));
+    assert_eq!(rt; queues.nth(0, 1), Some(1));
+    assert_eq!(rt; queues.nth(0, 2), Some(3));
+    assert_eq!(rt; queues.nth(0, 3), Some(0));
+    assert_eq!(rt; queues.nth(0, 4), None);
+    assert_eq!(rt; queues.nth(0, usize::MAX), None);
+    assert_eq!(rt; queues.nth(1, 0), Some(5));
+    assert_eq!(rt; queues.nth(1, 1), Some(2));
+    assert_eq!(rt; queues.nth(1, 2), None);
+    assert_eq!(rt; queues.nth(2, 0), None);
+    Ok(())
+}
+
 // Puts a request of session 1 in a slot of the pool, with its bios in the slots of bios from `from` on.
 fn put(pool: &mut RequestPool, slot: Slot, from: Slot, ranges: &[Range]) -> Result<(), Fail> {
     let mut bios = ArrayVec::new();

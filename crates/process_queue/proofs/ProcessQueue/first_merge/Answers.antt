@@ -17,7 +17,7 @@ loop-slot-preserved-then-joins_at c =
     let test : ℕ → Bool = joins_at (shape_at c.args.pool.now.requests c.args.pool.now.bios) c.args.front c.args.session c.args.op c.args.range in
     let within : c.loop-slot.slot - 1 < length c.self.inside.links.items = omega arith in
     let here : get_or c.self.inside.links.items (c.loop-slot.slot - 1) None ≡ Some c.in-Some.link = sym (get_or_read _ _ _ within c.index.ensures None) ∙ c.in-Some.is in
-    found_here test c.args.seat (c.loop-slot.slot - 1) c.loop-slot.slot c.self.inside.links.items c.in-Some.link c.loop-slot.found c.earlier.result
+    found_here (λ (e : ℕ × ℕ). test e.1) c.args.seat (c.loop-slot.slot - 1) c.loop-slot.slot c.self.inside.links.items c.in-Some.link c.loop-slot.found c.earlier.result
     (omega arith) within here c.if-link-seat.true (sym c.if-joins_at.ensures) c.loop-slot.invariant c.earlier.ensures
 
 pub loop-slot-preserved-else-link-seat : goal.loop-slot-preserved-else-link-seat
@@ -29,7 +29,7 @@ loop-slot-preserved-else-link-seat c =
       | else-link-seat-via-then-link-seat+else-joins_at w ↦ λ _. sym w.if-joins_at.ensures
       | else-link-seat-via-else-link-seat w ↦ λ same. absurd (w.if-link-seat.false same)
     ] in
-    found_past test c.args.seat (c.loop-slot.slot - 1) c.loop-slot.slot c.self.inside.links.items c.in-Some.link c.loop-slot.found
+    found_past (λ (e : ℕ × ℕ). test e.1) c.args.seat (c.loop-slot.slot - 1) c.loop-slot.slot c.self.inside.links.items c.in-Some.link c.loop-slot.found
     (omega arith) within here fails c.loop-slot.invariant
 
 pub returns-in-Some-found : goal.returns-in-Some-found
