@@ -26,3 +26,4 @@ pub mod Contents
 pub mod Completing
 pub mod Recorded
 pub mod Bounds
+pub mod Places

@@ -13,7 +13,7 @@ mod start;
 mod submit;
 
 pub use machine::{Machine, SectorView, View};
-pub use plain_machine::{Answer, Cause, Code, Reply, Sizes, Step, Work};
+pub use plain_machine::{Answer, Cause, Code, Reply, RequestView, Sizes, Step, Work};
 
 #[cfg(test)]
 mod tests;

@@ -6,6 +6,7 @@ ghost use Rattle.change_record.specs.Trail.{KeepsTrail};
 ghost use Rattle.change_record.specs.Machine.{meaning, opening};
 ghost use Rattle.change_record.specs.Tape.{step_at};
 ghost use Rattle.plain_machine.specs.Step.{step as plain_step, Applies, of_sizes};
+ghost use Rattle.plain_machine.specs.Queued.{request_view};
 ghost use Rattle.dispatch_core.specs.WellFormed.{WellFormed};
 ghost use Rattle.dispatch_core.specs.Counts.{exchanges_of};
 ghost use Rattle.dispatch_core.specs.Relation.{Answers, Leaves};
@@ -17,7 +18,7 @@ use crate::reap::run_reap;
 use crate::send::{range_of_request, run_dispatch};
 use crate::slots::outbox_slots;
 use crate::submit::run_submit;
-use crate::{Answer, Code, Sizes, Step, Work};
+use crate::{Answer, Code, RequestView, Sizes, Step, Work};
 use change_record::{Parts, Tape};
 use plain_machine::requests_stay_whole;
 use sector_core::{Block, Config, OutOfMemory};
@@ -250,6 +251,29 @@ impl<'a> View<'a> {
             op: request.op,
             range: range_of_request(machine.parts.pool(), request),
         })
+    }
+
+    /// What stands at a place of a seat's queue, in order of insertion.
+    pub fn request(&self, seat: u8, place: usize) -> RequestView
+        ensures shown { (n : ℕ) → IsFor n self.now → result ≡ request_view (plain_of self.now) seat place }
+        ensures few { (n : ℕ) → IsFor n self.now → length ((plain_of self.now).queue seat) < 2 ^ 16 }
+    {
+        let machine = self.machine;
+        // A queue has no more requests than there are slots, whose number is a u16.
+        let _slots: u16 = machine.sizes.requests;
+        if machine.parts.seat(seat).is_none() {
+            return RequestView::Free;
+        }
+        let Some(slot) = machine.parts.queues().nth(seat, place) else {
+            return RequestView::Past;
+        };
+        let Some(request) = machine.parts.pool().request(slot) else {
+            return RequestView::Past;
+        };
+        RequestView::Queued {
+            range: range_of_request(machine.parts.pool(), request),
+            bios: request.bios.len() as u32,
+        }
     }
 
     /// How many exchanges were made on it, modulo 2^64.

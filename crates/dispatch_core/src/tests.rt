@@ -30,6 +30,21 @@ fn applied(alloc: Global, machine: &mut Machine, tape: &mut Tape, serial: u64, s
     }
 }
 
+// A fetch by the first session, at seat 0.
+fn fetch(range: Range) -> Step {
+    Step::Submit {
+        seat: 0,
+        session: 1,
+        op: Op::Fetch,
+        range,
+        payload: Bytes::new(),
+    }
+}
+
+fn queued(range: Range) -> RequestView {
+    RequestView::Queued { range, bios: 1 }
+}
+
 fn is_stored(machine: &Machine) -> bool {
     match machine.view().sector(5) {
         SectorView::Outside => false,
@@ -126,5 +141,32 @@ fn attach_back_and_forth(rt: HostRuntime) -> Result<(), Fail> {
     machine.forth(&mut tape, 0)?;
     assert_eq!(rt; machine.turns(), 3);
     assert_eq!(rt; machine.view().turns(), 3);
+    Ok(())
+}
+
+// Two requests that do not touch stand in a queue, the one submitted first in front.
+#[test]
+fn places_of_a_queue(rt: HostRuntime) -> Result<(), Fail> {
+    let alloc = rt.alloc();
+    let mut machine = Machine::new(alloc, Config::check(ConfigDraft::default())?, 8)?;
+    let mut tape = Tape::new(alloc);
+    assert_eq!(rt; machine.view().request(0, 0), RequestView::Free);
+    assert_eq!(rt; machine.view().request(16, 0), RequestView::Free);
+
+    let attach = Step::Attach {
+        seat: 0,
+        group: 0,
+        prio: 4,
+    };
+    assert_eq!(rt; applied(alloc, &mut machine, &mut tape, 1, &attach), 1);
+    let front = fetch(ONE);
+    assert_eq!(rt; applied(alloc, &mut machine, &mut tape, 2, &front), 2);
+    let start = Range { start: 0, count: 2 };
+    let behind = fetch(start);
+    assert_eq!(rt; applied(alloc, &mut machine, &mut tape, 3, &behind), 3);
+
+    assert_eq!(rt; machine.view().request(0, 0), queued(ONE));
+    assert_eq!(rt; machine.view().request(0, 1), queued(start));
+    assert_eq!(rt; machine.view().request(0, 2), RequestView::Past);
     Ok(())
 }
