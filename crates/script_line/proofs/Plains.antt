@@ -7,7 +7,7 @@ use Rattle.script_line.specs.Plain.{IsWordAndNumbers, Reads}
 use Rattle.std.specs.Prelude.{Option, None, Some, IfNone}
 use Rattle.script_line.specs.declared.line.Line.{Line}
 use Rattle.script_line.specs.declared.line.Ending.{Ending}
-use Rattle.script_line.specs.declared.line.Line.TheVariants.{Attach, Read, Write, Reap, Dispatch, Finish, Hold, Release, Undo, Redo, Sector, Cursor}
+use Rattle.script_line.specs.declared.line.Line.TheVariants.{Attach, Read, Write, Reap, Dispatch, Finish, Hold, Release, Undo, Redo, Sector, Queue, Cursor}
 use Rattle.script_line.proofs.Cuts.{one_number, one_cut, IsTail-numbers}
 
 pub record IsPlain (word given : List ℕ) (l : Line) : Type 0 where
@@ -34,6 +34,7 @@ parts Release f = inl (codes "release", [], record { spelling = refl; space = se
 parts (Undo k) f = inl (codes "undo", k ∷ [], record { spelling = refl; space = search rules; fits = (omega arith, tt); few = lit≤ tt; is = λ w ns e d. (e, d) })
 parts (Redo k) f = inl (codes "redo", k ∷ [], record { spelling = refl; space = search rules; fits = (omega arith, tt); few = lit≤ tt; is = λ w ns e d. (e, d) })
 parts (Sector n) f = inl (codes "sector", n ∷ [], record { spelling = refl; space = search rules; fits = (f, tt); few = lit≤ tt; is = λ w ns e d. (e, d) })
+parts (Queue s) f = inl (codes "queue", s ∷ [], record { spelling = refl; space = search rules; fits = (omega arith, tt); few = lit≤ tt; is = λ w ns e d. (e, d) })
 parts Cursor f = inl (codes "line", [], record { spelling = refl; space = search rules; fits = tt; few = lit≤ tt; is = λ w ns e d. (e, d) })
 
 pub one_numbers : (xs ys : List ℕ) → AreNumbers xs → AreNumbers ys → numbers xs ≡ numbers ys → xs ≡ ys

@@ -4,7 +4,7 @@ use Rattle.script_line.specs.Words.{numbers}
 use Rattle.script_line.specs.Line.{spelled, ended, Fits, EndingFits}
 use Rattle.script_line.specs.Plain.{IsWordAndNumbers}
 use Rattle.script_line.specs.declared.line.Line.{Line}
-use Rattle.script_line.specs.declared.line.Line.TheVariants.{Attach, Read, Write, Reap, Dispatch, Finish, Hold, Release, Undo, Redo, Sector, Cursor}
+use Rattle.script_line.specs.declared.line.Line.TheVariants.{Attach, Read, Write, Reap, Dispatch, Finish, Hold, Release, Undo, Redo, Sector, Queue, Cursor}
 use Rattle.script_line.specs.declared.line.Ending.{Ending}
 use Rattle.script_line.specs.declared.line.Ending.TheVariants.{Stored, Fill, Short, Fault}
 use Rattle.script_line.proofs.Cuts.{one_cut, IsTail-numbers}
@@ -29,6 +29,7 @@ word_of Release = codes "release"
 word_of (Undo k) = codes "undo"
 word_of (Redo k) = codes "redo"
 word_of (Sector n) = codes "sector"
+word_of (Queue s) = codes "queue"
 word_of Cursor = codes "line"
 
 word_is : (w ns : List ℕ) (l : Line) → IsWordAndNumbers w ns l → w ≡ word_of l
@@ -61,6 +62,8 @@ one_plain w ns (Redo k) (Redo k') one two = let same : k ∷ [] ≡ k' ∷ [] = 
 one_plain w ns (Redo k) m one two = absurd (omega (arith, ap mark (sym one.0 ∙ word_is w ns m two)))
 one_plain w ns (Sector n) (Sector n') one two = let same : n ∷ [] ≡ n' ∷ [] = sym one.1 ∙ two.1 in cc
 one_plain w ns (Sector n) m one two = absurd (omega (arith, ap mark (sym one.0 ∙ word_is w ns m two)))
+one_plain w ns (Queue s) (Queue s') one two = let same : s ∷ [] ≡ s' ∷ [] = sym one.1 ∙ two.1 in cc
+one_plain w ns (Queue s) m one two = absurd (omega (arith, ap mark (sym one.0 ∙ word_is w ns m two)))
 one_plain w ns Cursor Cursor one two = refl
 one_plain w ns Cursor m one two = absurd (omega (arith, ap mark (sym one.0 ∙ word_is w ns m two)))
 

@@ -2,7 +2,7 @@
 use Rattle.std.specs.Prelude.{ℕ, ◌<◌, ◌^◌, List, [], ◌∷◌, ◌++◌, codes}
 use Rattle.script_line.specs.Words.{numbers}
 use Rattle.script_line.specs.declared.line.Line.{Line}
-use Rattle.script_line.specs.declared.line.Line.TheVariants.{Attach, Read, Write, Reap, Dispatch, Finish, Hold, Release, Undo, Redo, Sector, Cursor}
+use Rattle.script_line.specs.declared.line.Line.TheVariants.{Attach, Read, Write, Reap, Dispatch, Finish, Hold, Release, Undo, Redo, Sector, Queue, Cursor}
 use Rattle.script_line.specs.declared.line.Ending.{Ending}
 use Rattle.script_line.specs.declared.line.Ending.TheVariants.{Stored, Fill, Short, Fault}
 
@@ -26,6 +26,7 @@ spelled Release = codes "release"
 spelled (Undo k) = codes "undo" ++ numbers (k ∷ [])
 spelled (Redo k) = codes "redo" ++ numbers (k ∷ [])
 spelled (Sector number) = codes "sector" ++ numbers (number ∷ [])
+spelled (Queue seat) = codes "queue" ++ numbers (seat ∷ [])
 spelled Cursor = codes "line"
 
 -- the byte of an ending is a byte
@@ -48,4 +49,5 @@ Fits Release = Unit {0}
 Fits (Undo k) = k < 2 ^ 32
 Fits (Redo k) = k < 2 ^ 32
 Fits (Sector number) = number < 2 ^ 64
+Fits (Queue seat) = seat < 2 ^ 8
 Fits Cursor = Unit {0}

@@ -2,7 +2,7 @@
 use Rattle.std.specs.Prelude.{◌≡◌, ℕ, List, [], ◌∷◌, codes, Option, MatchOption}
 use Rattle.script_line.specs.Line.{Fits}
 use Rattle.script_line.specs.declared.line.Line.{Line}
-use Rattle.script_line.specs.declared.line.Line.TheVariants.{Attach, Read, Write, Reap, Dispatch, Finish, Hold, Release, Undo, Redo, Sector, Cursor}
+use Rattle.script_line.specs.declared.line.Line.TheVariants.{Attach, Read, Write, Reap, Dispatch, Finish, Hold, Release, Undo, Redo, Sector, Queue, Cursor}
 
 -- the line is this word and then these numbers
 abbrev pub IsWordAndNumbers : List ℕ → List ℕ → Line → Type 0
@@ -17,6 +17,7 @@ IsWordAndNumbers word given Release = (word ≡ codes "release") × (given ≡ [
 IsWordAndNumbers word given (Undo k) = (word ≡ codes "undo") × (given ≡ k ∷ [])
 IsWordAndNumbers word given (Redo k) = (word ≡ codes "redo") × (given ≡ k ∷ [])
 IsWordAndNumbers word given (Sector number) = (word ≡ codes "sector") × (given ≡ number ∷ [])
+IsWordAndNumbers word given (Queue seat) = (word ≡ codes "queue") × (given ≡ seat ∷ [])
 IsWordAndNumbers word given Cursor = (word ≡ codes "line") × (given ≡ [])
 
 -- what a word and numbers are read to: the line that they are, or none where no line is

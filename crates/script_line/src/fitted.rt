@@ -67,3 +67,12 @@ pub fn redo(k: u64) -> Option<Line>
         Err(_) => None,
     }
 }
+
+pub fn queue(seat: u64) -> Option<Line>
+    ensures { FitsOrNone (Line.Queue seat) result }
+{
+    match u8::try_from(seat) {
+        Ok(seat) => Some(Line::Queue { seat }),
+        Err(_) => None,
+    }
+}

@@ -53,6 +53,10 @@ pub enum Line {
     Sector {
         number: u64,
     },
+    /// `queue SEAT`, a query
+    Queue {
+        seat: u8,
+    },
     /// `line`, a query
     Cursor,
 }

@@ -3,7 +3,7 @@ ghost use Rattle.std.specs.Prelude.{ℕ, [], ◌∷◌};
 ghost use Rattle.script_line.specs.Words.{AreNumbers};
 ghost use Rattle.script_line.specs.Plain.{Reads};
 
-use super::fitted::{attach, read, reap, redo, undo, write};
+use super::fitted::{attach, queue, read, reap, redo, undo, write};
 use super::line::Line;
 
 /// The line that is this word and these numbers.
@@ -47,6 +47,8 @@ fn with_one(word: &[u8], a: u64) -> Option<Line>
         redo(a)
     } else if word == b"sector".as_slice() {
         Some(Line::Sector { number: a })
+    } else if word == b"queue".as_slice() {
+        queue(a)
     } else {
         None
     }

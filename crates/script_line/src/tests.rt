@@ -1,7 +1,7 @@
 use super::{Ending, Line, line_of, number};
 
 // A line, as it is spelled and as it is.
-const FORMS: [(&[u8], Line); 16] = [
+const FORMS: [(&[u8], Line); 18] = [
     (
         b"attach 0 1 4",
         Line::Attach {
@@ -82,6 +82,8 @@ const FORMS: [(&[u8], Line); 16] = [
     (b"undo 4294967295", Line::Undo { k: 4294967295 }),
     (b"redo 0", Line::Redo { k: 0 }),
     (b"sector 1024", Line::Sector { number: 1024 }),
+    (b"queue 0", Line::Queue { seat: 0 }),
+    (b"queue 255", Line::Queue { seat: 255 }),
     (b"line", Line::Cursor),
 ];
 
@@ -93,7 +95,7 @@ fn each_form_is_read(rt: HostRuntime) {
 }
 
 // Lines that are none.
-const BAD: [&[u8]; 47] = [
+const BAD: [&[u8]; 51] = [
     b"",
     b" ",
     b"#",
@@ -119,6 +121,10 @@ const BAD: [&[u8]; 47] = [
     b"undo 4294967296",
     b"sector 18446744073709551616",
     b"sector 99999999999999999999999",
+    b"queue",
+    b"queue 256",
+    b"queue 0 0",
+    b"queued 0",
     b"attach 256 0 0",
     b"attach 0 256 0",
     b"attach 0 0 256",
