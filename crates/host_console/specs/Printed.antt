@@ -2,21 +2,22 @@
 use Rattle.std.specs.Prelude.{◌≡◌, ℕ, ◌*◌, ◌≤◌, ◌<◌, ◌==◌, nat_le, nat_lt, List, [], ◌∷◌, ◌++◌, length, replicate, codes, Option, None, Some, if◌then◌else◌}
 use Rattle.std.specs.Fmt.{decimal}
 use Rattle.std.specs.FinMap as blocks
+use Rattle.sector_core.specs.declared.range.Range.{Range}
 use Rattle.sector_core.specs.declared.bio.Op.TheVariants as op
 use Rattle.sector_core.specs.declared.bio.FailKind.TheVariants as kind
 use Rattle.sector_core.specs.declared.bio.Outcome.{Outcome}
 use Rattle.sector_core.specs.declared.bio.Outcome.TheVariants as outcome
 use Rattle.sector_text.specs.Hex.{hex_of}
 use Rattle.script_line.specs.declared.line.Line.{Line}
-use Rattle.script_line.specs.declared.line.Line.TheVariants.{Attach, Read, Write, Reap, Dispatch, Finish, Hold, Release, Undo, Redo, Sector, Cursor}
+use Rattle.script_line.specs.declared.line.Line.TheVariants.{Attach, Read, Write, Reap, Dispatch, Finish, Hold, Release, Undo, Redo, Sector, Queue, Cursor}
 use Rattle.script_line.specs.declared.line.Ending.{Ending}
 use Rattle.script_line.specs.declared.line.Ending.TheVariants.{Stored, Fill, Short, Fault}
-use Rattle.plain_machine.specs.Machine.{Flight}
+use Rattle.plain_machine.specs.Machine.{WholeRequest, Flight}
 use Rattle.plain_machine.specs.declared.answer.Answer.{Answer}
 use Rattle.plain_machine.specs.declared.step.Step.TheVariants as step
 use Rattle.plain_machine.specs.declared.call.Call.{Call}
 use Rattle.plain_machine.specs.declared.call.Call.TheVariants as call
-use Rattle.plain_machine.specs.Step.{size_of}
+use Rattle.plain_machine.specs.Step.{size_of, range_of}
 use Rattle.plain_machine.specs.Keeper.{State, MayCall, machine_of}
 use Rattle.host_console.specs.Texts.{text_of}
 use Rattle.host_console.specs.declared.content.Content.{Content}
@@ -59,6 +60,19 @@ content_text k number =
 abbrev pub sector_text : State → ℕ → List ℕ
 sector_text k number = codes "sector " ++ (decimal number ++ 32 ∷ content_text k number)
 
+-- a request of so many bios: its first sector, `+`, how many sectors it has, `x`, and the number of bios (our profile)
+abbrev pub request_text : Range → ℕ → List ℕ
+request_text range bios = decimal range.start ++ 43 ∷ (decimal range.count ++ 120 ∷ decimal bios)
+
+-- the requests of a queue, each after one space, in order of insertion (our profile)
+abbrev pub requests_text : List WholeRequest → List ℕ
+requests_text [] = []
+requests_text (request ∷ queue) = 32 ∷ (request_text (range_of request.bios) (length request.bios) ++ requests_text queue)
+
+-- the queued requests of a seat, or that nobody sits there (our profile)
+abbrev pub queue_text : State → ℕ → List ℕ
+queue_text k seat = elim ((machine_of k).seat seat) [ None ↦ codes "queue none" | Some session ↦ codes "queue" ++ requests_text ((machine_of k).queue seat) ]
+
 abbrev pub cursor_text : State → List ℕ
 cursor_text k = codes "line " ++ (decimal k.cursor ++ 32 ∷ (decimal (length k.line) ++ 32 ∷ decimal k.last))
 
@@ -91,4 +105,5 @@ Prints before Release = Answers before call.Release
 Prints before (Undo k) = Answers before (call.Undo k)
 Prints before (Redo k) = Answers before (call.Redo k)
 Prints before (Sector number) = Shows before (sector_text before number)
+Prints before (Queue seat) = Shows before (queue_text before seat)
 Prints before Cursor = Shows before (cursor_text before)

@@ -3,7 +3,7 @@ ghost use Rattle.std.specs.Prelude.{true};
 ghost use Rattle.plain_machine.specs.Keeper.{opened};
 
 use crate::{Content, Keeps};
-use plain_machine::{Answer, Call, Cause, Code};
+use plain_machine::{Answer, Call, Cause, Code, RequestView};
 use std::alloc::Global;
 
 // It is held and its history is full, so that it accepts nothing. It counts its calls.
@@ -38,6 +38,10 @@ impl Keeps for Full {
         } else {
             Content::Outside
         }
+    }
+
+    fn request(&self, _seat: u8, _place: usize) -> RequestView {
+        RequestView::Free
     }
 
     fn cursor(&self) -> u32 {

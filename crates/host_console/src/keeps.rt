@@ -1,10 +1,11 @@
 // What a console needs of a keeper.
-ghost use Rattle.std.specs.Prelude.{◌≡◌, length};
-ghost use Rattle.plain_machine.specs.Keeper.{State, MayCall};
+ghost use Rattle.std.specs.Prelude.{◌≡◌, ◌<◌, ◌^◌, length};
+ghost use Rattle.plain_machine.specs.Keeper.{State, MayCall, machine_of};
+ghost use Rattle.plain_machine.specs.Queued.{request_view};
 ghost use Rattle.host_console.specs.Printed.{sectors_in_flight, IsContent};
 
 use crate::Content;
-use plain_machine::{Answer, Call};
+use plain_machine::{Answer, Call, RequestView};
 use std::alloc::Global;
 
 /// A keeper: it answers calls, and can be looked at.
@@ -23,6 +24,11 @@ pub trait Keeps {
     /// The content of a sector.
     fn sector(&self, number: u64) -> Content<'_>
         ensures { IsContent (state self.now) number result };
+
+    /// What stands at a place of a seat's queue, in order of insertion; no queue has as many places as a `u16` counts.
+    fn request(&self, seat: u8, place: usize) -> RequestView
+        ensures view { result ≡ request_view (machine_of (state self.now)) seat place }
+        ensures few { length ((machine_of (state self.now)).queue seat) < 2 ^ 16 };
 
     /// How many steps stand.
     fn cursor(&self) -> u32

@@ -16,6 +16,7 @@
 //! write 0 1 5 1 65    // queued 2
 //! undo 1              // refused 28
 //! sector 5            // sector 5 base
+//! queue 0             // queue 5+1x1
 //! ```
 
 mod answer;

@@ -1,10 +1,15 @@
 // The texts of queries.
-ghost use Rattle.std.specs.Prelude.{◌≡◌, ◌++◌, OnOk};
-ghost use Rattle.host_console.specs.Printed.{sector_text, cursor_text};
+ghost use Rattle.std.specs.Prelude.{◌≡◌, ◌∷◌, ◌++◌, OnOk};
+ghost use Rattle.host_console.specs.Printed.{sector_text, request_text, queue_text, cursor_text};
 
 use crate::{Content, Keeps};
+use plain_machine::RequestView;
+use sector_core::Range;
 use sector_text::put_hex;
 use std::io::{self, Write};
+
+// More requests than any queue has.
+const MOST_REQUESTS: usize = 65536;
 
 /// Appends what a sector has. It fails only for want of memory.
 pub fn put_sector<K: Keeps>(keeper: &K, number: u64, out: &mut Vec<u8>) -> io::Result<()>
@@ -19,6 +24,29 @@ pub fn put_sector<K: Keeps>(keeper: &K, number: u64, out: &mut Vec<u8>) -> io::R
             Ok(())
         }
     }
+}
+
+/// Appends the queued requests of a seat, in order of insertion. It fails only for want of memory.
+pub fn put_queue<K: Keeps>(keeper: &K, seat: u8, out: &mut Vec<u8>) -> io::Result<()>
+    ensures { OnOk result (out.new.items ≡ out.old.items ++ queue_text (K.state keeper.now) seat) }
+{
+    write!(out, "queue")?;
+    for place in 0..MOST_REQUESTS {
+        match keeper.request(seat, place) {
+            RequestView::Free => return write!(out, " none"),
+            RequestView::Past => return Ok(()),
+            RequestView::Queued { range, bios } => put_request(range, bios, out)?,
+        }
+    }
+    Ok(())
+}
+
+// A space, and then a request.
+fn put_request(range: Range, bios: u32, out: &mut Vec<u8>) -> io::Result<()>
+    ensures { OnOk result (out.new.items ≡ out.old.items ++ (32 ∷ request_text range bios)) }
+{
+    let Range { start, count } = range;
+    write!(out, " {start}+{count}x{bios}")
 }
 
 /// Appends where the line stands, and the last serial. It fails only for want of memory.

@@ -1,11 +1,11 @@
 // A keeper run from a script.
 ghost use Rattle.std.specs.Prelude.{◌≡◌, ℕ, List, ◌++◌, IfOk, OnOk, OnErr, ◌⊎◌};
-ghost use Rattle.host_console.specs.Printed.{Answers, Prints, outcome_of, ended, sector_text, cursor_text};
+ghost use Rattle.host_console.specs.Printed.{Answers, Prints, outcome_of, ended, sector_text, queue_text, cursor_text};
 
 use crate::Keeps;
 use crate::answer::put_answer;
 use crate::filled::sectors_of;
-use crate::query::{put_cursor, put_sector};
+use crate::query::{put_cursor, put_queue, put_sector};
 use crate::submit::{fetch, store};
 use plain_machine::{Call, Step};
 use script_line::{Ending, Line};
@@ -52,6 +52,7 @@ impl<K: Keeps> Console for Teller<K> {
             Line::Undo { k } => self.answer(alloc, &Call::Undo { k }, out),
             Line::Redo { k } => self.answer(alloc, &Call::Redo { k }, out),
             Line::Sector { number } => self.tell_sector(number, out),
+            Line::Queue { seat } => self.tell_queue(seat, out),
             Line::Cursor => self.tell_cursor(out),
         }
     }
@@ -131,6 +132,14 @@ impl<K: Keeps> Teller<K> {
         ensures { OnOk result (out.new.items ≡ out.old.items ++ ended (sector_text (K.state self.now.keeper) number)) }
     {
         put_sector(&self.keeper, number, out).map_err(|_| OutOfMemory)?;
+        out.push(b'\n')?;
+        Ok(())
+    }
+
+    fn tell_queue(&self, seat: u8, out: &mut Vec<u8>) -> Result<(), OutOfMemory>
+        ensures { OnOk result (out.new.items ≡ out.old.items ++ ended (queue_text (K.state self.now.keeper) seat)) }
+    {
+        put_queue(&self.keeper, seat, out).map_err(|_| OutOfMemory)?;
         out.push(b'\n')?;
         Ok(())
     }

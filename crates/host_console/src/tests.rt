@@ -150,6 +150,8 @@ redo 0
 redo 4294967295
 sector 7
 sector 8
+queue 0
+queue 255
 line
 lines
 ";
@@ -173,8 +175,10 @@ refused 30
 refused 32
 sector 7 base
 sector 8 none
+queue none
+queue none
 line 0 0 0
-bad line 21
+bad line 23
 ";
 
 #[test]
@@ -188,7 +192,7 @@ fn each_line_prints_one(rt: HostRuntime) {
     let mut written = Vec::new(rt.alloc());
     let mut script = SCRIPT;
     let end = run_keeper(rt.alloc(), &mut script, &mut written, &mut teller);
-    assert_eq!(rt; end, ScriptEnd::BadLine(21));
+    assert_eq!(rt; end, ScriptEnd::BadLine(23));
     assert_eq!(rt; written.as_slice(), TEXT);
     assert_eq!(rt; teller.keeper.calls, 17);
 }
