@@ -3,7 +3,7 @@
 use dispatch_core::SectorView;
 use history::Keeper;
 use host_console::{Content, Keeps};
-use plain_machine::{Answer, Call};
+use plain_machine::{Answer, Call, RequestView};
 use std::alloc::Global;
 
 /// A keeper that a script is run at.
@@ -33,6 +33,10 @@ impl Keeps for Host {
             SectorView::Base => Content::Base,
             SectorView::Stored(block) => Content::Stored(block),
         }
+    }
+
+    fn request(&self, seat: u8, place: usize) -> RequestView {
+        self.keeper.view().machine().request(seat, place)
     }
 
     fn cursor(&self) -> u32 {
