@@ -38,7 +38,8 @@ SCRIPT: one call a line, words joined by one space; an empty line or one that be
     write SEAT SESSION START COUNT BYTE  reap SEAT SESSION
     dispatch                             finish TAG ISSUE stored|short|fault|fill BYTE
     hold, release                        undo K, redo K
-    sector NUMBER                        line
+    sector NUMBER                        queue SEAT
+    line
 
 EXIT STATUS
     0 end of input    2 bad line    3 read fault    4 write fault    5 no memory
