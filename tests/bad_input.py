@@ -93,6 +93,7 @@ BAD_LINES = [
         ("start past u64", b"read 0 1 %d 1" % U64_PAST),
         ("issue past u64", b"finish 0 %d stored" % U64_PAST),
         ("sector past u64", b"sector %d" % U64_PAST),
+        ("seat of queue past u8", b"queue 256"),
         ("a number of 100 digits", b"sector " + 100 * b"9"),
         # Too few words, and too many.
         ("attach of two words", b"attach 1 0"),
@@ -119,6 +120,8 @@ BAD_LINES = [
         ("redo of two words", b"redo 1 1"),
         ("sector of no word", b"sector"),
         ("sector of two words", b"sector 0 1"),
+        ("queue of no word", b"queue"),
+        ("queue of two words", b"queue 0 0"),
         ("line of one word", b"line 0"),
     ]
 ] + [
@@ -140,6 +143,8 @@ GOOD_LINES = [
     Case("good: last line without newline", SIM, b"hold\nline", b"moved 0 0\nline 0 0 0\n"),
     Case("good: last comment without newline", SIM, b"line\n#", b"line 0 0 0\n"),
     Case("good: attach", SIM, b"attach 0 0 4\n", b"attached 1\n"),
+    Case("good: queue", SIM, b"queue 0\nattach 0 0 4\nqueue 0\nread 0 1 100 8\nread 0 1 36 4\nqueue 0\nqueue 1\nqueue 16\n",
+         b"queue none\nattached 1\nqueue\nqueued 2\nqueued 3\nqueue 100+8x1 36+4x1\nqueue none\nqueue none\n"),
     Case("good: greatest numbers of each type", SIM,
          b"attach 0 0 4\nattach 255 255 255\nread 0 1 %d 65535\nreap 0 %d\nfinish 255 %d fill 255\nundo %d\nsector %d\n"
          % (U64_MOST, U64_MOST, U64_MOST, U32_PAST - 1, U64_MOST),
