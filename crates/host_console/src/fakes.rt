@@ -1,9 +1,12 @@
-// A keeper that never changes.
-ghost use Rattle.std.specs.Prelude.{true};
+// Keepers that never change.
+ghost use Rattle.std.specs.Prelude.{true, [], ◌∷◌};
+ghost use Rattle.sector_core.specs.declared.bio.Op.TheVariants.{Fetch};
+ghost use Rattle.plain_machine.specs.declared.step.Step.TheVariants.{Attach, Submit};
 ghost use Rattle.plain_machine.specs.Keeper.{opened};
 
 use crate::{Content, Keeps};
 use plain_machine::{Answer, Call, Cause, Code, RequestView};
+use sector_core::Range;
 use std::alloc::Global;
 
 // It is held and its history is full, so that it accepts nothing. It counts its calls.
@@ -54,5 +57,81 @@ impl Keeps for Full {
 
     fn last_serial(&self) -> u64 {
         0
+    }
+}
+
+// It is held and its history is full. Seat 0 has submitted three bios; the third joined the request of the first.
+#[derive(Drop)]
+pub struct Waiting;
+
+impl Keeps for Waiting {
+    ghost state = { λ _. record (opened (record { sectors = 1024; requests = 2; tags = 1 }) 0) {
+      held = true;
+      cursor = 4;
+      last = 4;
+      line =
+          record { serial = 1; step = Attach 0 0 4 }
+          ∷ record { serial = 2; step = Submit 0 1 Fetch (record { start = 100; count = 8 }) [] }
+          ∷ record { serial = 3; step = Submit 0 1 Fetch (record { start = 36; count = 1 }) [] }
+          ∷ record { serial = 4; step = Submit 0 1 Fetch (record { start = 108; count = 4 }) [] }
+          ∷ [];
+    } };
+
+    fn call(&mut self, _alloc: Global, call: &Call) -> Answer {
+        match call {
+            Call::Do(_) => Answer::NotYet(Cause::Held),
+            Call::Hold => Answer::Refused(Code::AlreadyHeld),
+            Call::Undo { k: 0 } | Call::Redo { k: 0 } => Answer::Refused(Code::ZeroCount),
+            Call::Undo { k } if *k > 4 => Answer::Refused(Code::NothingToUndo),
+            Call::Redo { .. } => Answer::Refused(Code::NothingToRedo),
+            Call::Undo { .. } | Call::Release => Answer::Refused(Code::HistoryFull),
+        }
+    }
+
+    fn request_sectors(&self, _tag: u8, _issue: u64) -> u32 {
+        0
+    }
+
+    fn sector(&self, number: u64) -> Content<'_> {
+        if number < 1024 {
+            Content::Base
+        } else {
+            Content::Outside
+        }
+    }
+
+    fn request(&self, seat: u8, place: usize) -> RequestView {
+        if seat != 0 {
+            return RequestView::Free;
+        }
+        match place {
+            0 => RequestView::Queued {
+                range: Range {
+                    start: 100,
+                    count: 12,
+                },
+                bios: 2,
+            },
+            1 => RequestView::Queued {
+                range: Range {
+                    start: 36,
+                    count: 1,
+                },
+                bios: 1,
+            },
+            _ => RequestView::Past,
+        }
+    }
+
+    fn cursor(&self) -> u32 {
+        4
+    }
+
+    fn length(&self) -> u32 {
+        4
+    }
+
+    fn last_serial(&self) -> u64 {
+        4
     }
 }

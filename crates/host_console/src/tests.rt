@@ -1,5 +1,5 @@
 // The printed texts, and that the calls succeed while memory is left.
-use crate::fakes::Full;
+use crate::fakes::{Full, Waiting};
 use crate::{Keeps, Teller, put_answer, run_keeper};
 use bytes::Bytes;
 use plain_machine::{Answer, Call, Cause, Code, Reply, Work};
@@ -195,4 +195,17 @@ fn each_line_prints_one(rt: HostRuntime) {
     assert_eq!(rt; end, ScriptEnd::BadLine(23));
     assert_eq!(rt; written.as_slice(), TEXT);
     assert_eq!(rt; teller.keeper.calls, 17);
+}
+
+#[test]
+fn queued_requests_are_told(rt: HostRuntime) {
+    let mut teller = Teller { keeper: Waiting };
+    let mut written = Vec::new(rt.alloc());
+    let mut script = b"queue 0\nqueue 1\nqueue 16\n".as_slice();
+    let end = run_keeper(rt.alloc(), &mut script, &mut written, &mut teller);
+    assert_eq!(rt; end, ScriptEnd::Done);
+    assert_eq!(rt;
+        written.as_slice(),
+        b"queue 100+12x2 36+1x1\nqueue none\nqueue none\n".as_slice()
+    );
 }
