@@ -61,19 +61,21 @@ impl Keeps for Full {
 }
 
 // It is held and its history is full. Seat 0 has submitted three bios; the third joined the request of the first.
+// Seat 1 has submitted none.
 #[derive(Drop)]
 pub struct Waiting;
 
 impl Keeps for Waiting {
     ghost state = { λ _. record (opened (record { sectors = 1024; requests = 2; tags = 1 }) 0) {
       held = true;
-      cursor = 4;
-      last = 4;
+      cursor = 5;
+      last = 5;
       line =
           record { serial = 1; step = Attach 0 0 4 }
           ∷ record { serial = 2; step = Submit 0 1 Fetch (record { start = 100; count = 8 }) [] }
           ∷ record { serial = 3; step = Submit 0 1 Fetch (record { start = 36; count = 1 }) [] }
           ∷ record { serial = 4; step = Submit 0 1 Fetch (record { start = 108; count = 4 }) [] }
+          ∷ record { serial = 5; step = Attach 1 0 4 }
           ∷ [];
     } };
 
@@ -82,7 +84,7 @@ impl Keeps for Waiting {
             Call::Do(_) => Answer::NotYet(Cause::Held),
             Call::Hold => Answer::Refused(Code::AlreadyHeld),
             Call::Undo { k: 0 } | Call::Redo { k: 0 } => Answer::Refused(Code::ZeroCount),
-            Call::Undo { k } if *k > 4 => Answer::Refused(Code::NothingToUndo),
+            Call::Undo { k } if *k > 5 => Answer::Refused(Code::NothingToUndo),
             Call::Redo { .. } => Answer::Refused(Code::NothingToRedo),
             Call::Undo { .. } | Call::Release => Answer::Refused(Code::HistoryFull),
         }
@@ -101,37 +103,35 @@ impl Keeps for Waiting {
     }
 
     fn request(&self, seat: u8, place: usize) -> RequestView {
-        if seat != 0 {
-            return RequestView::Free;
-        }
-        match place {
-            0 => RequestView::Queued {
+        match (seat, place) {
+            (0, 0) => RequestView::Queued {
                 range: Range {
                     start: 100,
                     count: 12,
                 },
                 bios: 2,
             },
-            1 => RequestView::Queued {
+            (0, 1) => RequestView::Queued {
                 range: Range {
                     start: 36,
                     count: 1,
                 },
                 bios: 1,
             },
-            _ => RequestView::Past,
+            (0 | 1, _) => RequestView::Past,
+            _ => RequestView::Free,
         }
     }
 
     fn cursor(&self) -> u32 {
-        4
+        5
     }
 
     fn length(&self) -> u32 {
-        4
+        5
     }
 
     fn last_serial(&self) -> u64 {
-        4
+        5
     }
 }

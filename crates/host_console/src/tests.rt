@@ -201,11 +201,11 @@ fn each_line_prints_one(rt: HostRuntime) {
 fn queued_requests_are_told(rt: HostRuntime) {
     let mut teller = Teller { keeper: Waiting };
     let mut written = Vec::new(rt.alloc());
-    let mut script = b"queue 0\nqueue 1\nqueue 16\n".as_slice();
+    let mut script = b"queue 0\nqueue 1\nqueue 2\nqueue 16\n".as_slice();
     let end = run_keeper(rt.alloc(), &mut script, &mut written, &mut teller);
     assert_eq!(rt; end, ScriptEnd::Done);
     assert_eq!(rt;
         written.as_slice(),
-        b"queue 100+12x2 36+1x1\nqueue none\nqueue none\n".as_slice()
+        b"queue 100+12x2 36+1x1\nqueue\nqueue none\nqueue none\n".as_slice()
     );
 }
