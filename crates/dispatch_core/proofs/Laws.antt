@@ -13,7 +13,7 @@ use Rattle.process_queue.specs.Merge.{merge_place}
 use Rattle.change_record.specs.Machine.{WholeRequest, Plain, meaning, bios_at, put}
 use Rattle.plain_machine.specs.Step.{Limits, submitted, merge_in, queue_with, new_bio, unreaped, with_unreaped, completed, delivered, after_outcome}
 use Rattle.std.specs.Option.{option_map}
-use Rattle.dispatch_core.specs.WellFormed.{WellFormed}
+use Rattle.dispatch_core.specs.WellFormed.{WellFormed, IsSound}
 use Rattle.dispatch_core.specs.Changes.{attached_tables, submitted_tables, joined_tables, reaped_tables, sent_tables, finished_tables, with_bios}
 use Rattle.dispatch_core.proofs.Sides.{CanAttach, CanSubmit, CanJoin, CanReap, CanSend, CanFinish}
 use Rattle.dispatch_core.proofs.Bios.{attached-seated, attached-kept, submitted-seated, submitted-kept, submitted-seat, submitted-outbox, reaped-seated, reaped-kept, reaped-seat, reaped-outbox, sent-seated, sent-kept, finished-seated, finished-kept, finished-outbox}
@@ -51,6 +51,10 @@ WellFormed-later l n t w = record {
   first = let h = w.first in omega arith;
   served = w.served;
 }
+
+-- and the requests stay whole
+pub IsSound-later : (l : Limits) (n : ℕ) (t : Tables) → IsSound l n t → IsSound l (n + 1) t
+IsSound-later l n t h = (WellFormed-later l n t h.0, h.1)
 
 length-with_bios : (table : List (Option Bio)) (slots : List ℕ) (bios : List Bio) → length (with_bios table slots bios) ≡ length table
 length-with_bios table [] bios = refl

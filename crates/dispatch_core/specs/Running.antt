@@ -9,8 +9,7 @@ use Rattle.plain_machine.specs.declared.answer.Answer.{Answer}
 use Rattle.plain_machine.specs.declared.answer.Answer.TheVariants.{Accepted, Refused, NotYet}
 use Rattle.plain_machine.specs.declared.answer.Work.{Work}
 use Rattle.plain_machine.specs.Step.{of_sizes, range_of}
-use Rattle.plain_machine.specs.Whole.{AreWhole}
-use Rattle.dispatch_core.specs.WellFormed.{WellFormed}
+use Rattle.dispatch_core.specs.WellFormed.{IsSound}
 
 pub record Running : Type 0 where
   pub sizes : Sizes
@@ -21,9 +20,9 @@ pub record Running : Type 0 where
 abbrev pub plain_of : Running → Plain
 plain_of m = meaning m.tables
 
--- steps up to this serial may have made it: its tables hold together, and its requests are whole
+-- steps up to this serial may have made it
 abbrev pub IsFor : ℕ → Running → Type 0
-IsFor n m = WellFormed (of_sizes m.sizes) n m.tables × AreWhole (plain_of m)
+IsFor n m = IsSound (of_sizes m.sizes) n m.tables
 
 -- the most exchanges that a step may make (our profile)
 abbrev pub most_exchanges : ℕ

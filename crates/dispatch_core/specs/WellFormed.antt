@@ -9,8 +9,9 @@ use Rattle.tag_set.specs.declared.Issue.{Issue}
 use Rattle.process_queue.specs.declared.Link.{Link}
 use Rattle.change_record.specs.declared.change.Seat.{Seat}
 use Rattle.change_record.specs.Tables.{Tables}
-use Rattle.change_record.specs.Machine.{outbox_at}
+use Rattle.change_record.specs.Machine.{meaning, outbox_at}
 use Rattle.plain_machine.specs.Step.{Limits, payload_length}
+use Rattle.plain_machine.specs.Whole.{AreWhole}
 
 -- what a table has at a place
 abbrev pub at : {A : Type 0} → List (Option A) → ℕ → Option A
@@ -122,3 +123,7 @@ pub record WellFormed (l : Limits) (n : ℕ) (t : Tables) : Type 0 where
   pub placed : Placed n t
   pub first : 1 ≤ n
   pub served : t.served < 16
+
+-- tables that steps up to this serial may have made: they hold together, and the requests that they mean are whole
+abbrev pub IsSound : Limits → ℕ → Tables → Type 0
+IsSound l n t = WellFormed l n t × AreWhole (meaning t)

@@ -1,5 +1,5 @@
 -- How many exchanges some steps have.
-use Rattle.std.proofs.Common.{◌≡◌, ℕ, zero, suc, ◌+◌, ◌-◌, ◌<◌, ◌≤◌, List, [], ◌∷◌, take, drop, length, get_or, refl, sym, ap, ◌∙◌, arith}
+use Rattle.std.proofs.Common.{◌≡◌, ℕ, zero, suc, ◌+◌, List, [], ◌∷◌, take, get_or, refl, ap, ◌∙◌, arith}
 use Rattle.std.specs.List.{sum, fold}
 use Rattle.history.specs.Turns.{changes_of}
 

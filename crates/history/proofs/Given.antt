@@ -1,15 +1,14 @@
 -- The laws of Undo and Redo.
-use Rattle.std.proofs.Common.{true, false, Bool, ◌≡◌, ℕ, zero, suc, ◌+◌, ◌-◌, ◌<◌, ◌≤◌, ◌==◌, nat_lt, not, List, [], ◌∷◌, ◌++◌, take, length, refl, sym, ap, ◌∙◌, subst, arith, rules}
+use Rattle.std.proofs.Common.{true, false, Bool, ◌≡◌, ℕ, ◌+◌, ◌-◌, ◌<◌, ◌≤◌, ◌==◌, nat_lt, not, List, [], ◌∷◌, ◌++◌, take, length, refl, sym, ap, ◌∙◌, subst, arith, rules}
 use Rattle.plain_machine.specs.declared.call.Call.TheVariants.{Undo, Redo}
-use Rattle.plain_machine.specs.declared.answer.Answer.{Answer}
-use Rattle.plain_machine.specs.declared.answer.Answer.TheVariants.{Accepted, Refused, NotYet}
+use Rattle.plain_machine.specs.declared.answer.Answer.TheVariants.{Refused}
 use Rattle.plain_machine.specs.declared.answer.Reply.{Reply}
 use Rattle.plain_machine.specs.declared.answer.Reply.TheVariants.{Moved}
 use Rattle.plain_machine.specs.declared.answer.Code.{Code}
 use Rattle.plain_machine.specs.declared.answer.Code.TheVariants.{NotHeld, ZeroCount, NothingToUndo, NothingToRedo, HistoryFull}
 use Rattle.plain_machine.specs.declared.call.Call.{Call}
 use Rattle.plain_machine.specs.Step.{IsAccepted}
-use Rattle.plain_machine.specs.Keeper.{State, machine_of, has_room, entered, called, fold}
+use Rattle.plain_machine.specs.Keeper.{State, has_room, entered, called, fold}
 use Rattle.history.specs.Laws.{Agrees, TwoUndosAreOne, RedoGivesBack}
 use Rattle.history.proofs.Calls.{undo-done, redo-done}
 

@@ -1,22 +1,22 @@
 -- The line: what an undo, a redo and a new step do to its past and its future.
-use Rattle.std.proofs.Common.{true, ◌≡◌, ◌≢◌, ℕ, zero, suc, ◌+◌, ◌-◌, ◌<◌, ◌≤◌, List, [], ◌∷◌, ◌++◌, take, length, refl, sym, ap, ◌∙◌, subst, arith}
+use Rattle.std.proofs.Common.{true, ◌≡◌, ℕ, zero, suc, ◌+◌, ◌<◌, ◌≤◌, List, [], ◌∷◌, ◌++◌, take, length, refl, sym, ap, ◌∙◌, subst, arith}
 use Rattle.std.proofs.Math.Seq.{take-suc}
 use Rattle.change_record.specs.declared.change.Change.{Change}
 use Rattle.change_record.specs.Tables.{Tables}
-use Rattle.change_record.specs.Exchange.{back_tables, back_left, forth_tables, forth_left, FitBack, ArePuts}
+use Rattle.change_record.specs.Exchange.{back_tables, back_left, forth_tables, forth_left, ArePuts}
 use Rattle.change_record.specs.Machine.{Plain, meaning, opening}
 use Rattle.change_record.proofs.Exchanges.{back_tables-forth, back_left-forth, forth_tables-back, FitBack-forth}
 use Rattle.plain_machine.specs.declared.call.Stamped.{Stamped}
 use Rattle.plain_machine.specs.Step.{Limits, step}
 use Rattle.plain_machine.specs.Keeper.{fold_from, fold}
-use Rattle.dispatch_core.specs.WellFormed.{WellFormed}
-use Rattle.dispatch_core.proofs.Laws.{WellFormed-later}
+use Rattle.dispatch_core.specs.WellFormed.{IsSound}
+use Rattle.dispatch_core.proofs.Laws.{IsSound-later}
 use Rattle.history.specs.Line.{stamped_at, Stands, Waits, IsPast, IsFuture}
 
 -- what stands waits once it is undone
-pub undone : (l : Limits) (n : ℕ) (c : List Change) (s : Stamped) (t : Tables) → WellFormed l n t → Stands l n c s t → Waits l n (back_left c t) s (back_tables c t)
+pub undone : (l : Limits) (n : ℕ) (c : List Change) (s : Stamped) (t : Tables) → IsSound l n t → Stands l n c s t → Waits l n (back_left c t) s (back_tables c t)
 undone l n c s t w h =
-    let P : Tables → Type 0 = λ u. WellFormed l n u in
+    let P : Tables → Type 0 = λ u. IsSound l n u in
     record {
       puts = h.puts;
       well = subst P (sym (forth_tables-back c t)) w;
@@ -24,9 +24,9 @@ undone l n c s t w h =
     }
 
 -- what waits stands once it is redone
-pub redone : (l : Limits) (n : ℕ) (c : List Change) (s : Stamped) (t : Tables) → WellFormed l n t → Waits l n c s t → Stands l n (forth_left c t) s (forth_tables c t)
+pub redone : (l : Limits) (n : ℕ) (c : List Change) (s : Stamped) (t : Tables) → IsSound l n t → Waits l n c s t → Stands l n (forth_left c t) s (forth_tables c t)
 redone l n c s t w h =
-    let P : Tables → Type 0 = λ u. WellFormed l n u in
+    let P : Tables → Type 0 = λ u. IsSound l n u in
     let Q : List Change → Type 0 = λ d. ArePuts d in
     record {
       fits = FitBack-forth c t h.puts;
@@ -58,7 +58,7 @@ future-same l n f g s (suc more) k t e h =
 pub past-later : (l : Limits) (n : ℕ) (f : ℕ → List Change) (s : ℕ → Stamped) (k : ℕ) (t : Tables) → IsPast l n f s k t → IsPast l (n + 1) f s k t
 past-later l n f s zero t h = h
 past-later l n f s (suc k) t h = (
-  record { fits = h.0.fits; puts = h.0.puts; well = WellFormed-later l n _ h.0.well; made = h.0.made },
+  record { fits = h.0.fits; puts = h.0.puts; well = IsSound-later l n _ h.0.well; made = h.0.made },
   past-later l n f s k (back_tables (f k) t) h.1,
 )
 

@@ -1,5 +1,5 @@
 -- Without room in the history no step is accepted.
-use Rattle.std.proofs.Common.{◌≡◌, ℕ, List, [], ◌∷◌, ◌++◌, Option, Some, None, Bool, true, false, cond, refl, sym, ap, subst}
+use Rattle.std.proofs.Common.{ℕ, List, [], ◌∷◌, ◌++◌, Option, Some, None, Bool, true, false, cond}
 use Rattle.sector_core.specs.First.{first_of}
 use Rattle.sector_core.specs.declared.bio.Outcome.{Outcome}
 use Rattle.sector_core.specs.declared.bio.Bio.{Bio}
@@ -10,8 +10,8 @@ use Rattle.plain_machine.specs.declared.step.Step.TheVariants.{Attach, Submit, R
 use Rattle.plain_machine.specs.declared.answer.Code.TheVariants.{BadSeat, SeatTaken, NoGroup, BadPrio, BadCount, BadLength, OutOfRange, TooManyBios, NothingOwed, BadTag, NotInFlight, BadOutcome, HistoryFull}
 use Rattle.plain_machine.specs.declared.answer.Cause.TheVariants.{RequestsFull}
 use Rattle.plain_machine.specs.declared.answer.Answer.TheVariants.{Refused, NotYet}
-use Rattle.std.specs.Prelude.{◌+◌, ◌==◌, nat_le, nat_lt, not, ◌||◌, is_some, length}
-use Rattle.plain_machine.specs.Step.{Limits, Outcome_of, unless, accepted, seat_tests, payload_length, unreaped, queued, in_flight, fits, size_of, finished, submitted, attach, reaped, sent, dispatch_to, next_queue, lowest_free, finish_of, step, IsAccepted}
+use Rattle.std.specs.Prelude.{◌+◌, ◌==◌, nat_le, nat_lt, not, ◌||◌, ◌&&◌, is_some, length}
+use Rattle.plain_machine.specs.Step.{Limits, Outcome_of, unless, seat_tests, payload_length, unreaped, queued, in_flight, fits, size_of, finished, needs_request, reaped, sent, dispatch_to, next_queue, lowest_free, finish_of, step, IsAccepted}
 
 -- no test of the list accepts
 abbrev AllRefuse : List (Bool × Answer) → Type 0
@@ -59,7 +59,7 @@ no_room l m n (Submit seat session op range payload) h = refuses (seat_tests m s
     ∷ (not (length payload == payload_length op range.count), Refused BadLength)
     ∷ (nat_lt l.sectors (range.start + range.count), Refused OutOfRange)
     ∷ (nat_le 32 (unreaped m seat), Refused TooManyBios)
-    ∷ (nat_le l.requests (queued m + in_flight l m), NotYet RequestsFull)
+    ∷ (needs_request m seat session op range && nat_le l.requests (queued m + in_flight l m), NotYet RequestsFull)
     ∷ [])) m (m, Refused HistoryFull) ((λ h. h), ((λ h. h), ((λ h. h), ((λ h. h), ((λ h. h), ((λ h. h), ((λ h. h), ((λ h. h), tt)))))))) (λ h. h) h
 no_room l m n (Reap seat session) h = refuses (seat_tests m seat session ++ (
     (unreaped m seat == 0, Refused NothingOwed)

@@ -1,18 +1,18 @@
 -- An undo, a redo and a new step leave a line.
-use Rattle.std.proofs.Common.{true, ◌≡◌, ◌≢◌, ℕ, zero, suc, ◌+◌, ◌-◌, ◌<◌, ◌≤◌, List, [], ◌∷◌, ◌++◌, take, length, set, get_or, refl, sym, ap, ◌∙◌, subst, arith, length-set, length-append, inl, inr}
+use Rattle.std.proofs.Common.{true, ◌≡◌, ℕ, zero, suc, ◌+◌, ◌-◌, ◌<◌, ◌≤◌, List, [], ◌∷◌, ◌++◌, take, length, set, get_or, refl, sym, ap, ◌∙◌, subst, arith, length-set, length-append, inl, inr}
 use Rattle.std.proofs.Math.ListN.{get_or-append}
 use Rattle.std.proofs.lemmas.List.{get_or-set_same, get_or-set_other, get_or-take, get_or-append_right, length-take-le}
 use Rattle.change_record.specs.declared.change.Change.{Change}
 use Rattle.change_record.specs.Tables.{Tables}
-use Rattle.change_record.specs.Exchange.{back_tables, back_left, forth_tables, forth_left, FitBack, ArePuts}
+use Rattle.change_record.specs.Exchange.{back_tables, back_left, forth_tables, forth_left}
 use Rattle.change_record.specs.Trail.{IsTrail}
 use Rattle.change_record.specs.Tape.{step_at}
-use Rattle.change_record.specs.Machine.{Plain, meaning, opening}
+use Rattle.change_record.specs.Machine.{Plain, meaning}
 use Rattle.change_record.proofs.Exchanges.{back_tables-forth, forth_tables-back}
 use Rattle.plain_machine.specs.declared.sizes.Sizes.{Sizes}
 use Rattle.plain_machine.specs.declared.step.Step.{Step}
 use Rattle.plain_machine.specs.declared.call.Stamped.{Stamped}
-use Rattle.std.proofs.Common.{Bool, false, IsTrue}
+use Rattle.std.proofs.Common.{Bool, false}
 use Rattle.plain_machine.specs.declared.answer.Answer.{Answer}
 use Rattle.plain_machine.specs.declared.answer.Answer.TheVariants.{Accepted, Refused, NotYet}
 use Rattle.plain_machine.specs.declared.answer.Reply.{Reply}
@@ -20,8 +20,8 @@ use Rattle.plain_machine.specs.declared.answer.Code.TheVariants.{OutOfMemory}
 use Rattle.plain_machine.specs.Step.{Limits, of_sizes, step, IsAccepted, Applies}
 use Rattle.history.specs.Roll.{Line, plain_at, SameLine, AddsStep, LineAfter, MayStep}
 use Rattle.history.proofs.Room.{no_room}
-use Rattle.dispatch_core.specs.WellFormed.{WellFormed}
-use Rattle.dispatch_core.proofs.Laws.{WellFormed-later}
+use Rattle.dispatch_core.specs.WellFormed.{IsSound}
+use Rattle.dispatch_core.proofs.Laws.{IsSound-later}
 use Rattle.history.specs.Line.{stamped_at, Stands, Waits, IsPast, IsFuture, IsLine}
 use Rattle.history.proofs.Lines.{undone, redone, past-same, future-same, past-later}
 
@@ -118,7 +118,7 @@ length-cut : {A : Type 0} (xs : List A) (k : ℕ) (x : A) → k ≤ length xs �
 length-cut xs k x le = length-append (take k xs) (x ∷ []) ∙ omega (arith, length-take-le k xs le)
 
 pub step-line : (line : List Stamped) (k last : ℕ) (z : Sizes) (t u : Tables) (steps : List (List Change)) (current changes : List Change) (s : Step)
-    → IsLine line k last z t steps current → IsTrail changes u t → WellFormed (of_sizes z) (last + 1 + 1) u
+    → IsLine line k last z t steps current → IsTrail changes u t → IsSound (of_sizes z) (last + 1 + 1) u
     → meaning u ≡ (step (of_sizes z) (meaning t) (last + 1) true s).0
     → IsLine (take k line ++ record { serial = last + 1; step = s } ∷ []) (suc k) (last + 1) z u (take k steps ++ changes ∷ []) current
 step-line line k last z t u steps current changes s h trail w made =
@@ -129,11 +129,11 @@ step-line line k last z t u steps current changes s h trail w made =
     let within : k ≤ length line = h.within in
     let even : length steps ≡ length line = h.even in
     let cut : k ≤ length steps = omega (arith, within, even) in
-    let W : Tables → Type 0 = λ v. WellFormed l (last + 1 + 1) v in
+    let W : Tables → Type 0 = λ v. IsSound l (last + 1 + 1) v in
     let stands : Stands l (last + 1 + 1) changes x u = record {
       fits = trail.fits;
       puts = trail.puts;
-      well = subst W (sym trail.back) (WellFormed-later l (last + 1) t h.well);
+      well = subst W (sym trail.back) (IsSound-later l (last + 1) t h.well);
       made = made ∙ ap (λ v. (step l (meaning v) (last + 1) true s).0) (sym trail.back);
     } in
     let G : Tables → Type 0 = λ v. IsPast l (last + 1 + 1) (step_at now) (stamped_at next) k v in

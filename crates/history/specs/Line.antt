@@ -9,7 +9,7 @@ use Rattle.plain_machine.specs.declared.sizes.Sizes.{Sizes}
 use Rattle.plain_machine.specs.declared.step.Step.TheVariants.{Dispatch}
 use Rattle.plain_machine.specs.declared.call.Stamped.{Stamped}
 use Rattle.plain_machine.specs.Step.{Limits, of_sizes, step}
-use Rattle.dispatch_core.specs.WellFormed.{WellFormed}
+use Rattle.dispatch_core.specs.WellFormed.{IsSound}
 
 -- the step at a number
 abbrev pub stamped_at : List Stamped → ℕ → Stamped
@@ -19,13 +19,13 @@ stamped_at line at = slice_index_or line at (record { serial = 0; step = Dispatc
 pub record Stands (l : Limits) (n : ℕ) (changes : List Change) (s : Stamped) (t : Tables) : Type 0 where
   pub fits : FitBack changes t
   pub puts : ArePuts (back_left changes t)
-  pub well : WellFormed l n (back_tables changes t)
+  pub well : IsSound l n (back_tables changes t)
   pub made : meaning t ≡ (step l (meaning (back_tables changes t)) s.serial true s.step).0
 
 -- a step that was undone would make the tables to which its list leads
 pub record Waits (l : Limits) (n : ℕ) (changes : List Change) (s : Stamped) (t : Tables) : Type 0 where
   pub puts : ArePuts changes
-  pub well : WellFormed l n (forth_tables changes t)
+  pub well : IsSound l n (forth_tables changes t)
   pub made : meaning (forth_tables changes t) ≡ (step l (meaning t) s.serial true s.step).0
 
 -- the steps before a number stand, and lead back to a machine before its first step
@@ -43,6 +43,6 @@ pub record IsLine (line : List Stamped) (cursor last : ℕ) (sizes : Sizes) (t :
   pub within : cursor ≤ length line
   pub even : length steps ≡ length line
   pub idle : current ≡ []
-  pub well : WellFormed (of_sizes sizes) (last + 1) t
+  pub well : IsSound (of_sizes sizes) (last + 1) t
   pub past : IsPast (of_sizes sizes) (last + 1) (step_at steps) (stamped_at line) cursor t
   pub future : IsFuture (of_sizes sizes) (last + 1) (step_at steps) (stamped_at line) (length line - cursor) cursor t

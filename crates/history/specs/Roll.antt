@@ -1,5 +1,5 @@
 -- The line of steps and the machine of those before the cursor, as a keeper sees them.
-use Rattle.std.specs.Prelude.{◌≡◌, ℕ, ◌+◌, ◌-◌, Bool, List, [], ◌∷◌, ◌++◌, take, IsTrue, ◌⊎◌}
+use Rattle.std.specs.Prelude.{◌≡◌, ℕ, ◌+◌, Bool, List, [], ◌∷◌, ◌++◌, take, ◌⊎◌}
 use Rattle.change_record.specs.Machine.{Plain}
 use Rattle.plain_machine.specs.declared.sizes.Sizes.{Sizes}
 use Rattle.plain_machine.specs.declared.step.Step.{Step}
@@ -7,7 +7,7 @@ use Rattle.plain_machine.specs.declared.call.Stamped.{Stamped}
 use Rattle.plain_machine.specs.declared.answer.Answer.{Answer}
 use Rattle.plain_machine.specs.declared.answer.Answer.TheVariants.{Accepted, Refused, NotYet}
 use Rattle.plain_machine.specs.declared.answer.Code.TheVariants.{OutOfMemory}
-use Rattle.plain_machine.specs.Step.{Limits, of_sizes, step, IsAccepted}
+use Rattle.plain_machine.specs.Step.{of_sizes, step, IsAccepted}
 use Rattle.plain_machine.specs.Keeper.{fold}
 use Rattle.dispatch_core.specs.Counts.{exchanges_of}
 

@@ -1,4 +1,4 @@
-use Rattle.std.proofs.Common.{◌≡◌, ℕ, suc, ◌+◌, ◌-◌, ◌%◌, List, get_or, refl, sym, ap, ◌∙◌, arith}
+use Rattle.std.proofs.Common.{◌≡◌, ℕ, suc, ◌+◌, ◌-◌, get_or, ap, ◌∙◌, arith}
 use Rattle.history.specs.Turns.{changes_of}
 use Rattle.history.proofs.Counts.{changes-more}
 use Rattle.history.proofs.moves.undo_steps.Goals as goal

@@ -1,4 +1,4 @@
-use Rattle.std.proofs.Common.{◌≡◌, ◌+◌, ◌-◌, ◌≤◌}
+use Rattle.std.proofs.Common.{◌≡◌, ◌-◌}
 use Rattle.history.specs.Turns.{changes_of, MakesTurns}
 use Rattle.history.proofs.moves.undo_steps.Given as goal
 

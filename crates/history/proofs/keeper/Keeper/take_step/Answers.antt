@@ -1,7 +1,6 @@
-use Rattle.std.proofs.Common.{true, false, Bool, ◌≡◌, ℕ, zero, suc, ◌+◌, ◌-◌, ◌<◌, ◌≤◌, ◌==◌, nat_lt, List, [], ◌∷◌, ◌++◌, length, take, refl, sym, ap, ◌∙◌, subst, arith, rules}
-use Rattle.plain_machine.specs.declared.call.Call.TheVariants.{Do, Hold, Release, Undo, Redo}
+use Rattle.std.proofs.Common.{true, ◌≡◌, ◌+◌, ◌≤◌, nat_lt, [], ◌∷◌, ◌++◌, length, take, sym, ap, ◌∙◌, subst, arith}
+use Rattle.plain_machine.specs.declared.call.Call.TheVariants.{Do}
 use Rattle.plain_machine.specs.declared.answer.Answer.TheVariants.{Accepted, Refused, NotYet}
-use Rattle.plain_machine.specs.declared.answer.Reply.TheVariants.{Moved, Done}
 use Rattle.plain_machine.specs.Keeper.{State, MayCall}
 use Rattle.history.specs.Keeping.{state_of}
 use Rattle.history.proofs.Calls.{keeper-same, keeper-more, may-refuse, may-wait, same-refused, same-notyet, adds-accepted, did-it, room-needed}

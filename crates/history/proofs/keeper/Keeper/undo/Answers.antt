@@ -1,8 +1,8 @@
-use Rattle.std.proofs.Common.{true, false, Bool, ◌≡◌, ℕ, zero, suc, ◌+◌, ◌-◌, ◌<◌, ◌≤◌, ◌==◌, nat_lt, List, [], ◌∷◌, ◌++◌, length, take, refl, sym, ap, ◌∙◌, subst, arith, rules}
-use Rattle.plain_machine.specs.declared.call.Call.TheVariants.{Do, Hold, Release, Undo, Redo}
-use Rattle.plain_machine.specs.declared.answer.Answer.TheVariants.{Accepted, Refused, NotYet}
-use Rattle.plain_machine.specs.declared.answer.Reply.TheVariants.{Moved, Done}
-use Rattle.plain_machine.specs.Keeper.{State, MayCall}
+use Rattle.std.proofs.Common.{true, false, ◌≡◌, ℕ, ◌-◌, ◌==◌, nat_lt, [], ◌∷◌, ◌++◌, length, sym, ap, ◌∙◌, arith, rules}
+use Rattle.plain_machine.specs.declared.call.Call.TheVariants.{Undo}
+use Rattle.plain_machine.specs.declared.answer.Answer.TheVariants.{Accepted}
+use Rattle.plain_machine.specs.declared.answer.Reply.TheVariants.{Moved}
+use Rattle.plain_machine.specs.Keeper.{State}
 use Rattle.history.specs.Keeping.{state_of}
 use Rattle.plain_machine.specs.Step.{of_sizes}
 use Rattle.history.proofs.Calls.{keeper-more, undo-done}

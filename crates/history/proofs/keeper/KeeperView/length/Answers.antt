@@ -1,9 +1,4 @@
-use Rattle.std.proofs.Common.{true, false, Bool, ◌≡◌, ℕ, zero, suc, ◌+◌, ◌-◌, ◌<◌, ◌≤◌, ◌==◌, nat_lt, List, [], ◌∷◌, ◌++◌, length, take, refl, sym, ap, ◌∙◌, subst, arith, rules}
-use Rattle.plain_machine.specs.declared.call.Call.TheVariants.{Do, Hold, Release, Undo, Redo}
-use Rattle.plain_machine.specs.declared.answer.Answer.TheVariants.{Accepted, Refused, NotYet}
-use Rattle.plain_machine.specs.declared.answer.Reply.TheVariants.{Moved, Done}
-use Rattle.plain_machine.specs.Keeper.{State, MayCall}
-use Rattle.history.specs.Keeping.{state_of}
+use Rattle.std.proofs.Common.{rules}
 use Rattle.history.proofs.keeper.KeeperView.length.Goals as goal
 
 pub overflow_cast-result : goal.overflow_cast-result

@@ -1,4 +1,4 @@
-use Rattle.std.proofs.Common.{◌≡◌, ◌∙◌, ap}
+use Rattle.std.proofs.Common.{◌∙◌, ap}
 use Rattle.history.specs.Roll.{plain_at}
 use Rattle.history.proofs.Lines.{past-fold}
 use Rattle.history.proofs.roll.Roll.machine.Goals as goal

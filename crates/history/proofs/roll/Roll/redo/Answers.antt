@@ -1,4 +1,4 @@
-use Rattle.std.proofs.Common.{◌≡◌, ℕ, zero, suc, ◌+◌, ◌-◌, ◌<◌, ◌≤◌, List, [], ◌∷◌, ◌++◌, length, take, set, refl, sym, ap, ◌∙◌, subst, arith}
+use Rattle.std.proofs.Common.{ℕ, suc, ◌<◌, [], length, sym, ap, ◌∙◌, subst, arith}
 use Rattle.std.proofs.Common.{map}
 use Rattle.std.proofs.Math.Seq.{map-set_same}
 use Rattle.change_record.specs.Tape.{step_at}

@@ -1,21 +1,20 @@
-use Rattle.std.proofs.Common.{◌≡◌, ℕ, zero, suc, ◌+◌, ◌-◌, ◌<◌, ◌≤◌, List, [], ◌∷◌, ◌++◌, length, take, set, refl, sym, ap, ◌∙◌, subst, arith, Bool}
-use Rattle.change_record.specs.Machine.{Plain}
+use Rattle.std.proofs.Common.{◌≡◌, ℕ, suc, ◌+◌, ◌-◌, ◌≤◌, List, [], ◌∷◌, ◌++◌, length, take, refl, sym, ap, ◌∙◌, subst, arith}
 use Rattle.plain_machine.specs.declared.answer.Answer.TheVariants.{Accepted, Refused, NotYet}
 use Rattle.plain_machine.specs.declared.answer.Code.TheVariants.{OutOfMemory}
 use Rattle.std.proofs.Common.{true, map}
 use Rattle.change_record.specs.Tape.{step_at}
 use Rattle.plain_machine.specs.declared.sizes.Sizes.{Sizes}
 use Rattle.plain_machine.specs.declared.call.Stamped.{Stamped}
-use Rattle.dispatch_core.specs.WellFormed.{WellFormed}
+use Rattle.dispatch_core.specs.WellFormed.{IsSound}
 use Rattle.plain_machine.specs.Step.{of_sizes, step as plain_step}
 use Rattle.std.specs.List.{take-map}
 use Rattle.std.proofs.lemmas.List.{map-append}
 use Rattle.dispatch_core.specs.Counts.{exchanges_of}
 use Rattle.dispatch_core.specs.Running.{plain_of}
 use Rattle.history.specs.Line.{IsLine}
-use Rattle.history.specs.Roll.{Line, plain_at, SameLine, AddsStep, MayStep}
+use Rattle.history.specs.Roll.{Line, plain_at, MayStep}
 use Rattle.history.proofs.Lines.{past-fold}
-use Rattle.history.proofs.Ways.{same-line, step-line, made, may-other, may-accept, may-want, kept-last, dropped-last}
+use Rattle.history.proofs.Ways.{same-line, step-line, made, may-other, may-accept, may-want, kept-last}
 use Rattle.history.proofs.roll.Roll.step.Goals as goal
 
 pub returns-in-Refused-clause-may : goal.returns-in-Refused-clause-may
@@ -54,12 +53,12 @@ invariant_of-self-in-Some c =
     c.keep_last.ensures.steps
     ∙ ap (λ l. take k l ++ step_at l (length l - 1) ∷ []) r.1
     ∙ kept-last i.tape.steps r.0 k cut in
-    let W : Sizes → Type 0 = λ z. WellFormed (of_sizes z) (i.last + 1 + 1) c.apply.new.self.tables in
+    let W : Sizes → Type 0 = λ z. IsSound (of_sizes z) (i.last + 1 + 1) c.apply.new.self.tables in
     let P : ℕ → Type 0 = λ n. IsLine c.cut_and_push.new.line.items n (i.last + 1) c.apply.new.self.sizes c.apply.new.self.tables c.keep_last.new.self.steps c.keep_last.new.self.current in
     let Q : List Stamped → Type 0 = λ l. IsLine l (suc k) (i.last + 1) c.apply.new.self.sizes c.apply.new.self.tables c.keep_last.new.self.steps c.keep_last.new.self.current in
     subst P (omega arith) (subst Q (sym lines) (same-line _ (suc k) (i.last + 1) _ _ _ _ _ _ _ _ c.apply.ensures.sizes refl tapes (c.keep_last.ensures.current ∙ sym c.self.invariant.idle)
     (step-line i.line.items k i.last i.machine.sizes i.machine.tables c.apply.new.self.tables i.tape.steps i.tape.current r.0 c.args.step.now
-    c.self.invariant r.3 (subst W c.apply.ensures.sizes c.apply.ensures.well) made_it)))
+    c.self.invariant r.4 (subst W c.apply.ensures.sizes c.apply.ensures.well) made_it)))
 
 pub returns-in-Some-clause-may : goal.returns-in-Some-clause-may
 returns-in-Some-clause-may c =
