@@ -1,5 +1,5 @@
 -- A flat list cut into pieces.
-use Rattle.std.proofs.Common.{◌≡◌, ℕ, zero, suc, slice_range, ◌+◌, ◌-◌, ◌<◌, ◌≤◌, List, [], ◌∷◌, ◌++◌, length, get_or, set, take, drop, refl, sym, ap, ◌∙◌, subst, arith, rules, length-append, length-drop, append_assoc, length-take-le}
+use Rattle.std.proofs.Common.{◌≡◌, ℕ, zero, suc, slice_range, ◌+◌, ◌-◌, ◌<◌, ◌≤◌, List, [], ◌∷◌, ◌++◌, length, get_or, set, take, drop, refl, sym, ap, ◌∙◌, subst, arith, rules, length-append, length-drop, length-take-le}
 use Rattle.std.proofs.lemmas.List.{take_all, take-append-le, drop-drop, take-append-drop}
 use Rattle.std.proofs.Math.ListN.{drop_of_length-le}
 use Rattle.change_record.specs.Tape.{pieces, rest_of, begin_of, AreEnds, spliced}

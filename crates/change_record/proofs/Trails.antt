@@ -1,8 +1,8 @@
 -- One more exchange keeps the trail.
-use Rattle.std.proofs.Common.{◌≡◌, List, [], ◌∷◌, ◌++◌, refl, sym, ap, ◌∙◌, subst}
+use Rattle.std.proofs.Common.{◌≡◌, List, [], ◌∷◌, ◌++◌, sym, ap, ◌∙◌, subst}
 use Rattle.change_record.specs.declared.change.Change.{Change}
 use Rattle.change_record.specs.Tables.{Tables}
-use Rattle.change_record.specs.Exchange.{after, left_by, FitsIn, IsPut, ArePuts, FitBack, back_tables, back_left}
+use Rattle.change_record.specs.Exchange.{after, left_by, IsPut, ArePuts, FitBack, back_tables, back_left}
 use Rattle.change_record.specs.Trail.{IsTrail, KeepsTrail}
 use Rattle.change_record.proofs.Exchanges.{after-after, left_by-after, back_tables-append, back_left-append, FitBack-append, ArePuts-append, FitsIn-left_by}
 

@@ -1,10 +1,10 @@
 -- One exchange of a list that is turned back or forth, at its place in the list.
-use Rattle.std.proofs.Common.{◌≡◌, ℕ, zero, suc, ◌+◌, ◌-◌, ◌<◌, ◌≤◌, ◌%◌, ◌^◌, List, [], ◌∷◌, ◌++◌, length, get_or, set, take, drop, refl, sym, ap, ◌∙◌, subst, arith, rules, append_assoc}
+use Rattle.std.proofs.Common.{◌≡◌, ℕ, zero, suc, ◌+◌, ◌-◌, ◌<◌, ◌≤◌, ◌%◌, ◌^◌, List, [], ◌∷◌, ◌++◌, length, get_or, set, take, drop, refl, sym, ap, ◌∙◌, subst, arith, append_assoc}
 use Rattle.std.proofs.lemmas.List.{take_more, take-set, drop-set, set-get_or, length-take-le, take-append-drop}
 use Rattle.std.proofs.Math.Seq.{drop-cons}
 use Rattle.change_record.specs.declared.change.Change.{Change}
 use Rattle.change_record.specs.Tables.{Tables}
-use Rattle.change_record.specs.Exchange.{after, left_by, FitsIn, IsPut, ArePuts, FitBack, FitForth, forth_tables, forth_left, back_tables, back_left}
+use Rattle.change_record.specs.Exchange.{after, left_by, FitsIn, ArePuts, FitBack, FitForth, forth_tables, forth_left, back_tables, back_left}
 use Rattle.change_record.proofs.Exchanges.{back_tables-append, back_left-append, FitBack-first, FitBack-last, FitBack-forth, forth_tables-append, forth_left-append, back_tables-forth, back_left-forth, length-forth_left}
 
 pub take_at : (cs : List Change) (i : ℕ) (x : Change) → 0 < i → i ≤ length cs → take i cs ≡ take (i - 1) cs ++ get_or cs (i - 1) x ∷ []

@@ -1,5 +1,5 @@
 -- The plain machine: lists, maps and a few numbers. What a reader has to believe is said on it alone.
-use Rattle.std.specs.Prelude.{ℕ, ◌==◌, List, [], Option, None, Some, if◌then◌else◌, slice_index_or}
+use Rattle.std.specs.Prelude.{ℕ, ◌==◌, List, [], Option, None, if◌then◌else◌, slice_index_or}
 use Rattle.std.specs.List.{filter_map}
 use Rattle.std.specs.Option.{option_map, option_and_then}
 use Rattle.std.specs.FinMap as map
@@ -10,6 +10,7 @@ use Rattle.request_pool.specs.declared.Request.{Request}
 use Rattle.change_record.specs.declared.change.Seat.{Seat}
 use Rattle.overlay.specs.Blocks.{Blocks}
 use Rattle.process_queue.specs.Queue.{queue_slots}
+use Rattle.process_queue.specs.Merge.{bios_at}
 use Rattle.change_record.specs.Tables.{Tables}
 
 -- blk-mq: a request is what is sent to the device as one; its bios are in the order of their sectors
@@ -53,10 +54,6 @@ abbrev pub put : {A : Type 0} → (ℕ → A) → ℕ → A → ℕ → A
 put f k v n = if n == k then v else f n
 
 -- What the tables mean.
-
--- the bios in some slots
-abbrev pub bios_at : List (Option Bio) → List ℕ → List Bio
-bios_at bios slots = filter_map (λ slot. slice_index_or bios slot None) slots
 
 -- the request in a slot, with its bios
 abbrev pub whole_at : List (Option Request) → List (Option Bio) → ℕ → Option WholeRequest

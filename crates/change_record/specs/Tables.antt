@@ -1,7 +1,6 @@
 -- What stands at each place: lists and one finite map, with no rule that joins them (our profile).
-use Rattle.std.specs.Prelude.{ℕ, List, [], Option, None, replicate, refl}
+use Rattle.std.specs.Prelude.{ℕ, List, [], Option, None, replicate}
 use Rattle.std.specs.FinMap as map
-use Rattle.std.specs.Coded.{Coded, code_by, coded×, coded_ℕ}
 use Rattle.arrayvec.specs.ArrayVec.{ArrayVec}
 use Rattle.sector_core.specs.declared.bio.Bio.{Bio}
 use Rattle.request_pool.specs.declared.Request.{Request}

@@ -1,5 +1,5 @@
 -- The tape: the changes of each step, one list after the other (our profile).
-use Rattle.std.specs.Prelude.{ℕ, zero, suc, ◌-◌, ◌≤◌, List, [], ◌∷◌, ◌++◌, length, take, drop, slice_index_or}
+use Rattle.std.specs.Prelude.{ℕ, zero, suc, ◌-◌, ◌≤◌, List, [], ◌∷◌, ◌++◌, take, drop, slice_index_or}
 use Rattle.change_record.specs.declared.change.Change.{Change}
 
 -- the lists of the steps, that of the step under way, room for so many more changes, and for the ends of so many more steps

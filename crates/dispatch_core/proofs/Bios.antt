@@ -11,7 +11,8 @@ use Rattle.request_pool.specs.Slots.{seat_slots}
 use Rattle.sector_core.specs.Table.{AllTaken}
 use Rattle.change_record.specs.declared.change.Seat.{Seat}
 use Rattle.change_record.specs.Tables.{Tables}
-use Rattle.change_record.specs.Machine.{meaning, bios_at, outbox_at, put}
+use Rattle.process_queue.specs.Merge.{bios_at}
+use Rattle.change_record.specs.Machine.{meaning, outbox_at, put}
 use Rattle.plain_machine.specs.Step.{Limits, with_unreaped, completed, delivered, unreaped}
 use Rattle.dispatch_core.specs.WellFormed.{at, taken, WellFormed, Seated, Kept, IsCompleted}
 use Rattle.dispatch_core.specs.Changes.{attached_tables, submitted_tables, reaped_tables, sent_tables, finished_tables}

@@ -11,7 +11,7 @@ use Rattle.sector_core.specs.declared.bio.Outcome.{Outcome}
 use Rattle.sector_core.specs.declared.bio.Outcome.TheVariants.{Fetched, Stored, Failed}
 use Rattle.overlay.specs.Blocks.{Blocks}
 use Rattle.change_record.specs.Tables.{Tables}
-use Rattle.change_record.specs.Machine.{bios_at}
+use Rattle.process_queue.specs.Merge.{bios_at}
 use Rattle.plain_machine.specs.Step.{after_outcome, completed, result_of, rest_of_outcome}
 use Rattle.dispatch_core.specs.WellFormed.{at, one}
 use Rattle.dispatch_core.specs.Changes.{with_bios}

@@ -9,7 +9,8 @@ use Rattle.sector_core.specs.declared.bio.Outcome.{Outcome}
 use Rattle.request_pool.specs.declared.Request.{Request}
 use Rattle.change_record.specs.declared.change.Seat.{Seat}
 use Rattle.change_record.specs.Tables.{Tables}
-use Rattle.change_record.specs.Machine.{meaning, bios_at, outbox_at}
+use Rattle.process_queue.specs.Merge.{bios_at}
+use Rattle.change_record.specs.Machine.{meaning, outbox_at}
 use Rattle.plain_machine.specs.Step.{Limits, completed, delivered, is_session}
 use Rattle.dispatch_core.specs.WellFormed.{at, one, times, named, WellFormed, Seated, Kept, IsSlotOf, IsBio, IsWaiting, IsCompleted, IsOwned}
 use Rattle.dispatch_core.specs.Changes.{finished_tables}

@@ -12,10 +12,10 @@ use Rattle.sector_core.specs.declared.bio.Bio.{Bio}
 use Rattle.request_pool.specs.declared.Request.{Request}
 use Rattle.process_queue.specs.declared.Link.{Link}
 use Rattle.process_queue.specs.Queue.{queue_slots}
-use Rattle.process_queue.specs.Merge.{shape_at, joins_at}
+use Rattle.process_queue.specs.Merge.{bios_at, shape_at, joins_at}
 use Rattle.change_record.specs.declared.change.Seat.{Seat}
 use Rattle.change_record.specs.Tables.{Tables}
-use Rattle.change_record.specs.Machine.{WholeRequest, meaning, bios_at, whole_at, put}
+use Rattle.change_record.specs.Machine.{WholeRequest, meaning, whole_at, put}
 use Rattle.plain_machine.specs.Step.{Limits, new_bio, with_bio, change_first, shape}
 use Rattle.dispatch_core.specs.WellFormed.{at, one, times, WellFormed, Placed, IsQueued}
 use Rattle.dispatch_core.specs.Changes.{joined_slots, joined_request, joined_tables}

@@ -9,8 +9,8 @@ use Rattle.change_record.specs.declared.change.Seat.{Seat}
 use Rattle.change_record.specs.Tables.{Tables}
 use Rattle.process_queue.specs.declared.merge.Place.{Place}
 use Rattle.process_queue.specs.Queue.{queue_slots}
-use Rattle.process_queue.specs.Merge.{merge_place}
-use Rattle.change_record.specs.Machine.{WholeRequest, Plain, meaning, bios_at, put}
+use Rattle.process_queue.specs.Merge.{bios_at, merge_place}
+use Rattle.change_record.specs.Machine.{WholeRequest, Plain, meaning, put}
 use Rattle.plain_machine.specs.Step.{Limits, submitted, merge_in, queue_with, new_bio, unreaped, with_unreaped, completed, delivered, after_outcome}
 use Rattle.std.specs.Option.{option_map}
 use Rattle.dispatch_core.specs.WellFormed.{WellFormed, IsSound}

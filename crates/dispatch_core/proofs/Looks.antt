@@ -6,7 +6,8 @@ use Rattle.std.specs.Option.{option_map}
 use Rattle.sector_core.specs.declared.range.Range.{Range}
 use Rattle.request_pool.specs.declared.Request.{Request}
 use Rattle.tag_set.specs.declared.Issue.{Issue}
-use Rattle.change_record.specs.Machine.{meaning, bios_at, outbox_at}
+use Rattle.process_queue.specs.Merge.{bios_at}
+use Rattle.change_record.specs.Machine.{meaning, outbox_at}
 use Rattle.plain_machine.specs.declared.answer.Work.{Work}
 use Rattle.plain_machine.specs.Step.{Limits, range_of}
 use Rattle.dispatch_core.specs.Ranges.{first_start, total_count}

@@ -11,9 +11,9 @@ use Rattle.process_queue.specs.declared.Link.{Link}
 use Rattle.process_queue.specs.declared.merge.Shape.{Shape}
 use Rattle.process_queue.specs.declared.merge.Place.{Place}
 use Rattle.process_queue.specs.Queue.{queue_slots}
-use Rattle.process_queue.specs.Merge.{shape_of, shape_at, same_op, has_room, may_join, joins, joins_at, merge_place}
+use Rattle.process_queue.specs.Merge.{bios_at, shape_of, shape_at, same_op, has_room, may_join, joins, joins_at, merge_place}
 use Rattle.change_record.specs.Tables.{Tables}
-use Rattle.change_record.specs.Machine.{WholeRequest, meaning, bios_at, whole_at}
+use Rattle.change_record.specs.Machine.{WholeRequest, meaning, whole_at}
 use Rattle.plain_machine.specs.Step.{shape, merge_in}
 use Rattle.dispatch_core.specs.WellFormed.{at}
 use Rattle.dispatch_core.proofs.QueueFacts.{whole_with}

@@ -18,7 +18,8 @@ use Rattle.process_queue.specs.declared.Link.{Link}
 use Rattle.process_queue.specs.Queue.{placed}
 use Rattle.change_record.specs.declared.change.Seat.{Seat}
 use Rattle.change_record.specs.Tables.{empty_tables}
-use Rattle.change_record.specs.Machine.{opening, meaning, outbox_at, bios_at, whole_at}
+use Rattle.process_queue.specs.Merge.{bios_at}
+use Rattle.change_record.specs.Machine.{opening, meaning, outbox_at, whole_at}
 use Rattle.dispatch_core.specs.WellFormed.{at, one, taken, times, named, bears, IsCompleted, WellFormed}
 
 at-replicate : {A : Type 0} (n k : ℕ) → at (replicate {A = Option A} n None) k ≡ None

@@ -7,7 +7,8 @@ use Rattle.request_pool.specs.declared.Request.{Request}
 use Rattle.process_queue.specs.declared.Link.{Link}
 use Rattle.process_queue.specs.Queue.{insert_in, nth_in, nth_slot, placed}
 use Rattle.change_record.specs.Tables.{Tables}
-use Rattle.change_record.specs.Machine.{WholeRequest, meaning, bios_at, whole_at}
+use Rattle.process_queue.specs.Merge.{bios_at}
+use Rattle.change_record.specs.Machine.{WholeRequest, meaning, whole_at}
 use Rattle.change_record.specs.declared.change.Seat.{Seat}
 use Rattle.plain_machine.specs.declared.sizes.Sizes.{Sizes}
 use Rattle.plain_machine.specs.Step.{Limits, of_sizes, range_of}

@@ -14,7 +14,8 @@ use Rattle.process_queue.specs.declared.Link.{Link}
 use Rattle.process_queue.specs.Queue.{placed, queue_slots}
 use Rattle.soft_queue.specs.Turn.{numbers}
 use Rattle.change_record.specs.Tables.{Tables}
-use Rattle.change_record.specs.Machine.{WholeRequest, Flight, meaning, bios_at, whole_at, outbox_at, put}
+use Rattle.process_queue.specs.Merge.{bios_at}
+use Rattle.change_record.specs.Machine.{WholeRequest, Flight, meaning, whole_at, outbox_at, put}
 use Rattle.plain_machine.specs.Step.{Limits, queued, in_flight}
 use Rattle.dispatch_core.specs.WellFormed.{at, one, taken, times, bears, Kept, Placed}
 use Rattle.dispatch_core.specs.Changes.{with_bios}

@@ -20,7 +20,8 @@ use Rattle.process_queue.specs.Queue.{queue_slots, first_in, first_slot, is_empt
 use Rattle.soft_queue.specs.Turn.{numbers, seats, is_waiting, next_seat}
 use Rattle.change_record.specs.declared.change.Seat.{Seat}
 use Rattle.change_record.specs.Tables.{Tables}
-use Rattle.change_record.specs.Machine.{WholeRequest, Flight, meaning, bios_at, whole_at, put}
+use Rattle.process_queue.specs.Merge.{bios_at}
+use Rattle.change_record.specs.Machine.{WholeRequest, Flight, meaning, whole_at, put}
 use Rattle.plain_machine.specs.Step.{Limits, queued, in_flight, next_queue, lowest_free, with_unreaped}
 use Rattle.dispatch_core.specs.WellFormed.{at, one, taken, bears, WellFormed, Placed, IsQueued}
 use Rattle.dispatch_core.specs.Changes.{attached_tables, submitted_tables, reaped_tables, sent_tables, finished_tables}

@@ -4,7 +4,7 @@ use Rattle.std.proofs.lemmas.List.Sums.{sum_by-cons}
 use Rattle.sector_core.specs.declared.bio.Bio.{Bio}
 use Rattle.request_pool.specs.declared.Request.{Request}
 use Rattle.change_record.specs.Tables.{Tables}
-use Rattle.change_record.specs.Machine.{bios_at}
+use Rattle.process_queue.specs.Merge.{bios_at}
 use Rattle.plain_machine.specs.Step.{Limits, size_of, range_of}
 use Rattle.dispatch_core.specs.WellFormed.{at, one, WellFormed}
 use Rattle.dispatch_core.specs.Ranges.{count_at, first_start, total_count, HasFewSectors, count_of_bio, start_of_bio}

@@ -12,7 +12,8 @@ use Rattle.sector_core.specs.declared.bio.Bio.{Bio}
 use Rattle.request_pool.specs.declared.Request.{Request}
 use Rattle.change_record.specs.declared.change.Seat.{Seat}
 use Rattle.change_record.specs.Tables.{Tables}
-use Rattle.change_record.specs.Machine.{meaning, bios_at, outbox_at, put}
+use Rattle.process_queue.specs.Merge.{bios_at}
+use Rattle.change_record.specs.Machine.{meaning, outbox_at, put}
 use Rattle.plain_machine.specs.Step.{Limits, with_unreaped, unreaped}
 use Rattle.dispatch_core.specs.WellFormed.{at, one, times, named, WellFormed, Seated, Kept, IsBio, IsWaiting, IsCompleted, IsOwned}
 use Rattle.dispatch_core.specs.Changes.{submitted_tables}

@@ -8,7 +8,7 @@ use Rattle.sector_core.specs.declared.bio.Bio.{Bio}
 use Rattle.sector_core.specs.declared.bio.Outcome.{Outcome}
 use Rattle.overlay.specs.Blocks.{Blocks}
 use Rattle.request_pool.specs.Slots.{seat_slots}
-use Rattle.change_record.specs.Machine.{bios_at}
+use Rattle.process_queue.specs.Merge.{bios_at}
 use Rattle.plain_machine.specs.Step.{Limits, completed, result_of, rest_of_outcome}
 use Rattle.dispatch_core.specs.WellFormed.{at, one, taken, IsSlotOf, IsBio, IsCompleted}
 use Rattle.dispatch_core.specs.Changes.{with_bios}

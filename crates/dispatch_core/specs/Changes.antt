@@ -8,7 +8,8 @@ use Rattle.sector_core.specs.declared.bio.Outcome.{Outcome}
 use Rattle.request_pool.specs.declared.Request.{Request}
 use Rattle.change_record.specs.declared.change.Seat.{Seat}
 use Rattle.change_record.specs.Tables.{Tables}
-use Rattle.change_record.specs.Machine.{bios_at, outbox_at}
+use Rattle.process_queue.specs.Merge.{bios_at}
+use Rattle.change_record.specs.Machine.{outbox_at}
 use Rattle.plain_machine.specs.Step.{with_unreaped, new_bio, after_outcome, completed}
 use Rattle.dispatch_core.specs.WellFormed.{at}
 

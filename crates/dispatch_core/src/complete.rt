@@ -1,7 +1,7 @@
 // What becomes of the bios of a finished request.
 ghost use Rattle.std.specs.Prelude.{◌≡◌, ◌+◌, ◌*◌, ◌≤◌, ◌<◌, ◌^◌, [], ◌∷◌, IfOk, OnOk, IfSome, IsSome, Some, length};
 ghost use Rattle.change_record.specs.Trail.{KeepsTrail};
-ghost use Rattle.change_record.specs.Machine.{bios_at};
+ghost use Rattle.process_queue.specs.Merge.{bios_at};
 ghost use Rattle.plain_machine.specs.Step.{content, with_blocks, after_outcome, completed, result_of, rest_of_outcome};
 ghost use Rattle.dispatch_core.specs.Changes.{with_bios};
 ghost use Rattle.dispatch_core.specs.Counts.{blocks_put};

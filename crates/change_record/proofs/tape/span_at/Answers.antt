@@ -1,4 +1,4 @@
-use Rattle.std.proofs.Common.{refl, arith, sym}
+use Rattle.std.proofs.Common.{arith, sym}
 use Rattle.change_record.proofs.Pieces.{begin_of-last, ends_at}
 use Rattle.change_record.proofs.tape.span_at.Goals as goal
 

@@ -1,4 +1,4 @@
-use Rattle.std.proofs.Common.{◌≡◌, ◌+◌, ◌%◌, ◌^◌, ◌++◌, drop, set, ◌∙◌, ap, arith}
+use Rattle.std.proofs.Common.{◌++◌, drop, set, ◌∙◌, ap, arith}
 use Rattle.change_record.proofs.Walk.{forth_tables-at, forth_left-at, fits_next, fits_before, tables_before, changes_before}
 use Rattle.change_record.proofs.turns.turn_forth.Goals as goal
 

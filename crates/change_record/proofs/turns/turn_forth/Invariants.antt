@@ -1,4 +1,4 @@
-use Rattle.std.proofs.Common.{◌≡◌, ◌+◌, ◌%◌, ◌^◌, ◌++◌, length, take, drop}
+use Rattle.std.proofs.Common.{◌≡◌, ◌+◌, ◌%◌, ◌^◌, ◌++◌, take, drop}
 use Rattle.change_record.specs.Exchange.{forth_tables, forth_left}
 use Rattle.change_record.proofs.turns.turn_forth.Given as goal
 

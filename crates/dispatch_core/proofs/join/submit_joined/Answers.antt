@@ -2,7 +2,8 @@ use Rattle.std.proofs.Common.{◌≡◌, ◌+◌, length, Some, None, false, ◌
 use Rattle.std.specs.Option.{is_none}
 use Rattle.request_pool.specs.declared.Request.{Request}
 use Rattle.change_record.specs.Tables.{Tables}
-use Rattle.change_record.specs.Machine.{Plain, meaning, bios_at}
+use Rattle.process_queue.specs.Merge.{bios_at}
+use Rattle.change_record.specs.Machine.{Plain, meaning}
 use Rattle.plain_machine.specs.declared.answer.Answer.{Answer}
 use Rattle.plain_machine.specs.declared.answer.Answer.TheVariants.{Accepted}
 use Rattle.plain_machine.specs.declared.answer.Reply.TheVariants.{Queued}

@@ -3,7 +3,8 @@ use Rattle.std.specs.Prelude.{slice_get}
 use Rattle.sector_core.specs.declared.bio.Bio.{Bio}
 use Rattle.sector_core.specs.declared.bio.BioResult.TheVariants.{Written}
 use Rattle.change_record.specs.Tables.{Tables}
-use Rattle.change_record.specs.Machine.{meaning, bios_at, outbox_at}
+use Rattle.process_queue.specs.Merge.{bios_at}
+use Rattle.change_record.specs.Machine.{meaning, outbox_at}
 use Rattle.plain_machine.specs.declared.answer.Answer.TheVariants.{Accepted}
 use Rattle.plain_machine.specs.declared.answer.Reply.TheVariants.{Completed}
 use Rattle.plain_machine.specs.Step.{of_sizes}

@@ -4,7 +4,8 @@ use Rattle.request_pool.specs.declared.Request.{Request}
 use Rattle.process_queue.specs.Queue.{first_slot}
 use Rattle.soft_queue.specs.Turn.{next_seat}
 use Rattle.change_record.specs.Tables.{Tables}
-use Rattle.change_record.specs.Machine.{meaning, bios_at}
+use Rattle.process_queue.specs.Merge.{bios_at}
+use Rattle.change_record.specs.Machine.{meaning}
 use Rattle.plain_machine.specs.declared.answer.Answer.TheVariants.{Accepted}
 use Rattle.plain_machine.specs.declared.answer.Reply.TheVariants.{Issued}
 use Rattle.plain_machine.specs.Step.{of_sizes, dispatch, next_queue, lowest_free, range_of}

@@ -1,4 +1,4 @@
-use Rattle.std.proofs.Common.{◌≡◌, ℕ, List, ◌++◌, ◌∷◌, [], length, subst, sym, ap, ◌∙◌, arith, rules}
+use Rattle.std.proofs.Common.{◌≡◌, ℕ, List, ◌++◌, ◌∷◌, [], length, subst, sym, ap, ◌∙◌, rules}
 use Rattle.change_record.specs.Tape.{pieces, rest_of, AreEnds}
 use Rattle.change_record.proofs.Pieces.{AreEnds-close, pieces_closed, rest_closed}
 use Rattle.change_record.proofs.tape.Tape.close.Goals as goal

@@ -1,9 +1,9 @@
-use Rattle.std.proofs.Common.{◌≡◌, ◌+◌, ◌-◌, ◌%◌, ◌^◌, ◌<◌, List, [], length, set, get_or, slice_range, subst, sym, ap, ◌∙◌, arith, rules}
+use Rattle.std.proofs.Common.{◌≡◌, ◌+◌, ◌-◌, ◌%◌, ◌^◌, ◌<◌, List, length, set, get_or, slice_range, subst, sym, ap, ◌∙◌, arith, rules}
 use Rattle.change_record.specs.declared.change.Change.{Change}
-use Rattle.change_record.specs.Exchange.{FitBack, FitForth, ArePuts, back_tables, back_left, forth_tables, forth_left}
-use Rattle.change_record.specs.Tape.{step_at, begin_of, pieces, rest_of, AreEnds}
-use Rattle.change_record.proofs.Exchanges.{length-back_left, length-forth_left}
-use Rattle.change_record.proofs.Pieces.{length-pieces, length-piece, span_piece, span_put, span_ordered, restored}
+use Rattle.change_record.specs.Exchange.{FitForth, ArePuts, forth_tables, forth_left}
+use Rattle.change_record.specs.Tape.{step_at, begin_of, pieces, rest_of}
+use Rattle.change_record.proofs.Exchanges.{length-forth_left}
+use Rattle.change_record.proofs.Pieces.{length-pieces, length-piece, span_piece, span_put, restored}
 use Rattle.change_record.proofs.tape.Tape.forth.Goals as goal
 
 pub span_at-start-requires-clause-there : goal.span_at-start-requires-clause-there

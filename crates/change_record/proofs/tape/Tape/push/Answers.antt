@@ -1,4 +1,4 @@
-use Rattle.std.proofs.Common.{◌≡◌, ℕ, List, ◌++◌, ◌∷◌, [], length, subst, sym, ap, ◌∙◌}
+use Rattle.std.proofs.Common.{List, ◌++◌, ◌∷◌, [], length, subst, sym, ap, ◌∙◌}
 use Rattle.change_record.specs.declared.change.Change.{Change}
 use Rattle.change_record.specs.Tape.{pieces, rest_of, AreEnds}
 use Rattle.change_record.proofs.Pieces.{ends_more, pieces_more}

@@ -1,4 +1,4 @@
-use Rattle.std.proofs.Common.{◌≡◌, ◌-◌, ◌<◌, length, get_or, sym, ap, ◌∙◌, arith, rules}
+use Rattle.std.proofs.Common.{◌-◌, ◌<◌, length, get_or, sym, ap, ◌∙◌, arith}
 use Rattle.change_record.specs.Tape.{step_at, begin_of}
 use Rattle.change_record.proofs.Pieces.{length-pieces, length-piece}
 use Rattle.change_record.proofs.tape.Tape.size.Goals as goal
