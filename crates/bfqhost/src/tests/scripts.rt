@@ -58,6 +58,28 @@ fn rows_of_other_hosts(rt: HostRuntime) -> Result<(), Fail> {
     expect_row(&rt, ConfigDraft::default(), 100, HUNDRED_SECTORS)
 }
 
+#[test]
+fn merged_requests_of_the_usual_host(rt: HostRuntime) -> Result<(), Fail> {
+    for row in [
+        MERGES_AND_UNDO_OF_A_MERGE,
+        BACK_BEFORE_FRONT,
+        THIRTY_TWO_BIOS,
+        FULL_STORE_UNDONE_AND_REDONE,
+        REAPED_IN_SECTOR_ORDER,
+        QUEUE_OF_NOBODY,
+    ] {
+        expect_row(&rt, ConfigDraft::default(), 1024, row)?;
+    }
+    Ok(())
+}
+
+#[test]
+fn merged_requests_of_other_hosts(rt: HostRuntime) -> Result<(), Fail> {
+    let mut one_request = ConfigDraft::default();
+    one_request.nr_requests = 1;
+    expect_row(&rt, one_request, 1024, JOINING_TAKES_NO_REQUEST)
+}
+
 const NOTHING_TO_UNDO: &str = "\
 hold -> moved 0 0
 undo 1 -> refused 31
@@ -171,4 +193,138 @@ read 0 1 99 1 -> queued 2
 read 0 9 0 1 -> refused 4
 read 1 1 0 1 -> refused 3
 read 16 1 0 1 -> refused 1
+";
+
+const MERGES_AND_UNDO_OF_A_MERGE: &str = "\
+attach 0 0 4 -> attached 1
+read 0 1 100 64 -> queued 2
+read 0 1 164 64 -> queued 3
+read 0 1 36 64 -> queued 4
+read 0 1 228 64 -> queued 5
+read 0 1 292 1 -> queued 6
+queue 0 -> queue 36+256x4 292+1x1
+hold -> moved 6 6
+undo 1 -> moved 5 6
+queue 0 -> queue 36+256x4
+undo 1 -> moved 4 6
+queue 0 -> queue 36+192x3
+";
+
+const BACK_BEFORE_FRONT: &str = "\
+attach 0 0 4 -> attached 1
+read 0 1 10 4 -> queued 2
+read 0 1 0 8 -> queued 3
+read 0 1 8 2 -> queued 4
+queue 0 -> queue 10+4x1 0+10x2
+";
+
+const THIRTY_TWO_BIOS: &str = "\
+attach 0 0 4 -> attached 1
+read 0 1 0 1 -> queued 2
+read 0 1 1 1 -> queued 3
+read 0 1 2 1 -> queued 4
+read 0 1 3 1 -> queued 5
+read 0 1 4 1 -> queued 6
+read 0 1 5 1 -> queued 7
+read 0 1 6 1 -> queued 8
+read 0 1 7 1 -> queued 9
+read 0 1 8 1 -> queued 10
+read 0 1 9 1 -> queued 11
+read 0 1 10 1 -> queued 12
+read 0 1 11 1 -> queued 13
+read 0 1 12 1 -> queued 14
+read 0 1 13 1 -> queued 15
+read 0 1 14 1 -> queued 16
+read 0 1 15 1 -> queued 17
+read 0 1 16 1 -> queued 18
+read 0 1 17 1 -> queued 19
+read 0 1 18 1 -> queued 20
+read 0 1 19 1 -> queued 21
+read 0 1 20 1 -> queued 22
+read 0 1 21 1 -> queued 23
+read 0 1 22 1 -> queued 24
+read 0 1 23 1 -> queued 25
+read 0 1 24 1 -> queued 26
+read 0 1 25 1 -> queued 27
+read 0 1 26 1 -> queued 28
+read 0 1 27 1 -> queued 29
+read 0 1 28 1 -> queued 30
+read 0 1 29 1 -> queued 31
+read 0 1 30 1 -> queued 32
+read 0 1 31 1 -> queued 33
+read 0 1 32 1 -> refused 15
+queue 0 -> queue 0+32x32
+dispatch -> issued 0 34 fetch 0 32
+finish 0 34 short -> finished 32
+reap 0 1 -> completed 2 error short
+";
+
+const FULL_STORE_UNDONE_AND_REDONE: &str = "\
+attach 0 0 4 -> attached 1
+write 0 1 0 8 9 -> queued 2
+write 0 1 8 8 9 -> queued 3
+write 0 1 16 8 9 -> queued 4
+write 0 1 24 8 9 -> queued 5
+write 0 1 32 8 9 -> queued 6
+write 0 1 40 8 9 -> queued 7
+write 0 1 48 8 9 -> queued 8
+write 0 1 56 8 9 -> queued 9
+write 0 1 64 8 9 -> queued 10
+write 0 1 72 8 9 -> queued 11
+write 0 1 80 8 9 -> queued 12
+write 0 1 88 8 9 -> queued 13
+write 0 1 96 8 9 -> queued 14
+write 0 1 104 8 9 -> queued 15
+write 0 1 112 8 9 -> queued 16
+write 0 1 120 8 9 -> queued 17
+write 0 1 128 8 9 -> queued 18
+write 0 1 136 8 9 -> queued 19
+write 0 1 144 8 9 -> queued 20
+write 0 1 152 8 9 -> queued 21
+write 0 1 160 8 9 -> queued 22
+write 0 1 168 8 9 -> queued 23
+write 0 1 176 8 9 -> queued 24
+write 0 1 184 8 9 -> queued 25
+write 0 1 192 8 9 -> queued 26
+write 0 1 200 8 9 -> queued 27
+write 0 1 208 8 9 -> queued 28
+write 0 1 216 8 9 -> queued 29
+write 0 1 224 8 9 -> queued 30
+write 0 1 232 8 9 -> queued 31
+write 0 1 240 8 9 -> queued 32
+write 0 1 248 8 9 -> queued 33
+queue 0 -> queue 0+256x32
+dispatch -> issued 0 34 store 0 256
+finish 0 34 stored -> finished 32
+hold -> moved 35 35
+undo 1 -> moved 34 35
+sector 255 -> sector 255 base
+redo 1 -> moved 35 35
+sector 255 -> sector 255 overlay 09
+undo 35 -> moved 0 35
+sector 0 -> sector 0 base
+";
+
+const JOINING_TAKES_NO_REQUEST: &str = "\
+attach 0 0 4 -> attached 1
+read 0 1 0 8 -> queued 2
+read 0 1 100 8 -> notyet 43
+read 0 1 8 8 -> queued 3
+";
+
+const REAPED_IN_SECTOR_ORDER: &str = "\
+attach 0 0 4 -> attached 1
+read 0 1 8 8 -> queued 2
+read 0 1 0 8 -> queued 3
+dispatch -> issued 0 4 fetch 0 16
+finish 0 4 fault -> finished 2
+reap 0 1 -> completed 3 error fault
+reap 0 1 -> completed 2 error fault
+";
+
+const QUEUE_OF_NOBODY: &str = "\
+queue 0 -> queue none
+queue 16 -> queue none
+attach 0 0 4 -> attached 1
+queue 0 -> queue
 ";
