@@ -16,7 +16,8 @@ import subprocess
 
 CYCLES = 300
 CALLS = 4
-STEP = 1 << 18
+# Some 230 KiB of limits let the process start and leave no memory for the host: a step is below that, so one is tried.
+STEP = 1 << 17
 MOST = 1 << 26
 WORDS = ["sim", "--scheduler", "none", "--sectors", "65536"]
 
