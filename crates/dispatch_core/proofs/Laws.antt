@@ -71,6 +71,7 @@ attached-well l n t seat group prio w can = record {
     outboxes = w.sized.outboxes;
     seats = length-set t.seats seat _ ∙ w.sized.seats;
     few_tags = w.sized.few_tags;
+    few_requests = w.sized.few_requests;
     small_image = w.sized.small_image;
   };
   seated = attached-seated l n t seat group prio w can;
@@ -91,6 +92,7 @@ submitted-well l n t seat entry slot place session op range payload w can = reco
     outboxes = w.sized.outboxes;
     seats = length-set t.seats seat _ ∙ w.sized.seats;
     few_tags = w.sized.few_tags;
+    few_requests = w.sized.few_requests;
     small_image = w.sized.small_image;
   };
   seated = submitted-seated l n t seat entry slot place session op range payload w can;
@@ -136,6 +138,7 @@ joined-well l n t seat entry slot place session op range payload request front w
     outboxes = w.sized.outboxes;
     seats = length-set t.seats seat _ ∙ w.sized.seats;
     few_tags = w.sized.few_tags;
+    few_requests = w.sized.few_requests;
     small_image = w.sized.small_image;
   };
   seated = join.seated l n t seat entry slot place session op range payload request front w can;
@@ -172,6 +175,7 @@ reaped-well l n t seat entry place rest bio w can = record {
     outboxes = length-set t.outboxes seat _ ∙ w.sized.outboxes;
     seats = length-set t.seats seat _ ∙ w.sized.seats;
     few_tags = w.sized.few_tags;
+    few_requests = w.sized.few_requests;
     small_image = w.sized.small_image;
   };
   seated = reaped-seated l n t seat entry place rest bio w can;
@@ -191,6 +195,7 @@ sent-well l n t seat slot tag request w can = record {
     outboxes = w.sized.outboxes;
     seats = w.sized.seats;
     few_tags = w.sized.few_tags;
+    few_requests = w.sized.few_requests;
     small_image = w.sized.small_image;
   };
   seated = sent-seated l n t seat slot tag request w can;
@@ -211,6 +216,7 @@ finished-well l n t tag issue slot seat entry request outcome w can = record {
     outboxes = length-set t.outboxes seat _ ∙ w.sized.outboxes;
     seats = w.sized.seats;
     few_tags = w.sized.few_tags;
+    few_requests = w.sized.few_requests;
     small_image = w.sized.small_image;
   };
   seated = finished-seated l n t tag issue slot seat entry request outcome w can;

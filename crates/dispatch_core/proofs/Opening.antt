@@ -82,8 +82,8 @@ borne_none requests tags slot =
 both_none : (requests tags : ℕ) → taken (replicate {A = Option Link} requests None) + taken (replicate {A = Option Issue} tags None) ≡ 0
 both_none requests tags = omega (arith, none_taken Link requests, none_taken Issue tags)
 
-pub opening-well : (sectors requests tags : ℕ) → sectors < 2 ^ 55 → tags ≤ 255 → WellFormed (record { sectors = sectors; requests = requests; tags = tags }) 1 (empty_tables requests tags)
-opening-well sectors requests tags small few = record {
+pub opening-well : (sectors requests tags : ℕ) → sectors < 2 ^ 55 → tags ≤ 255 → requests < 2 ^ 16 → WellFormed (record { sectors = sectors; requests = requests; tags = tags }) 1 (empty_tables requests tags)
+opening-well sectors requests tags small few short = record {
   sized = record {
     requests = length-replicate requests None;
     bios = refl;
@@ -92,6 +92,7 @@ opening-well sectors requests tags small few = record {
     outboxes = refl;
     seats = refl;
     few_tags = few;
+    few_requests = short;
     small_image = small;
   };
   seated = record {

@@ -1,11 +1,12 @@
 -- What stands at a place of a queue, read off the tables.
+use Rattle.std.specs.Prelude.{slice_get}
 use Rattle.std.proofs.Common.{◌≡◌, ℕ, zero, suc, ◌+◌, ◌<◌, ◌≤◌, ◌^◌, List, [], ◌∷◌, length, map, Option, Some, None, true, false, cond, IsSome, ◌==◌, nat_lt, refl, sym, ap, ◌∙◌, arith}
 use Rattle.std.specs.List.{filter_map, cons_option, AllByRecursion}
 use Rattle.std.specs.Option.{option_map}
 use Rattle.sector_core.specs.declared.range.Range.{Range}
 use Rattle.request_pool.specs.declared.Request.{Request}
 use Rattle.process_queue.specs.declared.Link.{Link}
-use Rattle.process_queue.specs.Queue.{insert_in, nth_in, nth_slot, placed}
+use Rattle.process_queue.specs.Queue.{insert_in, nth_slot, placed}
 use Rattle.change_record.specs.Tables.{Tables}
 use Rattle.process_queue.specs.Merge.{bios_at}
 use Rattle.change_record.specs.Machine.{WholeRequest, meaning, whole_at}
@@ -34,7 +35,7 @@ shown_at f (Some slot) = shown (f slot)
 
 -- the request at a place of a queue is that of the slot at the place
 view_in-filter_map : (f : ℕ → Option WholeRequest) (xs : List (ℕ × ℕ)) (k : ℕ) → AllByRecursion (λ e. IsSome (f e.1)) xs
-    → view_in (filter_map f (map (λ e. e.1) xs)) k ≡ shown_at f (nth_in (map (λ e. e.1) xs) k)
+    → view_in (filter_map f (map (λ e. e.1) xs)) k ≡ shown_at f (slice_get (map (λ e. e.1) xs) k)
 view_in-filter_map f [] k ps = refl
 view_in-filter_map f (x ∷ xs) zero ps =
     elim (f x.1) as (λ o. IsSome o → view_in (cons_option o (filter_map f (map (λ e. e.1) xs))) 0 ≡ shown o) [
@@ -42,8 +43,8 @@ view_in-filter_map f (x ∷ xs) zero ps =
       | Some v ↦ λ h. refl
     ] ps.0
 view_in-filter_map f (x ∷ xs) (suc k) ps =
-    let ih : view_in (filter_map f (map (λ e. e.1) xs)) k ≡ shown_at f (nth_in (map (λ e. e.1) xs) k) = view_in-filter_map f xs k ps.1 in
-    elim (f x.1) as (λ o. IsSome o → view_in (cons_option o (filter_map f (map (λ e. e.1) xs))) (suc k) ≡ shown_at f (nth_in (map (λ e. e.1) xs) k)) [
+    let ih : view_in (filter_map f (map (λ e. e.1) xs)) k ≡ shown_at f (slice_get (map (λ e. e.1) xs) k) = view_in-filter_map f xs k ps.1 in
+    elim (f x.1) as (λ o. IsSome o → view_in (cons_option o (filter_map f (map (λ e. e.1) xs))) (suc k) ≡ shown_at f (slice_get (map (λ e. e.1) xs) k)) [
       | None ↦ λ h. cc
       | Some v ↦ λ h. ih
     ] ps.0
@@ -108,7 +109,6 @@ length-placed seat base (Some l ∷ links) =
     ]
 
 -- a queue has no more requests than there are slots
-pub short_queue : (sizes : Sizes) (slots n : ℕ) (t : Tables) (seat : ℕ) → slots ≡ sizes.requests → slots < 2 ^ 16 → WellFormed (of_sizes sizes) n t
-    → length ((meaning t).queue seat) < 2 ^ 16
-short_queue sizes slots n t seat e few w =
-    omega (arith, e, few, queue_length (whole_at t.requests t.bios) seat t.links (linked_some n t w.placed), length-placed seat 0 t.links, w.sized.links)
+pub short_queue : (l : Limits) (n : ℕ) (t : Tables) (seat : ℕ) → WellFormed l n t → length ((meaning t).queue seat) < 2 ^ 16
+short_queue l n t seat w =
+    omega (arith, w.sized.few_requests, queue_length (whole_at t.requests t.bios) seat t.links (linked_some n t w.placed), length-placed seat 0 t.links, w.sized.links)

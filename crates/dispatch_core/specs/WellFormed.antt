@@ -1,4 +1,4 @@
--- What joins the tables of a machine that steps have made: every link, index and count (our profile).
+-- What joins the tables of a machine that steps have made: every link, index and count; and what their requests are (our profile).
 use Rattle.std.specs.Prelude.{◌≡◌, ℕ, ◌+◌, ◌*◌, ◌<◌, ◌≤◌, ◌==◌, Bool, ◌^◌, false, List, length, sum_by, count_by, Option, None, Some, is_some, IsSome, All, slice_index_or, if◌then◌else◌}
 use Rattle.std.specs.Option.{option_map_or}
 use Rattle.sector_core.specs.declared.bio.Op.{Op}
@@ -38,6 +38,7 @@ pub record Sized (l : Limits) (t : Tables) : Type 0 where
   pub outboxes : length t.outboxes ≡ 16
   pub seats : length t.seats ≡ 16
   pub few_tags : l.tags ≤ 255
+  pub few_requests : l.requests < 2 ^ 16
   pub small_image : l.sectors < 2 ^ 55
 
 -- the seats: sessions are earlier serials, each at one seat, and each seat counts the taken slots of its bios
@@ -124,6 +125,6 @@ pub record WellFormed (l : Limits) (n : ℕ) (t : Tables) : Type 0 where
   pub first : 1 ≤ n
   pub served : t.served < 16
 
--- tables that steps up to this serial may have made: they hold together, and the requests that they mean are whole
+-- tables that steps up to this serial may have made: they hold together, and the requests that they mean are whole (our profile)
 abbrev pub IsSound : Limits → ℕ → Tables → Type 0
 IsSound l n t = WellFormed l n t × AreWhole (meaning t)

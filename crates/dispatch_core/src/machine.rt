@@ -259,8 +259,6 @@ impl<'a> View<'a> {
         ensures few { (n : ℕ) → IsFor n self.now → length ((plain_of self.now).queue seat) < 2 ^ 16 }
     {
         let machine = self.machine;
-        // A queue has no more requests than there are slots, whose number is a u16.
-        let _slots: u16 = machine.sizes.requests;
         if machine.parts.seat(seat).is_none() {
             return RequestView::Free;
         }

@@ -1,9 +1,9 @@
 -- Every step leaves every request with 1 to 32 adjacent bios and at most 256 sectors.
-use Rattle.std.proofs.Common.{true, false, Bool, ◌≡◌, inl, inr, ℕ, ◌+◌, ◌<◌, ◌≤◌, ◌==◌, nat_le, nat_lt, not, ◌||◌, List, [], ◌∷◌, ◌++◌, length, map, take, Option, Some, None, All, refl, sym, ◌∙◌, subst, arith, unwrap_or, eqb-true}
+use Rattle.std.proofs.Common.{true, false, Bool, ◌≡◌, inl, inr, ℕ, zero, suc, ◌+◌, ◌<◌, ◌≤◌, ◌==◌, nat_le, nat_lt, not, ◌||◌, List, [], ◌∷◌, ◌++◌, length, map, take, Option, Some, None, All, refl, sym, ◌∙◌, subst, arith, unwrap_or, eqb-true}
 use Rattle.std.specs.Option.{is_none}
 use Rattle.std.proofs.lemmas.Bool.{cases_eq, ltb-false, or_parts}
 use Rattle.std.proofs.lemmas.List.{length_push}
-use Rattle.std.proofs.lemmas.List.Elements.{All-nil, All-same, All-head, All-tail}
+use Rattle.std.proofs.lemmas.List.Elements.{All-nil, All-cons, All-append, All-same, All-head, All-tail}
 use Rattle.std.proofs.lemmas.List.Sums.{sum_by-cons}
 use Rattle.sector_core.specs.declared.bio.Bio.{Bio}
 use Rattle.sector_core.specs.declared.bio.BioResult.TheVariants.{Written}
@@ -19,7 +19,7 @@ use Rattle.plain_machine.specs.declared.call.Call.{Call}
 use Rattle.plain_machine.specs.declared.call.Stamped.{Stamped}
 use Rattle.plain_machine.specs.Step.{Limits, accepted, is_session, attach, shape, merge_in, new_bio, with_bio, queue_with, submitted, submit, reaped, reap, next_queue, lowest_free, size_of, range_of, sent, dispatch_to, finished, finish_of, finish, step}
 use Rattle.plain_machine.specs.Keeper.{replay, fold_from}
-use Rattle.plain_machine.specs.Whole.{AreInOrder, IsWhole, AreWhole, KeepsWhole, RequestsAreWhole}
+use Rattle.plain_machine.specs.Whole.{AreInOrder, HasSectors, IsWhole, AreWhole, KeepsWhole, RequestsAreWhole}
 use Rattle.plain_machine.proofs.Puts.{put_here, put_other, put_cases, unless-keeps, accepted-keeps, first_fails}
 use Rattle.plain_machine.proofs.Debts.{some_is}
 use Rattle.plain_machine.proofs.Joins.{All-queue_with, joined_is}
@@ -50,18 +50,19 @@ start-push : (bios : List Bio) (bio : Bio) → 1 ≤ length bios → (range_of (
 start-push [] bio h = absurd (omega (arith, h))
 start-push (b ∷ bios) bio h = refl
 
--- a new request is whole: one bio of at most 64 sectors
-IsWhole-new : (session : ℕ) (op : Op) (bio : Bio) → bio.range.count ≤ 64 → IsWhole (record { session = session; op = op; bios = bio ∷ [] })
-IsWhole-new session op bio few = record {
+-- a new request is whole: one bio of 1 to 64 sectors
+IsWhole-new : (session : ℕ) (op : Op) (bio : Bio) → HasSectors bio → IsWhole (record { session = session; op = op; bios = bio ∷ [] })
+IsWhole-new session op bio has = record {
   some_bios = omega arith;
   few_bios = omega arith;
-  few_sectors = omega (arith, few);
+  few_sectors = let few = has.1 in omega (arith, few);
+  each = All-cons HasSectors bio [] has (All-nil HasSectors);
   in_order = (refl, tt);
 }
 
 -- a request that a bio joins stays whole
-IsWhole-joined : (session : ℕ) (op : Op) (bio : Bio) (front : Bool) (r : WholeRequest) → joins_at shape front session op bio.range r ≡ true → IsWhole r → IsWhole (with_bio front bio r)
-IsWhole-joined session op bio true r joined h =
+IsWhole-joined : (session : ℕ) (op : Op) (bio : Bio) → HasSectors bio → (front : Bool) (r : WholeRequest) → joins_at shape front session op bio.range r ≡ true → IsWhole r → IsWhole (with_bio front bio r)
+IsWhole-joined session op bio has true r joined h =
     let j = joined_is true session op bio.range r joined in
     let at : bio.range.start + bio.range.count ≡ (shape_of r.session r.op r.bios).start = eqb-true (bio.range.start + bio.range.count) (shape_of r.session r.op r.bios).start j.3 in
     let next : (range_of r.bios).start ≡ bio.range.start + bio.range.count = sym (at ∙ start_of_shape r.session r.op r.bios) in
@@ -71,9 +72,10 @@ IsWhole-joined session op bio true r joined h =
       some_bios = omega arith;
       few_bios = omega (arith, few);
       few_sectors = omega (arith, sectors, size_of-cons bio r.bios);
+      each = All-cons HasSectors bio r.bios has h.each;
       in_order = (refl, subst (λ s. AreInOrder s r.bios) next h.in_order);
     }
-IsWhole-joined session op bio false r joined h =
+IsWhole-joined session op bio has false r joined h =
     let j = joined_is false session op bio.range r joined in
     let at : (shape_of r.session r.op r.bios).start + size_of r.bios ≡ bio.range.start = eqb-true ((shape_of r.session r.op r.bios).start + size_of r.bios) bio.range.start j.3 in
     let first : (shape_of r.session r.op r.bios).start ≡ (range_of r.bios).start = start_of_shape r.session r.op r.bios in
@@ -85,6 +87,7 @@ IsWhole-joined session op bio false r joined h =
       some_bios = omega (arith, length_push r.bios bio);
       few_bios = omega (arith, few, length_push r.bios bio);
       few_sectors = omega (arith, sectors, size_of-push r.bios bio);
+      each = All-append HasSectors r.bios (bio ∷ []) h.each (All-cons HasSectors bio [] has (All-nil HasSectors));
       in_order = subst (λ s. AreInOrder s (r.bios ++ bio ∷ [])) same (AreInOrder-push (range_of r.bios).start r.bios bio h.in_order ends);
     }
 
@@ -108,15 +111,20 @@ attach-whole m n room seat group prio h =
     unless-keeps AreWhole _ m (accepted room m next (Attached n)) h
     (λ _. accepted-keeps AreWhole room m next (Attached n) h (record { queued = h.queued; flying = h.flying }))
 
--- Submit: a bio of at most 64 sectors joins a request, or becomes one.
-submitted-whole : (m : Plain) (n seat session : ℕ) (op : Op) (range : Range) (payload : List ℕ) → range.count ≤ 64 → AreWhole m → AreWhole (submitted m n seat session op range payload)
-submitted-whole m n seat session op range payload few h =
+-- a number that is not 0, by the test
+some_count : (a : ℕ) → (a == 0) ≡ false → 1 ≤ a
+some_count zero e = cc
+some_count (suc a) e = omega arith
+
+-- Submit: a bio of 1 to 64 sectors joins a request, or becomes one.
+submitted-whole : (m : Plain) (n seat session : ℕ) (op : Op) (range : Range) (payload : List ℕ) → (1 ≤ range.count) × (range.count ≤ 64) → AreWhole m → AreWhole (submitted m n seat session op range payload)
+submitted-whole m n seat session op range payload has h =
     let bio : Bio = new_bio n range payload in
     let found = merge_in m seat session op range in
     let more = queue_with session op bio found (m.queue seat) in
     record {
       queued = queued-whole m.queue seat more
-          (All-queue_with IsWhole session op bio found (m.queue seat) (IsWhole-new session op bio few) (IsWhole-joined session op bio) (h.queued seat)) h.queued;
+          (All-queue_with IsWhole session op bio found (m.queue seat) (IsWhole-new session op bio has) (IsWhole-joined session op bio has) (h.queued seat)) h.queued;
       flying = h.flying;
     }
 
@@ -132,7 +140,7 @@ submit-whole l m n room seat session op range payload h =
     let its = first_fails (not (is_session session (m.seat seat))) _ _ taken.1 in
     let count = first_fails (range.count == 0 || nat_lt 64 range.count) _ _ its.1 in
     let parts = or_parts (range.count == 0) (nat_lt 64 range.count) count.0 in
-    accepted-keeps AreWhole room m next (Queued n) h (submitted-whole m n seat session op range payload (ltb-false 64 range.count parts.1) h))
+    accepted-keeps AreWhole room m next (Queued n) h (submitted-whole m n seat session op range payload (some_count range.count parts.0, ltb-false 64 range.count parts.1) h))
 
 -- Reap takes from an outbox alone.
 reaped-whole : (m : Plain) (room : Bool) (seat : ℕ) (bios : List Bio) → AreWhole m → AreWhole (reaped room m seat bios).0

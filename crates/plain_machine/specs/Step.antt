@@ -95,28 +95,29 @@ queued m = sum (map (λ seat. length (m.queue seat)) seats)
 abbrev pub in_flight : Limits → Plain → ℕ
 in_flight l m = count_by (λ tag. is_some (m.flight tag)) (numbers 0 l.tags)
 
--- what a merge asks of a request
+-- what a merge asks of a request (our profile)
 abbrev pub shape : WholeRequest → Option Shape
 shape request = Some (shape_of request.session request.op request.bios)
 
--- what a bio of a session joins in a seat's queue, and whether at its front
+-- the request that a bio of a session joins in a seat's queue, and whether at its front (blk-mq: a bio is merged before any scheduler is asked)
 abbrev pub merge_in : Plain → ℕ → ℕ → Op → Range → Option (WholeRequest × Bool)
 merge_in m seat session op range = merge_of shape (m.queue seat) session op range
 
--- a bio that waits, named by the step's serial
+-- a bio that waits, named by the step's serial (our profile)
 abbrev pub new_bio : ℕ → Range → List ℕ → Bio
 new_bio n range payload = record { serial = n; range = range; payload = payload; result = None }
 
--- a request with one more bio, at its front or at its end, so that its bios stay in the order of their sectors
+-- a request with one more bio, at its front or at its end, so that its bios stay in the order of their sectors (blk-mq)
 abbrev pub with_bio : Bool → Bio → WholeRequest → WholeRequest
 with_bio front bio request = record request { bios = if front then bio ∷ request.bios else request.bios ++ bio ∷ [] }
 
--- a list with its first element changed that passes a test; the others keep their places
+-- a list with its first element changed that passes a test; the others, and their places, stay
 abbrev pub change_first : {A : Type 0} → (A → Bool) → (A → A) → List A → List A
 change_first passes change [] = []
 change_first passes change (x ∷ xs) = if passes x then change x ∷ xs else x ∷ change_first passes change xs
 
--- a queue with one more bio: in the request that it joins, which keeps its place, or in a new one at the end
+-- a queue with one more bio: in the request that it joins, the first that passes the test by which it was found, where it stands; or in a
+-- new one at the end (blk-mq; that a request keeps its place is our profile)
 abbrev pub queue_with : ℕ → Op → Bio → Option (WholeRequest × Bool) → List WholeRequest → List WholeRequest
 queue_with session op bio None queue = queue ++ record { session = session; op = op; bios = bio ∷ [] } ∷ []
 queue_with session op bio (Some found) queue = change_first (joins_at shape found.1 session op bio.range) (with_bio found.1 bio) queue
@@ -127,7 +128,7 @@ submitted m n seat session op range payload = record m {
   queue = put m.queue seat (queue_with session op (new_bio n range payload) (merge_in m seat session op range) (m.queue seat));
 }
 
--- a new request needs one that is free: a bio that joins takes none
+-- a bio needs a free request where it joins none (our profile)
 abbrev pub needs_request : Plain → ℕ → ℕ → Op → Range → Bool
 needs_request m seat session op range = is_none (merge_in m seat session op range)
 

@@ -12,11 +12,16 @@ abbrev pub AreInOrder : ℕ → List Bio → Type 0
 AreInOrder start [] = Unit {0}
 AreInOrder start (bio ∷ bios) = (bio.range.start ≡ start) × AreInOrder (start + bio.range.count) bios
 
+-- a bio has 1 to 64 sectors (our profile)
+abbrev pub HasSectors : Bio → Type 0
+HasSectors bio = (1 ≤ bio.range.count) × (bio.range.count ≤ 64)
+
 -- 1 to 32 bios with at most 256 sectors together (our profile)
 pub record IsWhole (request : WholeRequest) : Type 0 where
   pub some_bios : 1 ≤ length request.bios
   pub few_bios : length request.bios ≤ 32
   pub few_sectors : size_of request.bios ≤ 256
+  pub each : All HasSectors request.bios
   pub in_order : AreInOrder (range_of request.bios).start request.bios
 
 -- so is each request that is queued or in flight

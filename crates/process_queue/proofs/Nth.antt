@@ -1,11 +1,12 @@
 -- The entry at a place of a queue is the first one after the entry at the place before.
+use Rattle.std.specs.Prelude.{slice_get}
 use Rattle.std.proofs.Common.{◌≡◌, ◌==◌, ℕ, zero, suc, ◌+◌, ◌≤◌, ◌<◌, if◌then◌else◌, List, [], ◌∷◌, Option, Some, None, Bool, true, false, cond, map, nat_lt, inl, inr, refl, sym, ap, ◌∙◌, subst, arith, lt-ltb, le-ltb, ltb-true, ltb-false, eq-eqb, ne_eqb}
 use Rattle.std.specs.List.{find}
 use Rattle.std.specs.Option.{option_map}
 use Rattle.std.proofs.lemmas.Option.{same_Some}
 use Rattle.std.proofs.lemmas.Bool.{cases_lt, cases_eq, cond-true, cond-false}
 use Rattle.process_queue.specs.declared.Link.{Link}
-use Rattle.process_queue.specs.Queue.{placed, insert_in, is_after, nth_in, nth_slot}
+use Rattle.process_queue.specs.Queue.{placed, insert_in, is_after, nth_slot}
 use Rattle.process_queue.proofs.FirstThat.{FromSerial, FromSerial-le, IsRising, IsRising-placed}
 
 -- an entry comes after another one of a lower serial
@@ -135,56 +136,56 @@ AreInTurn-placed seat base (Some l ∷ links) =
     ]
 
 -- what stands at a place of entries that come after e comes after e
-nth_in-after : (e y : ℕ × ℕ) (xs : List (ℕ × ℕ)) (k : ℕ) → AreAfter e xs → nth_in xs k ≡ Some y → is_after (Some e) y ≡ true
-nth_in-after e y [] k all found = cc
-nth_in-after e y (x ∷ xs) zero all found = ap (is_after (Some e)) (sym (same_Some x y found)) ∙ all.0
-nth_in-after e y (x ∷ xs) (suc k) all found = nth_in-after e y xs k all.1 found
+slice_get-after : (e y : ℕ × ℕ) (xs : List (ℕ × ℕ)) (k : ℕ) → AreAfter e xs → slice_get xs k ≡ Some y → is_after (Some e) y ≡ true
+slice_get-after e y [] k all found = cc
+slice_get-after e y (x ∷ xs) zero all found = ap (is_after (Some e)) (sym (same_Some x y found)) ∙ all.0
+slice_get-after e y (x ∷ xs) (suc k) all found = slice_get-after e y xs k all.1 found
 
 -- the first entry after e is the first of those that all come after it
-find-all : (e : ℕ × ℕ) (xs : List (ℕ × ℕ)) → AreAfter e xs → find (is_after (Some e)) xs ≡ nth_in xs 0
+find-all : (e : ℕ × ℕ) (xs : List (ℕ × ℕ)) → AreAfter e xs → find (is_after (Some e)) xs ≡ slice_get xs 0
 find-all e [] all = refl
 find-all e (x ∷ xs) all = cond-true (is_after (Some e) x) _ _ all.0
 
 -- the first entry after the one at a place stands at the next place
-find-next : (e : ℕ × ℕ) (xs : List (ℕ × ℕ)) (k : ℕ) → AreInTurn xs → nth_in xs k ≡ Some e → find (is_after (Some e)) xs ≡ nth_in xs (suc k)
+find-next : (e : ℕ × ℕ) (xs : List (ℕ × ℕ)) (k : ℕ) → AreInTurn xs → slice_get xs k ≡ Some e → find (is_after (Some e)) xs ≡ slice_get xs (suc k)
 find-next e [] k h found = cc
 find-next e (x ∷ xs) zero h found =
     let same : x ≡ e = same_Some x e found in
-    let P : ℕ × ℕ → Type 0 = λ y. find (is_after (Some y)) (x ∷ xs) ≡ nth_in xs 0 in
+    let P : ℕ × ℕ → Type 0 = λ y. find (is_after (Some y)) (x ∷ xs) ≡ slice_get xs 0 in
     subst P same (cond-false (is_after (Some x) x) _ _ (is_after-itself x) ∙ find-all x xs h.0)
 find-next e (x ∷ xs) (suc k) h found =
-    cond-false (is_after (Some e) x) _ _ (is_after-turned x e (nth_in-after x e xs k h.0 found)) ∙ find-next e xs k h.1 found
+    cond-false (is_after (Some e) x) _ _ (is_after-turned x e (slice_get-after x e xs k h.0 found)) ∙ find-next e xs k h.1 found
 
 -- the first entry of all stands at place 0
-pub find-first : (xs : List (ℕ × ℕ)) → find (is_after None) xs ≡ nth_in xs 0
+pub find-first : (xs : List (ℕ × ℕ)) → find (is_after None) xs ≡ slice_get xs 0
 find-first [] = refl
 find-first (x ∷ xs) = refl
 
 -- of a seat's entries the first after the one at a place stands at the next place
-pub next_placed : (e : ℕ × ℕ) (seat : ℕ) (links : List (Option Link)) (k : ℕ) → nth_in (placed seat 0 links) k ≡ Some e
-    → find (is_after (Some e)) (placed seat 0 links) ≡ nth_in (placed seat 0 links) (suc k)
+pub next_placed : (e : ℕ × ℕ) (seat : ℕ) (links : List (Option Link)) (k : ℕ) → slice_get (placed seat 0 links) k ≡ Some e
+    → find (is_after (Some e)) (placed seat 0 links) ≡ slice_get (placed seat 0 links) (suc k)
 next_placed e seat links k found = find-next e (placed seat 0 links) k (AreInTurn-placed seat 0 links) found
 
 -- where a list has no place it has no later one
-nth_in-past : {A : Type 0} (xs : List A) (k n : ℕ) → k ≤ n → nth_in xs k ≡ None → nth_in xs n ≡ None
-nth_in-past [] k n le none = refl
-nth_in-past (x ∷ xs) zero n le none = cc
-nth_in-past (x ∷ xs) (suc k) zero le none = absurd (omega arith)
-nth_in-past (x ∷ xs) (suc k) (suc n) le none = nth_in-past xs k n (omega arith) none
+slice_get-past : {A : Type 0} (xs : List A) (k n : ℕ) → k ≤ n → slice_get xs k ≡ None → slice_get xs n ≡ None
+slice_get-past [] k n le none = refl
+slice_get-past (x ∷ xs) zero n le none = cc
+slice_get-past (x ∷ xs) (suc k) zero le none = absurd (omega arith)
+slice_get-past (x ∷ xs) (suc k) (suc n) le none = slice_get-past xs k n (omega arith) none
 
 -- the slot at a place is that of the entry at the place
-nth_in-map : (xs : List (ℕ × ℕ)) (k : ℕ) → nth_in (map (λ e. e.1) xs) k ≡ option_map (λ e. e.1) (nth_in xs k)
-nth_in-map [] k = refl
-nth_in-map (x ∷ xs) zero = refl
-nth_in-map (x ∷ xs) (suc k) = nth_in-map xs k
+slice_get-map : (xs : List (ℕ × ℕ)) (k : ℕ) → slice_get (map (λ e. e.1) xs) k ≡ option_map (λ e. e.1) (slice_get xs k)
+slice_get-map [] k = refl
+slice_get-map (x ∷ xs) zero = refl
+slice_get-map (x ∷ xs) (suc k) = slice_get-map xs k
 
 -- the slot of what has been found at the place is what stands there
-pub nth_slot_is : (seat place k : ℕ) (links : List (Option Link)) (found : Option (ℕ × ℕ)) → k ≡ place → found ≡ nth_in (placed seat 0 links) k
+pub nth_slot_is : (seat place k : ℕ) (links : List (Option Link)) (found : Option (ℕ × ℕ)) → k ≡ place → found ≡ slice_get (placed seat 0 links) k
     → option_map (λ e. e.1) found ≡ nth_slot seat links place
 nth_slot_is seat place k links found reached was =
-    ap (option_map (λ e. e.1)) (was ∙ ap (nth_in (placed seat 0 links)) reached) ∙ sym (nth_in-map (placed seat 0 links) place)
+    ap (option_map (λ e. e.1)) (was ∙ ap (slice_get (placed seat 0 links)) reached) ∙ sym (slice_get-map (placed seat 0 links) place)
 
 -- where nothing was found at a place nothing stands at a later one
-pub nth_slot_past : (seat place k : ℕ) (links : List (Option Link)) → k ≤ place → None ≡ nth_in (placed seat 0 links) k → None ≡ nth_slot seat links place
+pub nth_slot_past : (seat place k : ℕ) (links : List (Option Link)) → k ≤ place → None ≡ slice_get (placed seat 0 links) k → None ≡ nth_slot seat links place
 nth_slot_past seat place k links le none =
-    ap (option_map (λ (e : ℕ × ℕ). e.1)) (sym (nth_in-past (placed seat 0 links) k place le (sym none))) ∙ sym (nth_in-map (placed seat 0 links) place)
+    ap (option_map (λ (e : ℕ × ℕ). e.1)) (sym (slice_get-past (placed seat 0 links) k place le (sym none))) ∙ sym (slice_get-map (placed seat 0 links) place)

@@ -1,6 +1,7 @@
+use Rattle.std.specs.Prelude.{slice_get}
 use Rattle.std.proofs.Common.{◌≡◌, ◌+◌, suc, ℕ, ◌∙◌, ap, sym, arith}
 use Rattle.std.specs.Option.{option_map}
-use Rattle.process_queue.specs.Queue.{nth_in, placed}
+use Rattle.process_queue.specs.Queue.{placed}
 use Rattle.process_queue.proofs.Nth.{find-first, next_placed, nth_slot_is, nth_slot_past}
 use Rattle.process_queue.proofs.ProcessQueue.nth.Goals as goal
 
@@ -12,7 +13,7 @@ loop-seen-preserved c =
     let next : suc c.loop-seen._seen ≡ c.loop-seen._seen + 1 = omega arith in
     c.next_after-found-in-loop-seen.ensures
     ∙ next_placed c.in-Some.last c.args.seat c.args.self.now c.loop-seen._seen (sym c.loop-seen.invariant ∙ c.in-Some.is)
-    ∙ ap (nth_in (placed c.args.seat 0 c.args.self.now)) next
+    ∙ ap (slice_get (placed c.args.seat 0 c.args.self.now)) next
 
 pub returns-in-None : goal.returns-in-None
 returns-in-None c =

@@ -14,6 +14,6 @@ pub returns-clause-well : goal.returns-clause-well
 returns-clause-well c =
     let P : Loose → Type 0 = λ p. WellFormed (record { sectors = c.args.sectors; requests = c.args.config.nr_requests; tags = c.args.config.tags }) 1 p.tables in
     let opened : meaning c.in_ok-new.field-0.tables ≡ opening = ap (λ p. meaning p.tables) c.in_ok-new.ensures ∙ opening_is c.args.config.nr_requests c.args.config.tags in (
-      subst P (sym c.in_ok-new.ensures) (opening-well c.args.sectors c.args.config.nr_requests c.args.config.tags c.requires (omega (arith, c.args.config.few_tags))),
+      subst P (sym c.in_ok-new.ensures) (opening-well c.args.sectors c.args.config.nr_requests c.args.config.tags c.requires (omega (arith, c.args.config.few_tags)) (omega (arith, c.args.config.few_requests))),
       subst AreWhole (sym opened) opening-whole,
     )

@@ -14,8 +14,7 @@ use Rattle.dispatch_core.proofs.machine.View.request.Goals as goal
 
 pub returns-then-is_none-clause-few : goal.returns-then-is_none-clause-few
 returns-then-is_none-clause-few c = λ n w.
-    let slots : c.machine.inside.sizes.requests < 2 ^ 16 = omega arith in
-    short_queue c.args.self.now.sizes c.machine.inside.sizes.requests n c.args.self.now.tables c.args.seat (ap (λ m. m.sizes.requests) (c.machine.view_is ∙ c.self.view_is)) slots w.0
+    short_queue (of_sizes c.args.self.now.sizes) n c.args.self.now.tables c.args.seat w.0
 
 pub returns-in_default-clause-shown : goal.returns-in_default-clause-shown
 returns-in_default-clause-shown c = λ n w.
@@ -28,8 +27,7 @@ returns-in_default-clause-shown c = λ n w.
 
 pub returns-in_default-clause-few : goal.returns-in_default-clause-few
 returns-in_default-clause-few c = λ n w.
-    let slots : c.machine.inside.sizes.requests < 2 ^ 16 = omega arith in
-    short_queue c.args.self.now.sizes c.machine.inside.sizes.requests n c.args.self.now.tables c.args.seat (ap (λ m. m.sizes.requests) (c.machine.view_is ∙ c.self.view_is)) slots w.0
+    short_queue (of_sizes c.args.self.now.sizes) n c.args.self.now.tables c.args.seat w.0
 
 pub returns-in_default-request-clause-shown : goal.returns-in_default-request-clause-shown
 returns-in_default-request-clause-shown c = λ n w.
@@ -43,8 +41,7 @@ returns-in_default-request-clause-shown c = λ n w.
 
 pub returns-in_default-request-clause-few : goal.returns-in_default-request-clause-few
 returns-in_default-request-clause-few c = λ n w.
-    let slots : c.machine.inside.sizes.requests < 2 ^ 16 = omega arith in
-    short_queue c.args.self.now.sizes c.machine.inside.sizes.requests n c.args.self.now.tables c.args.seat (ap (λ m. m.sizes.requests) (c.machine.view_is ∙ c.self.view_is)) slots w.0
+    short_queue (of_sizes c.args.self.now.sizes) n c.args.self.now.tables c.args.seat w.0
 
 pub returns-clause-shown : goal.returns-clause-shown
 returns-clause-shown c = λ n w.
@@ -65,5 +62,4 @@ returns-clause-shown c = λ n w.
 
 pub returns-clause-few : goal.returns-clause-few
 returns-clause-few c = λ n w.
-    let slots : c.machine.inside.sizes.requests < 2 ^ 16 = omega arith in
-    short_queue c.args.self.now.sizes c.machine.inside.sizes.requests n c.args.self.now.tables c.args.seat (ap (λ m. m.sizes.requests) (c.machine.view_is ∙ c.self.view_is)) slots w.0
+    short_queue (of_sizes c.args.self.now.sizes) n c.args.self.now.tables c.args.seat w.0
