@@ -1,5 +1,5 @@
 -- The line of steps and the machine of those before the cursor, as a keeper sees them.
-use Rattle.std.specs.Prelude.{◌≡◌, ℕ, ◌+◌, Bool, List, [], ◌∷◌, ◌++◌, take, ◌⊎◌}
+use Rattle.std.specs.Prelude.{◌≡◌, ◌≤◌, ℕ, ◌+◌, Bool, List, [], ◌∷◌, ◌++◌, take, ◌⊎◌}
 use Rattle.change_record.specs.Machine.{Plain}
 use Rattle.plain_machine.specs.declared.sizes.Sizes.{Sizes}
 use Rattle.plain_machine.specs.declared.step.Step.{Step}
@@ -10,6 +10,7 @@ use Rattle.plain_machine.specs.declared.answer.Code.TheVariants.{OutOfMemory}
 use Rattle.plain_machine.specs.Step.{of_sizes, step, IsAccepted}
 use Rattle.plain_machine.specs.Keeper.{fold}
 use Rattle.dispatch_core.specs.Counts.{exchanges_of}
+use Rattle.dispatch_core.specs.Running.{most_exchanges}
 
 pub record Line : Type 0 where
   pub sizes : Sizes
@@ -46,7 +47,7 @@ LineAfter old s (NotYet cause) new = SameLine old new
 
 -- the lists of the steps that stand stay, and an accepted step adds one with exactly its exchanges
 abbrev pub LengthsAfter : Line → Step → Answer → Line → Type 0
-LengthsAfter old s (Accepted reply) new = new.lengths ≡ take old.cursor old.lengths ++ exchanges_of (plain_at old) s ∷ []
+LengthsAfter old s (Accepted reply) new = (new.lengths ≡ take old.cursor old.lengths ++ exchanges_of (plain_at old) s ∷ []) × (exchanges_of (plain_at old) s ≤ most_exchanges)
 LengthsAfter old s (Refused code) new = new.lengths ≡ old.lengths
 LengthsAfter old s (NotYet cause) new = new.lengths ≡ old.lengths
 

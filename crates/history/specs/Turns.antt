@@ -1,5 +1,5 @@
 -- How many exchanges the lists of the steps have, and how many an Undo and a Redo make.
-use Rattle.std.specs.Prelude.{◌≡◌, ℕ, ◌+◌, ◌-◌, ◌%◌, ◌^◌, List, [], ◌∷◌, ◌++◌, take, drop}
+use Rattle.std.specs.Prelude.{◌≡◌, ◌≤◌, ℕ, ◌+◌, ◌-◌, ◌%◌, ◌^◌, List, [], ◌∷◌, ◌++◌, take, drop}
 use Rattle.std.specs.List.{sum}
 use Rattle.plain_machine.specs.declared.call.Call.{Call}
 use Rattle.plain_machine.specs.declared.call.Call.TheVariants.{Do, Hold, Release, Undo, Redo}
@@ -7,6 +7,7 @@ use Rattle.plain_machine.specs.declared.answer.Answer.{Answer}
 use Rattle.plain_machine.specs.declared.answer.Answer.TheVariants.{Accepted, Refused, NotYet}
 use Rattle.plain_machine.specs.Keeper.{machine_of, MayCall}
 use Rattle.dispatch_core.specs.Counts.{exchanges_of}
+use Rattle.dispatch_core.specs.Running.{most_exchanges}
 use Rattle.history.specs.Kept.{Kept}
 
 -- the changes of so many steps from a number on
@@ -17,7 +18,7 @@ changes_of lengths from count = sum (take count (drop from lengths))
 abbrev pub MakesTurns : ℕ → ℕ → ℕ → Type 0
 MakesTurns old count new = new % 2 ^ 64 ≡ (old + count) % 2 ^ 64
 
--- an accepted step cuts the lists at the cursor and adds one with exactly its exchanges;
+-- an accepted step cuts the lists at the cursor and adds one with exactly its exchanges, 512 at most;
 -- an accepted Undo or Redo makes exactly the exchanges of its steps, and leaves each list as long as it is
 abbrev pub Turns : Kept → Call → Answer → Kept → Type 0
 Turns old (Undo n) (Accepted reply) new = MakesTurns old.turns (changes_of old.lengths (old.state.cursor - n) n) new.turns × (new.lengths ≡ old.lengths)
@@ -26,7 +27,8 @@ Turns old (Undo n) (Refused code) new = (new.turns ≡ old.turns) × (new.length
 Turns old (Redo n) (Refused code) new = new.lengths ≡ old.lengths
 Turns old (Undo n) (NotYet cause) new = new.lengths ≡ old.lengths
 Turns old (Redo n) (NotYet cause) new = new.lengths ≡ old.lengths
-Turns old (Do s) (Accepted reply) new = new.lengths ≡ take old.state.cursor old.lengths ++ exchanges_of (machine_of old.state) s ∷ []
+Turns old (Do s) (Accepted reply) new =
+    (new.lengths ≡ take old.state.cursor old.lengths ++ exchanges_of (machine_of old.state) s ∷ []) × (exchanges_of (machine_of old.state) s ≤ most_exchanges)
 Turns old (Do s) (Refused code) new = new.lengths ≡ old.lengths
 Turns old (Do s) (NotYet cause) new = new.lengths ≡ old.lengths
 Turns old Hold answer new = (new.turns ≡ old.turns) × (new.lengths ≡ old.lengths)

@@ -2,6 +2,7 @@ use Rattle.std.proofs.Common.{◌≡◌, ℕ, suc, ◌+◌, ◌-◌, ◌≤◌, 
 use Rattle.plain_machine.specs.declared.answer.Answer.TheVariants.{Accepted, Refused, NotYet}
 use Rattle.plain_machine.specs.declared.answer.Code.TheVariants.{OutOfMemory}
 use Rattle.std.proofs.Common.{true, map}
+use Rattle.change_record.specs.Machine.{Plain}
 use Rattle.change_record.specs.Tape.{step_at}
 use Rattle.plain_machine.specs.declared.sizes.Sizes.{Sizes}
 use Rattle.plain_machine.specs.declared.call.Stamped.{Stamped}
@@ -10,7 +11,7 @@ use Rattle.plain_machine.specs.Step.{of_sizes, step as plain_step}
 use Rattle.std.specs.List.{take-map}
 use Rattle.std.proofs.lemmas.List.{map-append}
 use Rattle.dispatch_core.specs.Counts.{exchanges_of}
-use Rattle.dispatch_core.specs.Running.{plain_of}
+use Rattle.dispatch_core.specs.Running.{plain_of, most_exchanges}
 use Rattle.history.specs.Line.{IsLine}
 use Rattle.history.specs.Roll.{Line, plain_at, MayStep}
 use Rattle.history.proofs.Lines.{past-fold}
@@ -104,4 +105,6 @@ returns-in-Some-clause-lengths c =
     ∙ ap (λ l. l ++ length r.0 ∷ []) (sym (take-map length k i.tape.steps))
     ∙ ap (λ n. take k (map length i.tape.steps) ++ n ∷ []) (count ∙ ap (λ m. exchanges_of m s) plain) in
     let P : Line → Type 0 = λ v. map length c.keep_last.new.self.steps ≡ take v.cursor v.lengths ++ exchanges_of (plain_at v) s ∷ [] in
-    subst P c.self.view_is lists
+    let M : Plain → Type 0 = λ m. exchanges_of m s ≤ most_exchanges in
+    let Q : Line → Type 0 = λ v. exchanges_of (plain_at v) s ≤ most_exchanges in
+    (subst P c.self.view_is lists, subst Q c.self.view_is (subst M plain r.3))
