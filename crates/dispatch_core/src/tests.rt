@@ -9,6 +9,8 @@ use sector_core::{Config, ConfigDraft, Op, Outcome, Range};
 use std::alloc::Global;
 use std::test::Fail;
 
+mod full_store;
+
 const ONE: Range = Range { start: 5, count: 1 };
 
 // Applies a step, and tells the number of what was accepted, or of a refusal after 100, or of a wait after 200.
