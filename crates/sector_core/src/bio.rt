@@ -5,6 +5,9 @@ use bytes::Bytes;
 /// The number of a slot in a fixed table.
 pub type Slot = u16;
 
+/// The number of an entity: 0 to 15 is the session at that seat, 16 + g is group g.
+pub type Entity = u8;
+
 /// What a bio asks for.
 #[derive(Clone, Copy, Debug, PartialEq, Eq)]
 pub enum Op {

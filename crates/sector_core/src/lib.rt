@@ -14,7 +14,7 @@ mod memory;
 mod range;
 mod table;
 
-pub use bio::{Bio, BioResult, FailKind, Op, Outcome, Slot};
+pub use bio::{Bio, BioResult, Entity, FailKind, Op, Outcome, Slot};
 pub use block::{Block, SECTOR_BYTES};
 pub use config::{Config, ConfigDraft, ConfigFault, Scheduler};
 pub use memory::OutOfMemory;
