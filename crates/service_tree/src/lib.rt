@@ -1,0 +1,169 @@
+#![tactic(auto)]
+//! B-WF2Q+'s tree of one group: its members by entity number, and its virtual time.
+//!
+//! | call | rule that it meets |
+//! |---|---|
+//! | [`ServiceTree::new`] | a tree with no member at a virtual time |
+//! | [`ServiceTree::vtime`] | the virtual time |
+//! | [`ServiceTree::exchange_vtime`] | sets the virtual time and hands back the old one |
+//! | [`ServiceTree::get`] | what is known of an entity, if it is a member |
+//! | [`ServiceTree::insert`] | puts a member under its number and hands back what stood there |
+//! | [`ServiceTree::remove`] | takes a member out and hands it back |
+//! | [`ServiceTree::exchange`] | puts a member, or none, under a number and hands back what stood there |
+//! | [`ServiceTree::pick`] | of the eligible members the one with the least finish, on a tie the lower number |
+//! | [`ServiceTree::least_start`] | the least start of the active members |
+//! | [`ServiceTree::weight_sum`] | the sum of the weights that count at a virtual time |
+//!
+//! It knows nothing of groups: whose members these are, and what follows a pick, is the business of its owner.
+//! Its contracts see the virtual time and a list of 48 places, one for each entity number.
+
+ghost use Rattle.std.specs.Prelude.{◌≡◌, None, Some, MatchOption, replicate, slice_index_or, slice_set};
+ghost use Rattle.service_tree.specs.Members.{IsLeastStart, IsPicked, NoneActive, NoneEligible, least_start, pick, weight_sum};
+
+mod member;
+
+pub use member::{Member, State};
+use member::{is_active, is_eligible, lesser, sooner, weight_in_sum};
+use sector_core::Entity;
+use std::marker::Model;
+use std::mem;
+
+/// The members of one group, under the numbers 0 to 47, and the group's virtual time.
+#[derive(Drop)]
+pub struct ServiceTree {
+    vtime: u64,
+    members: [Option<Member>; 48],
+}
+
+impl Model for ServiceTree {
+    ghost use Rattle.std.specs.Prelude.{◌≡◌, length};
+    ghost use Rattle.service_tree.specs.Members.{Service};
+
+    ghost Value = { Service };
+
+    ghost view = { λ t. record { vtime = t.vtime; members = t.members } };
+
+    // a place for each entity
+    ghost invariant = { λ t. length t.members ≡ 48 };
+}
+
+impl ServiceTree {
+    /// A tree with no member, at a virtual time.
+    pub fn new(vtime: u64) -> ServiceTree
+        ensures { result ≡ record { vtime = vtime; members = replicate 48 None } }
+    {
+        ServiceTree {
+            vtime,
+            members: [None; 48],
+        }
+    }
+
+    /// The virtual time.
+    pub fn vtime(&self) -> u64
+        ensures { result ≡ self.now.vtime }
+    {
+        self.vtime
+    }
+
+    /// Sets the virtual time, and hands back the old one. The members stay.
+    pub fn exchange_vtime(&mut self, vtime: u64) -> u64
+        ensures new { self.new ≡ record self.old { vtime = vtime } }
+        ensures old { result ≡ self.old.vtime }
+    {
+        mem::replace(&mut self.vtime, vtime)
+    }
+
+    /// What is known of an entity, if it is a member.
+    pub fn get(&self, entity: Entity) -> Option<Member>
+        ensures { result ≡ slice_index_or self.now.members entity None }
+    {
+        match self.members.get(usize::from(entity)) {
+            Some(member) => *member,
+            None => None,
+        }
+    }
+
+    /// Puts a member, or none, under an entity's number, and hands back what stood there.
+    /// Where there is no such number nothing happens, and the argument comes back.
+    pub fn exchange(&mut self, entity: Entity, member: Option<Member>) -> Option<Member>
+        ensures new { self.new ≡ record self.old { members = slice_set self.old.members entity member } }
+        ensures old { result ≡ slice_index_or self.old.members entity member }
+    {
+        let at = usize::from(entity);
+        if at < 48 {
+            mem::replace(&mut self.members[at], member)
+        } else {
+            member
+        }
+    }
+
+    /// Puts a member under its number, and hands back what stood there.
+    /// Where there is no such number nothing happens, and the argument comes back.
+    pub fn insert(&mut self, entity: Entity, member: Member) -> Option<Member>
+        ensures new { self.new ≡ record self.old { members = slice_set self.old.members entity (Some member) } }
+        ensures old { result ≡ slice_index_or self.old.members entity (Some member) }
+    {
+        self.exchange(entity, Some(member))
+    }
+
+    /// Takes a member out, and hands it back, if it was there.
+    pub fn remove(&mut self, entity: Entity) -> Option<Member>
+        ensures new { self.new ≡ record self.old { members = slice_set self.old.members entity None } }
+        ensures old { result ≡ slice_index_or self.old.members entity None }
+    {
+        self.exchange(entity, None)
+    }
+
+    /// Of the members that are eligible at a virtual time the one with the least finish; on a tie the one with the
+    /// lower number. None only where no member is eligible.
+    pub fn pick(&self, vtime: u64) -> Option<Entity>
+        ensures value { result ≡ pick vtime self.now.members }
+        ensures picked { MatchOption result (NoneEligible vtime self.now.members) (IsPicked vtime self.now.members) }
+    {
+        let mut found: Option<(Entity, Member)> = None;
+        for entity in (0..48u8).rev() {
+            if let Some(member) = self.members[entity as usize] {
+                if is_eligible(member, vtime) {
+                    found = Some(sooner((entity, member), found));
+                }
+            }
+        }
+        match found {
+            Some(entry) => Some(entry.0),
+            None => None,
+        }
+    }
+
+    /// The least start of the active members. None only where no member is active.
+    pub fn least_start(&self) -> Option<u64>
+        ensures value { result ≡ least_start self.now.members }
+        ensures least { MatchOption result (NoneActive self.now.members) (IsLeastStart self.now.members) }
+    {
+        let mut least: Option<u64> = None;
+        for entity in (0..48u8).rev() {
+            if let Some(member) = self.members[entity as usize] {
+                if is_active(member) {
+                    least = Some(lesser(member.start, least));
+                }
+            }
+        }
+        least
+    }
+
+    /// The sum of the weights of the members that count at a virtual time: the active ones, those in service, and the
+    /// idle ones with a finish after it.
+    pub fn weight_sum(&self, vtime: u64) -> u64
+        ensures { result ≡ weight_sum vtime self.now.members }
+    {
+        let mut sum: u64 = 0;
+        for entity in (0..48u8).rev() {
+            if let Some(member) = self.members[entity as usize] {
+                sum += weight_in_sum(member, vtime);
+            }
+        }
+        sum
+    }
+}
+
+#[cfg(test)]
+mod tests;
