@@ -40,17 +40,17 @@ numbered base (Some m ∷ members) = (base, m) ∷ numbered (base + 1) members
 abbrev pub weight_sum : ℕ → List (Option Member) → ℕ
 weight_sum vtime members = sum_by (λ e. e.1.weight) (filter (λ e. does_count vtime e.1) (numbered 0 members))
 
--- the lesser of a number and what may be another one
+-- the lesser of a number and what may be another one (B-WF2Q+)
 abbrev pub lesser : ℕ → Option ℕ → ℕ
 lesser n None = n
 lesser n (Some other) = if nat_lt other n then other else n
 
--- the least number of a list, if it has one
+-- the least number of a list, if it has one (B-WF2Q+)
 abbrev pub least : List ℕ → Option ℕ
 least [] = None
 least (n ∷ ns) = Some (lesser n (least ns))
 
--- the least start of the active members (B-WF2Q+)
+-- the least start of the active members, if one is active (B-WF2Q+)
 abbrev pub least_start : List (Option Member) → Option ℕ
 least_start members = least (map (λ e. e.1.start) (filter (λ e. is_active e.1.state) (numbered 0 members)))
 
@@ -58,21 +58,21 @@ least_start members = least (map (λ e. e.1.start) (filter (λ e. is_active e.1.
 abbrev pub is_sooner : ℕ × Member → ℕ × Member → Bool
 is_sooner a b = nat_lt a.1.finish b.1.finish || (a.1.finish == b.1.finish) && nat_lt a.0 b.0
 
--- the sooner of an entry and what may be another one
+-- the sooner of an entry and what may be another one (B-WF2Q+)
 abbrev pub sooner : ℕ × Member → Option (ℕ × Member) → ℕ × Member
 sooner e None = e
 sooner e (Some other) = if is_sooner other e then other else e
 
--- the soonest entry of a list, if it has one
+-- the soonest entry of a list, if it has one (B-WF2Q+)
 abbrev pub soonest : List (ℕ × Member) → Option (ℕ × Member)
 soonest [] = None
 soonest (e ∷ es) = Some (sooner e (soonest es))
 
--- the number of the soonest eligible member (B-WF2Q+)
+-- the number of the soonest eligible member, if one is eligible (B-WF2Q+)
 abbrev pub pick : ℕ → List (Option Member) → Option ℕ
 pick vtime members = option_map (λ e. e.0) (soonest (filter (λ e. is_eligible vtime e.1) (numbered 0 members)))
 
--- an active member stands under a number
+-- an active member stands under a number (our profile)
 abbrev pub IsActiveAt : List (Option Member) → ℕ → Member → Type 0
 IsActiveAt members n m = (slice_index_or members n None ≡ Some m) × (m.state ≡ Active)
 
@@ -80,7 +80,7 @@ IsActiveAt members n m = (slice_index_or members n None ≡ Some m) × (m.state 
 abbrev pub IsEligibleAt : ℕ → List (Option Member) → ℕ → Member → Type 0
 IsEligibleAt vtime members n m = IsActiveAt members n m × (m.start ≤ vtime)
 
--- no member is active
+-- no member is active (B-WF2Q+)
 abbrev pub NoneActive : List (Option Member) → Type 0
 NoneActive members = (n : ℕ) (m : Member) → IsActiveAt members n m → ⊥
 
@@ -92,7 +92,7 @@ pub record IsLeastStart (members : List (Option Member)) (start : ℕ) : Type 0 
   pub attained : member.start ≡ start
   pub lowest : (n : ℕ) (m : Member) → IsActiveAt members n m → start ≤ m.start
 
--- no member is eligible
+-- no member is eligible (B-WF2Q+)
 abbrev pub NoneEligible : ℕ → List (Option Member) → Type 0
 NoneEligible vtime members = (n : ℕ) (m : Member) → IsEligibleAt vtime members n m → ⊥
 

@@ -11,27 +11,40 @@ fn member(state: State, start: u64, finish: u64, weight: u32) -> Member {
     }
 }
 
-#[test]
-fn picks(rt: HostRuntime) -> Result<(), Fail> {
+// Members 3 and 7 of one start and one finish, and member 20, which starts later and ends sooner.
+fn three() -> ServiceTree {
     let mut tree = ServiceTree::new(5);
-    assert_eq!(rt; tree.pick(100), None);
-    assert_eq!(rt; tree.least_start(), None);
+    let _ = tree.insert(7, member(State::Active, 10, 30, 5));
+    let _ = tree.insert(3, member(State::Active, 10, 30, 2));
+    let _ = tree.insert(20, member(State::Active, 11, 20, 1));
+    tree
+}
 
-    // Of two equal finishes the lower number is first.
-    assert_eq!(rt; tree.insert(7, member(State::Active, 10, 30, 5)), None);
-    assert_eq!(rt; tree.insert(3, member(State::Active, 10, 30, 2)), None);
-    assert_eq!(rt; tree.pick(10), Some(3));
+#[test]
+fn picks_the_least_finish_of_the_eligible(rt: HostRuntime) -> Result<(), Fail> {
+    let tree = three();
     // A start just above the virtual time is not eligible.
     assert_eq!(rt; tree.pick(9), None);
-    assert_eq!(rt; tree.insert(20, member(State::Active, 11, 20, 1)), None);
+    // Of two equal finishes the lower number is first.
     assert_eq!(rt; tree.pick(10), Some(3));
     assert_eq!(rt; tree.pick(11), Some(20));
-    // One in service and one that is idle are not picked, and their starts do not count.
+    assert_eq!(rt; tree.least_start(), Some(10));
+    Ok(())
+}
+
+#[test]
+fn picks_active_members_alone(rt: HostRuntime) -> Result<(), Fail> {
+    let mut tree = ServiceTree::new(5);
     assert_eq!(rt; tree.insert(0, member(State::Serving, 1, 2, 9)), None);
     assert_eq!(rt; tree.insert(47, member(State::Idle, 1, 2, 9)), None);
-    assert_eq!(rt; tree.pick(11), Some(20));
-    assert_eq!(rt; tree.least_start(), Some(10));
+    assert_eq!(rt; tree.pick(u64::MAX), None);
+    assert_eq!(rt; tree.least_start(), None);
+    Ok(())
+}
 
+#[test]
+fn changes(rt: HostRuntime) -> Result<(), Fail> {
+    let mut tree = three();
     assert_eq!(rt; tree.remove(3), Some(member(State::Active, 10, 30, 2)));
     assert_eq!(rt; tree.get(3), None);
     assert_eq!(rt; tree.pick(10), Some(7));
@@ -41,7 +54,6 @@ fn picks(rt: HostRuntime) -> Result<(), Fail> {
         Some(member(State::Active, 10, 30, 5))
     );
     assert_eq!(rt; tree.get(7), later);
-    assert_eq!(rt; tree.pick(10), None);
     assert_eq!(rt; tree.least_start(), Some(11));
     // Entity 48 is not there.
     assert_eq!(rt; tree.exchange(48, later), later);
