@@ -28,6 +28,9 @@ use sector_core::Entity;
 use std::marker::Model;
 use std::mem;
 
+// How many entities there are: 16 sessions and 32 groups.
+const ENTITIES: u8 = 48;
+
 /// The members of one group, under the numbers 0 to 47, and the group's virtual time.
 #[derive(Drop)]
 pub struct ServiceTree {
@@ -89,9 +92,8 @@ impl ServiceTree {
         ensures new { self.new ≡ record self.old { members = slice_set self.old.members entity member } }
         ensures old { result ≡ slice_index_or self.old.members entity member }
     {
-        let at = usize::from(entity);
-        if at < 48 {
-            mem::replace(&mut self.members[at], member)
+        if entity < ENTITIES {
+            mem::replace(&mut self.members[entity as usize], member)
         } else {
             member
         }
@@ -121,7 +123,7 @@ impl ServiceTree {
         ensures picked { MatchOption result (NoneEligible vtime self.now.members) (IsPicked vtime self.now.members) }
     {
         let mut found: Option<(Entity, Member)> = None;
-        for entity in (0..48u8).rev() {
+        for entity in (0..ENTITIES).rev() {
             if let Some(member) = self.members[entity as usize] {
                 if is_eligible(member, vtime) {
                     found = Some(sooner((entity, member), found));
@@ -140,7 +142,7 @@ impl ServiceTree {
         ensures least { MatchOption result (NoneActive self.now.members) (IsLeastStart self.now.members) }
     {
         let mut least: Option<u64> = None;
-        for entity in (0..48u8).rev() {
+        for entity in (0..ENTITIES).rev() {
             if let Some(member) = self.members[entity as usize] {
                 if is_active(member) {
                     least = Some(lesser(member.start, least));
@@ -156,7 +158,7 @@ impl ServiceTree {
         ensures { result ≡ weight_sum vtime self.now.members }
     {
         let mut sum: u64 = 0;
-        for entity in (0..48u8).rev() {
+        for entity in (0..ENTITIES).rev() {
             if let Some(member) = self.members[entity as usize] {
                 sum += weight_in_sum(member, vtime);
             }
