@@ -1,5 +1,5 @@
 -- The limits of a configuration (our profile).
-use Rattle.std.specs.Prelude.{◌≡◌, ℕ, ◌^◌, Bool, ◌||◌, nat_lt, List, [], ◌∷◌, Option}
+use Rattle.std.specs.Prelude.{◌≡◌, ℕ, ◌^◌, Bool, ◌||◌, nat_lt, [], ◌∷◌, Option}
 use Rattle.sector_core.specs.First.{first_of}
 use Rattle.sector_core.specs.declared.config.Config.{Config}
 use Rattle.sector_core.specs.declared.config.ConfigDraft.{ConfigDraft}
