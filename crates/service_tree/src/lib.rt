@@ -18,7 +18,7 @@
 //! Its contracts see the virtual time and a list of 48 places, one for each entity number.
 
 ghost use Rattle.std.specs.Prelude.{◌≡◌, None, Some, MatchOption, replicate, slice_index_or, slice_set};
-ghost use Rattle.service_tree.specs.Members.{IsLeastStart, IsPicked, NoneActive, NoneEligible, least_start, pick, weight_sum};
+ghost use Rattle.service_tree.specs.Members.{IsLeastStart, IsPicked, NoneActive, NoneEligible, WeighsAtMost, least_start, pick, weight_sum};
 
 mod member;
 
@@ -155,7 +155,8 @@ impl ServiceTree {
     /// The sum of the weights of the members that count at a virtual time: the active ones, those in service, and the
     /// idle ones with a finish after it.
     pub fn weight_sum(&self, vtime: u64) -> u64
-        ensures { result ≡ weight_sum vtime self.now.members }
+        ensures value { result ≡ weight_sum vtime self.now.members }
+        ensures covers { WeighsAtMost vtime self.now.members result }
     {
         let mut sum: u64 = 0;
         for entity in (0..ENTITIES).rev() {

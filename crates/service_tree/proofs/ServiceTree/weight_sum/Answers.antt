@@ -1,5 +1,7 @@
-use Rattle.std.proofs.Common.{◌≡◌, ◌-◌, arith, length}
+use Rattle.std.proofs.Common.{◌≡◌, ◌-◌, arith, length, rules}
+use Rattle.service_tree.specs.Members.{weight_sum}
 use Rattle.service_tree.proofs.Walk.{sum_end, sum_here}
+use Rattle.service_tree.proofs.Covered.{sum_covers}
 use Rattle.service_tree.proofs.ServiceTree.weight_sum.Goals as goal
 
 pub loop-entity-init : goal.loop-entity-init
@@ -13,3 +15,8 @@ loop-entity-preserved-in-Some c =
           (omega arith) (omega arith) c.in-Some.is c.weight_in_sum-sum.ensures.value c.loop-entity.invariant.sum;
       small = omega (arith, c.weight_in_sum-sum.ensures.small);
     }
+
+pub returns-clause-covers : goal.returns-clause-covers
+returns-clause-covers c =
+    let total : c.loop-entity.sum ≡ weight_sum c.args.vtime c.args.self.now.members = search rules in
+    sum_covers c.args.vtime c.args.self.now.members c.loop-entity.sum total
