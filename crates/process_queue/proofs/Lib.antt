@@ -2,3 +2,4 @@ pub mod Placed
 pub mod Shapes
 pub mod FirstThat
 pub mod Nth
+pub mod Least

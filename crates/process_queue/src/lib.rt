@@ -9,6 +9,7 @@
 //! | [`ProcessQueue::nth`] | the slot at a place of a seat's queue |
 //! | [`ProcessQueue::is_empty`] | whether a seat's queue has no slot |
 //! | [`ProcessQueue::merge_place`] | which request of a seat's queue a bio joins, and at which end |
+//! | [`ProcessQueue::next`] | which request of a seat's queue is served next, in the order of sectors from a head on |
 //!
 //! A slot is in one queue at most. A queue is the slots that are linked to its seat, in the order of their serials.
 
@@ -16,6 +17,7 @@ ghost use Rattle.std.specs.Prelude.{◌≡◌, ◌≤◌, None, Some, IfOk, leng
 ghost use Rattle.process_queue.specs.Queue.{first_in, first_slot, insert_in, is_empty, queue_slots};
 
 mod merge;
+mod next;
 mod place;
 
 pub use merge::{Place, Shape};

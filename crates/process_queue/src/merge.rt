@@ -46,7 +46,7 @@ fn sectors(range: Range) -> u64
 }
 
 // What a merge asks of a request, read from the last of its bios to the first.
-fn shape_of(pool: &RequestPool, request: &Request) -> Shape
+pub(crate) fn shape_of(pool: &RequestPool, request: &Request) -> Shape
     ensures { result ≡ shape_of request.now.session request.now.op (bios_at pool.now.bios request.now.bios.items) }
 {
     let slots = request.bios.as_slice();

@@ -1,4 +1,5 @@
-// What no clause says: that queues can be made while memory is left. The rule of merges at numbers, taken from its words.
+// What no clause says: that queues can be made while memory is left. The rules of merges and of the next request at numbers,
+// taken from their words.
 use super::*;
 use arrayvec::ArrayVec;
 use bytes::Bytes;
@@ -171,5 +172,40 @@ fn full_requests(rt: HostRuntime) -> Result<(), Fail> {
         queues.merge_place(&pool, 0, 1, Op::Fetch, bio),
         place(4, false)
     );
+    Ok(())
+}
+
+#[test]
+fn next_requests(rt: HostRuntime) -> Result<(), Fail> {
+    let mut pool = RequestPool::new(rt.alloc(), 8)?;
+    let mut queues = ProcessQueue::new(rt.alloc(), 8)?;
+    assert_eq!(rt; queues.next(&pool, 0, 0), None);
+    // Seat 0 has slots 1, 4 and 2, in this order. Seat 1 has slot 0, and slot 7, which has no request.
+    put(&mut pool, 1, 0, &[range(100, 8)])?;
+    put(&mut pool, 4, 1, &[range(50, 4), range(54, 4)])?;
+    put(&mut pool, 2, 3, &[range(10, 1)])?;
+    put(&mut pool, 0, 4, &[range(60, 8)])?;
+    for link in [(1, 0, 5), (4, 0, 6), (2, 0, 7), (0, 1, 8), (7, 1, 1)] {
+        let _free = queues.link(link.0, link.1, link.2);
+    }
+    assert_eq!(rt; queues.next(&pool, 0, 0), Some(2));
+    assert_eq!(rt; queues.next(&pool, 0, 10), Some(2));
+    assert_eq!(rt; queues.next(&pool, 0, 11), Some(4));
+    assert_eq!(rt; queues.next(&pool, 0, 58), Some(1));
+    assert_eq!(rt; queues.next(&pool, 0, 101), Some(2));
+    assert_eq!(rt; queues.next(&pool, 1, 0), Some(0));
+    assert_eq!(rt; queues.next(&pool, 1, 61), Some(0));
+
+    // Slot 3 starts where slot 4 does, inserted later; slot 6 does so too, inserted earlier.
+    put(&mut pool, 3, 5, &[range(50, 8)])?;
+    let _free = queues.link(3, 0, 9);
+    assert_eq!(rt; queues.next(&pool, 0, 11), Some(4));
+    put(&mut pool, 6, 6, &[range(50, 2)])?;
+    let _free = queues.link(6, 0, 4);
+    assert_eq!(rt; queues.next(&pool, 0, 11), Some(6));
+
+    // A queue whose slots have no request.
+    let _old = queues.unlink(0);
+    assert_eq!(rt; queues.next(&pool, 1, 0), None);
     Ok(())
 }
