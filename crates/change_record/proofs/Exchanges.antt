@@ -6,9 +6,11 @@ use Rattle.std.specs.Cmp.{nat_cmp_total, eq_by_cmp_equiv}
 use Rattle.std.specs.FinMap as map
 use Rattle.overlay.specs.Blocks.{Blocks, exchanged}
 use Rattle.change_record.specs.declared.change.Change.{Change}
-use Rattle.change_record.specs.declared.change.Change.TheVariants.{Sector, RequestSlot, BioSlot, Tag, QueueLink, OutboxWhole, SeatEntry, Served}
+use Rattle.change_record.specs.declared.change.Change.TheVariants.{Sector, RequestSlot, BioSlot, Tag, QueueLink, OutboxWhole, SeatEntry, Served, Head, TreeMember, Vtime, GroupEntry, Pending, Budget, Serving}
+use Rattle.service_tree.specs.declared.member.Member.{Member}
+use Rattle.service_tree.specs.Members.{Service}
 use Rattle.change_record.specs.Tables.{Tables}
-use Rattle.change_record.specs.Exchange.{after, left_by, FitsAt, FitsIn, IsPut, ArePuts, FitBack, forth_tables, forth_left, back_tables, back_left}
+use Rattle.change_record.specs.Exchange.{with_member, with_vtime, after, left_by, FitsAt, FitsIn, IsPut, ArePuts, FitBack, forth_tables, forth_left, back_tables, back_left}
 
 -- lists: putting back what stood there
 set-set_back : {A : Type 0} (xs : List A) (i : ℕ) (y : A) → set (set xs i y) i (get_or xs i y) ≡ xs
@@ -46,6 +48,39 @@ exchanged-exchanged m k w = map.same_map nat_cmp_total map.nat_cmp-IsAntisymmetr
 pub get-exchanged_here : (m : Blocks) (k : ℕ) (w : Option (List ℕ)) → map.get (exchanged m k w) k ≡ w
 get-exchanged_here m k w = get-exchanged m k w k ∙ ap (λ b. cond b w (map.get m k)) ((eq_by_cmp_equiv nat_cmp_total).refl k)
 
+-- trees: putting back what stood in one of them
+abbrev tree_in : List Service → ℕ → Service
+tree_in trees group = get_or trees group (record { vtime = 0; members = [] })
+
+tree_member_back : (trees : List Service) (group entity : ℕ) (member : Option Member) →
+    let now = set trees group (with_member (tree_in trees group) entity member) in
+    set now group (with_member (tree_in now group) entity (get_or (tree_in trees group).members entity member)) ≡ trees
+tree_member_back [] group entity member = refl
+tree_member_back (t ∷ ts) zero entity member = ap (λ l. record t { members = l } ∷ ts) (set-set_back t.members entity member)
+tree_member_back (t ∷ ts) (suc group) entity member = ap (λ l. t ∷ l) (tree_member_back ts group entity member)
+
+member_left_back : (trees : List Service) (group entity : ℕ) (member : Option Member) →
+    let now = set trees group (with_member (tree_in trees group) entity member) in
+    get_or (tree_in now group).members entity (get_or (tree_in trees group).members entity member) ≡ member
+member_left_back [] group entity member = refl
+member_left_back (t ∷ ts) zero entity member = get_or-set_back t.members entity member
+member_left_back (t ∷ ts) (suc group) entity member = member_left_back ts group entity member
+
+vtime_back : (trees : List Service) (group vtime : ℕ) →
+    let now = set trees group (with_vtime (tree_in trees group) vtime) in
+    set now group (with_vtime (tree_in now group) (get_or trees group (with_vtime (tree_in trees group) vtime)).vtime) ≡ trees
+vtime_back [] group vtime = refl
+vtime_back (t ∷ ts) zero vtime = refl
+vtime_back (t ∷ ts) (suc group) vtime = ap (λ l. t ∷ l) (vtime_back ts group vtime)
+
+vtime_left_back : (trees : List Service) (group vtime : ℕ) →
+    let old = (get_or trees group (with_vtime (tree_in trees group) vtime)).vtime in
+    let now = set trees group (with_vtime (tree_in trees group) vtime) in
+    (get_or now group (with_vtime (tree_in now group) old)).vtime ≡ vtime
+vtime_left_back [] group vtime = refl
+vtime_left_back (t ∷ ts) zero vtime = refl
+vtime_left_back (t ∷ ts) (suc group) vtime = vtime_left_back ts group vtime
+
 -- an exchange turned twice leaves the tables and the change as they were
 pub after-after : (t : Tables) (c : Change) → after (after t c) (left_by t c) ≡ t
 after-after t (Sector sector block) = ap (λ m. record t { overlay = m }) (exchanged-exchanged t.overlay sector block)
@@ -56,6 +91,13 @@ after-after t (QueueLink slot link) = ap (λ l. record t { links = l }) (set-set
 after-after t (OutboxWhole seat outbox) = ap (λ l. record t { outboxes = l }) (set-set_back t.outboxes seat outbox)
 after-after t (SeatEntry seat entry) = ap (λ l. record t { seats = l }) (set-set_back t.seats seat entry)
 after-after t (Served seat) = refl
+after-after t (Head seat head) = ap (λ l. record t { heads = l }) (set-set_back t.heads seat head)
+after-after t (TreeMember group entity member) = ap (λ l. record t { trees = l }) (tree_member_back t.trees group entity member)
+after-after t (Vtime group vtime) = ap (λ l. record t { trees = l }) (vtime_back t.trees group vtime)
+after-after t (GroupEntry entity group) = ap (λ l. record t { parents = l }) (set-set_back t.parents entity group)
+after-after t (Pending entity weight) = ap (λ l. record t { weights = l }) (set-set_back t.weights entity weight)
+after-after t (Budget entity budget) = ap (λ l. record t { budgets = l }) (set-set_back t.budgets entity budget)
+after-after t (Serving slot) = refl
 
 pub left_by-after : (t : Tables) (c : Change) → left_by (after t c) (left_by t c) ≡ c
 left_by-after t (Sector sector block) = ap (Sector sector) (get-exchanged_here t.overlay sector block)
@@ -66,6 +108,13 @@ left_by-after t (QueueLink slot link) = ap (QueueLink slot) (get_or-set_back t.l
 left_by-after t (OutboxWhole seat outbox) = ap (OutboxWhole seat) (get_or-set_back t.outboxes seat outbox)
 left_by-after t (SeatEntry seat entry) = ap (SeatEntry seat) (get_or-set_back t.seats seat entry)
 left_by-after t (Served seat) = refl
+left_by-after t (Head seat head) = ap (Head seat) (get_or-set_back t.heads seat head)
+left_by-after t (TreeMember group entity member) = ap (TreeMember group entity) (member_left_back t.trees group entity member)
+left_by-after t (Vtime group vtime) = ap (Vtime group) (vtime_left_back t.trees group vtime)
+left_by-after t (GroupEntry entity group) = ap (GroupEntry entity) (get_or-set_back t.parents entity group)
+left_by-after t (Pending entity weight) = ap (Pending entity) (get_or-set_back t.weights entity weight)
+left_by-after t (Budget entity budget) = ap (Budget entity) (get_or-set_back t.budgets entity budget)
+left_by-after t (Serving slot) = refl
 
 -- lists turned forth and then back
 pub back_tables-forth : (cs : List Change) (t : Tables) → back_tables (forth_left cs t) (forth_tables cs t) ≡ t
@@ -145,6 +194,13 @@ FitsIn-left_by t (QueueLink slot link) p = tt
 FitsIn-left_by t (OutboxWhole seat outbox) p = tt
 FitsIn-left_by t (SeatEntry seat entry) p = tt
 FitsIn-left_by t (Served seat) p = tt
+FitsIn-left_by t (Head seat head) p = tt
+FitsIn-left_by t (TreeMember group entity member) p = tt
+FitsIn-left_by t (Vtime group vtime) p = tt
+FitsIn-left_by t (GroupEntry entity group) p = tt
+FitsIn-left_by t (Pending entity weight) p = tt
+FitsIn-left_by t (Budget entity budget) p = tt
+FitsIn-left_by t (Serving slot) p = tt
 
 pub FitBack-forth : (cs : List Change) (t : Tables) → ArePuts cs → FitBack (forth_left cs t) (forth_tables cs t)
 FitBack-forth [] t p = tt

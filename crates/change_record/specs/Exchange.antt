@@ -3,8 +3,21 @@ use Rattle.std.specs.Prelude.{◌≡◌, ℕ, List, [], ◌∷◌, Option, None,
 use Rattle.std.specs.FinMap as map
 use Rattle.overlay.specs.Blocks.{Blocks, exchanged}
 use Rattle.change_record.specs.declared.change.Change.{Change}
-use Rattle.change_record.specs.declared.change.Change.TheVariants.{Sector, RequestSlot, BioSlot, Tag, QueueLink, OutboxWhole, SeatEntry, Served}
+use Rattle.change_record.specs.declared.change.Change.TheVariants.{Sector, RequestSlot, BioSlot, Tag, QueueLink, OutboxWhole, SeatEntry, Served, Head, TreeMember, Vtime, GroupEntry, Pending, Budget, Serving}
+use Rattle.service_tree.specs.declared.member.Member.{Member}
+use Rattle.service_tree.specs.Members.{Service}
 use Rattle.change_record.specs.Tables.{Tables}
+
+-- the tree of a group; where there is no such group, one without a place
+abbrev pub tree_at : Tables → ℕ → Service
+tree_at t group = slice_index_or t.trees group (record { vtime = 0; members = [] })
+
+-- a tree with this at an entity's place, and one at this virtual time
+abbrev pub with_member : Service → ℕ → Option Member → Service
+with_member tree entity member = record tree { members = slice_set tree.members entity member }
+
+abbrev pub with_vtime : Service → ℕ → Service
+with_vtime tree vtime = record tree { vtime = vtime }
 
 -- the tables with the change's value at its place
 abbrev pub after : Tables → Change → Tables
@@ -16,6 +29,13 @@ after t (QueueLink slot link) = record t { links = slice_set t.links slot link }
 after t (OutboxWhole seat outbox) = record t { outboxes = slice_set t.outboxes seat outbox }
 after t (SeatEntry seat entry) = record t { seats = slice_set t.seats seat entry }
 after t (Served seat) = record t { served = seat }
+after t (Head seat head) = record t { heads = slice_set t.heads seat head }
+after t (TreeMember group entity member) = record t { trees = slice_set t.trees group (with_member (tree_at t group) entity member) }
+after t (Vtime group vtime) = record t { trees = slice_set t.trees group (with_vtime (tree_at t group) vtime) }
+after t (GroupEntry entity group) = record t { parents = slice_set t.parents entity group }
+after t (Pending entity weight) = record t { weights = slice_set t.weights entity weight }
+after t (Budget entity budget) = record t { budgets = slice_set t.budgets entity budget }
+after t (Serving slot) = record t { slot = slot }
 
 -- the change with the value that stood at its place; where there is no such place, as it was
 abbrev pub left_by : Tables → Change → Change
@@ -27,6 +47,13 @@ left_by t (QueueLink slot link) = QueueLink slot (slice_index_or t.links slot li
 left_by t (OutboxWhole seat outbox) = OutboxWhole seat (slice_index_or t.outboxes seat outbox)
 left_by t (SeatEntry seat entry) = SeatEntry seat (slice_index_or t.seats seat entry)
 left_by t (Served seat) = Served t.served
+left_by t (Head seat head) = Head seat (slice_index_or t.heads seat head)
+left_by t (TreeMember group entity member) = TreeMember group entity (slice_index_or (tree_at t group).members entity member)
+left_by t (Vtime group vtime) = Vtime group (slice_index_or t.trees group (with_vtime (tree_at t group) vtime)).vtime
+left_by t (GroupEntry entity group) = GroupEntry entity (slice_index_or t.parents entity group)
+left_by t (Pending entity weight) = Pending entity (slice_index_or t.weights entity weight)
+left_by t (Budget entity budget) = Budget entity (slice_index_or t.budgets entity budget)
+left_by t (Serving slot) = Serving t.slot
 
 -- the exchange would add a block to the overlay, the one thing that takes memory
 abbrev pub AddsBlock : Tables → Change → Type 0
@@ -38,6 +65,13 @@ AddsBlock t (QueueLink slot link) = ⊥
 AddsBlock t (OutboxWhole seat outbox) = ⊥
 AddsBlock t (SeatEntry seat entry) = ⊥
 AddsBlock t (Served seat) = ⊥
+AddsBlock t (Head seat head) = ⊥
+AddsBlock t (TreeMember group entity member) = ⊥
+AddsBlock t (Vtime group vtime) = ⊥
+AddsBlock t (GroupEntry entity group) = ⊥
+AddsBlock t (Pending entity weight) = ⊥
+AddsBlock t (Budget entity budget) = ⊥
+AddsBlock t (Serving slot) = ⊥
 
 -- at this sector there is a block already, or none is put there
 abbrev pub FitsAt : Blocks → ℕ → Option (List ℕ) → Type 0
@@ -54,6 +88,13 @@ FitsIn t (QueueLink slot link) = Unit {0}
 FitsIn t (OutboxWhole seat outbox) = Unit {0}
 FitsIn t (SeatEntry seat entry) = Unit {0}
 FitsIn t (Served seat) = Unit {0}
+FitsIn t (Head seat head) = Unit {0}
+FitsIn t (TreeMember group entity member) = Unit {0}
+FitsIn t (Vtime group vtime) = Unit {0}
+FitsIn t (GroupEntry entity group) = Unit {0}
+FitsIn t (Pending entity weight) = Unit {0}
+FitsIn t (Budget entity budget) = Unit {0}
+FitsIn t (Serving slot) = Unit {0}
 
 -- all changes of a list in order: the tables after them, and what each leaves
 abbrev pub forth_tables : List Change → Tables → Tables
@@ -93,6 +134,13 @@ IsPut (QueueLink slot link) = Unit {0}
 IsPut (OutboxWhole seat outbox) = Unit {0}
 IsPut (SeatEntry seat entry) = Unit {0}
 IsPut (Served seat) = Unit {0}
+IsPut (Head seat head) = Unit {0}
+IsPut (TreeMember group entity member) = Unit {0}
+IsPut (Vtime group vtime) = Unit {0}
+IsPut (GroupEntry entity group) = Unit {0}
+IsPut (Pending entity weight) = Unit {0}
+IsPut (Budget entity budget) = Unit {0}
+IsPut (Serving slot) = Unit {0}
 
 abbrev pub ArePuts : List Change → Type 0
 ArePuts [] = Unit {0}

@@ -2,7 +2,6 @@
 use Rattle.std.specs.Prelude.{ℕ, ◌==◌, List, [], Option, None, if◌then◌else◌, slice_index_or}
 use Rattle.std.specs.List.{filter_map}
 use Rattle.std.specs.Option.{option_map, option_and_then}
-use Rattle.std.specs.FinMap as map
 use Rattle.arrayvec.specs.ArrayVec.{ArrayVec}
 use Rattle.sector_core.specs.declared.bio.Op.{Op}
 use Rattle.sector_core.specs.declared.bio.Bio.{Bio}
@@ -12,6 +11,11 @@ use Rattle.overlay.specs.Blocks.{Blocks}
 use Rattle.process_queue.specs.Queue.{queue_slots}
 use Rattle.process_queue.specs.Merge.{bios_at}
 use Rattle.change_record.specs.Tables.{Tables}
+use Rattle.change_record.specs.Exchange.{tree_at}
+use Rattle.change_record.specs.declared.change.InService.{InService}
+use Rattle.service_tree.specs.Members.{Service}
+use Rattle.group_tree.specs.Groups.{parent}
+use Rattle.sector_core.specs.declared.config.Scheduler.{Scheduler}
 
 -- blk-mq: a request is what is sent to the device as one; its bios are in the order of their sectors
 pub record WholeRequest : Type 0 where
@@ -23,6 +27,19 @@ pub record WholeRequest : Type 0 where
 pub record Flight : Type 0 where
   pub issue : ℕ
   pub request : WholeRequest
+
+-- bfq: hierarchical scheduling by weights. Seat n is entity n, and group g from 1 on is entity 16 + g (our profile).
+pub record Bfq : Type 0 where
+  -- the group that an entity is in; group 0 is the root
+  pub parent : ℕ → Option ℕ
+  -- B-WF2Q+: of each group its virtual time, and its members: of each its state, start, finish and weight in effect
+  pub service : ℕ → Service
+  -- the weight that an entity gets when it is stamped next
+  pub pending : ℕ → ℕ
+  -- bfq: how many sectors an entity may be served at a time
+  pub budget : ℕ → ℕ
+  -- bfq: the one queue in service, if one is
+  pub slot : Option InService
 
 pub record Plain : Type 0 where
   -- the blocks that have been stored, by sector
@@ -37,17 +54,11 @@ pub record Plain : Type 0 where
   pub flight : ℕ → Option Flight
   -- the seat that the round robin served last
   pub served : ℕ
-
--- a machine before its first step
-abbrev pub opening : Plain
-opening = record {
-  overlay = map.empty;
-  seat = λ _. None;
-  queue = λ _. [];
-  outbox = λ _. [];
-  flight = λ _. None;
-  served = 15;
-}
+  -- bfq: where the head of a seat's queue is, a sector
+  pub head : ℕ → ℕ
+  -- what BFQ knows of entities and groups
+  pub bfq : Bfq
+  pub scheduler : Scheduler
 
 -- a function with another value at one number
 abbrev pub put : {A : Type 0} → (ℕ → A) → ℕ → A → ℕ → A
@@ -64,6 +75,15 @@ whole_at requests bios slot =
 abbrev pub outbox_at : List (ArrayVec ℕ) → ℕ → List ℕ
 outbox_at outboxes seat = (slice_index_or outboxes seat (record { items = [] })).items
 
+abbrev pub bfq_of : Tables → Bfq
+bfq_of t = record {
+  parent = parent t.parents;
+  service = tree_at t;
+  pending = λ entity. slice_index_or t.weights entity 1;
+  budget = λ entity. slice_index_or t.budgets entity 256;
+  slot = t.slot;
+}
+
 abbrev pub meaning : Tables → Plain
 meaning t = record {
   overlay = t.overlay;
@@ -72,4 +92,7 @@ meaning t = record {
   outbox = λ seat. bios_at t.bios (outbox_at t.outboxes seat);
   flight = λ tag. option_and_then (λ issue. option_map (λ r. record { issue = issue.issue; request = r }) (whole_at t.requests t.bios issue.slot)) (slice_index_or t.tags tag None);
   served = t.served;
+  head = λ seat. slice_index_or t.heads seat 0;
+  bfq = bfq_of t;
+  scheduler = t.scheduler;
 }

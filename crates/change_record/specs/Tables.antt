@@ -1,12 +1,16 @@
 -- What stands at each place: lists and one finite map, with no rule that joins them (our profile).
-use Rattle.std.specs.Prelude.{ℕ, List, [], Option, None, replicate}
+use Rattle.std.specs.Prelude.{ℕ, List, [], ◌++◌, Option, None, replicate}
 use Rattle.std.specs.FinMap as map
 use Rattle.arrayvec.specs.ArrayVec.{ArrayVec}
 use Rattle.sector_core.specs.declared.bio.Bio.{Bio}
+use Rattle.sector_core.specs.declared.config.Scheduler.{Scheduler}
 use Rattle.request_pool.specs.declared.Request.{Request}
 use Rattle.tag_set.specs.declared.Issue.{Issue}
 use Rattle.process_queue.specs.declared.Link.{Link}
+use Rattle.service_tree.specs.Members.{Service}
 use Rattle.change_record.specs.declared.change.Seat.{Seat}
+use Rattle.change_record.specs.declared.change.InService.{InService}
+use Rattle.change_record.specs.declared.change.Making.{Making}
 use Rattle.overlay.specs.Blocks.{Blocks}
 
 pub record Tables : Type 0 where
@@ -18,21 +22,42 @@ pub record Tables : Type 0 where
   pub outboxes : List (ArrayVec ℕ)
   pub seats : List (Option Seat)
   pub served : ℕ
+  -- where each queue's head is, a sector
+  pub heads : List ℕ
+  -- of each group its virtual time and its members
+  pub trees : List Service
+  -- of each entity its group, its pending weight and its budget
+  pub parents : List (Option ℕ)
+  pub weights : List ℕ
+  pub budgets : List ℕ
+  pub slot : Option InService
+  pub scheduler : Scheduler
 
 -- the tables, and how many exchanges were made on them
 pub record Loose : Type 0 where
   pub tables : Tables
   pub turns : ℕ
 
+-- a group without a member, at a virtual time
+abbrev pub empty_service : ℕ → Service
+empty_service vtime = record { vtime = vtime; members = replicate 48 None }
+
 -- the tables of a new machine: every place is free, and the round robin begins at seat 0
-abbrev pub empty_tables : ℕ → ℕ → Tables
-empty_tables requests tags = record {
+abbrev pub empty_tables : Making → Tables
+empty_tables making = record {
   overlay = map.empty;
-  requests = replicate requests None;
+  requests = replicate making.requests None;
   bios = replicate 512 None;
-  tags = replicate tags None;
-  links = replicate requests None;
+  tags = replicate making.tags None;
+  links = replicate making.requests None;
   outboxes = replicate 16 (record { items = [] });
   seats = replicate 16 None;
   served = 15;
+  heads = replicate 16 0;
+  trees = replicate 32 (empty_service making.first_vtime);
+  parents = replicate 48 None;
+  weights = replicate 48 1;
+  budgets = replicate 16 making.first_budget ++ replicate 32 making.max_budget;
+  slot = None;
+  scheduler = making.scheduler;
 }

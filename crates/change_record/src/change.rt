@@ -2,7 +2,8 @@
 use arrayvec::ArrayVec;
 use process_queue::Link;
 use request_pool::Request;
-use sector_core::{Bio, Block, Slot};
+use sector_core::{Bio, Block, Entity, Scheduler, Slot};
+use service_tree::Member;
 use tag_set::Issue;
 
 /// The slots of a seat's completed bios, the first to be reaped first.
@@ -13,12 +14,38 @@ pub type Outbox = ArrayVec<Slot, 32>;
 pub struct Seat {
     /// The session: the serial of its attach.
     pub session: u64,
-    /// Its group; 0 is the root.
-    pub group: u8,
     /// Its priority, 0 to 7.
     pub prio: u8,
     /// How many of its bios are submitted and not yet reaped, at most 32.
     pub unreaped: u8,
+}
+
+/// The queue in service.
+#[derive(Clone, Copy, Debug, PartialEq, Eq)]
+pub struct InService {
+    /// Its seat.
+    pub seat: u8,
+    /// The sectors that were sent since it was selected.
+    pub service: u32,
+    /// The ticks since it was selected.
+    pub age: u32,
+}
+
+/// What the tables of a machine are made for.
+#[derive(Clone, Copy, Debug, PartialEq, Eq)]
+pub struct Making {
+    /// How many requests may be queued or in flight.
+    pub requests: u16,
+    /// How many tags the device has.
+    pub tags: u8,
+    /// The scheduler that the host starts with.
+    pub scheduler: Scheduler,
+    /// The budget of a new queue in sectors.
+    pub first_budget: u32,
+    /// The greatest budget in sectors; a group's is always that.
+    pub max_budget: u32,
+    /// The virtual time at which every group starts.
+    pub first_vtime: u64,
 }
 
 /// An exchange: a place of the tables, and the value that is to stand there, or after a turn the one that stood there.
@@ -62,5 +89,40 @@ pub enum Change {
     /// The seat that the round robin served last.
     Served {
         seat: u8,
+    },
+    /// The head of a seat's queue, a sector.
+    Head {
+        seat: u8,
+        head: u64,
+    },
+    /// What the tree of a group knows of an entity.
+    TreeMember {
+        group: u8,
+        entity: Entity,
+        member: Option<Member>,
+    },
+    /// The virtual time of a group.
+    Vtime {
+        group: u8,
+        vtime: u64,
+    },
+    /// The group that an entity is in.
+    GroupEntry {
+        entity: Entity,
+        group: Option<u8>,
+    },
+    /// The pending weight of an entity.
+    Pending {
+        entity: Entity,
+        weight: u32,
+    },
+    /// The budget of an entity in sectors.
+    Budget {
+        entity: Entity,
+        budget: u32,
+    },
+    /// The queue in service, if one is.
+    Serving {
+        slot: Option<InService>,
     },
 }

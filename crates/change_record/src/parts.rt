@@ -1,21 +1,23 @@
 // All tables of the host.
-ghost use Rattle.std.specs.Prelude.{◌≡◌, ◌+◌, ◌%◌, ◌^◌, None, IfOk, IsOk, OnOk, OnErr, IfSome, MatchOption, replicate, slice_index_or, slice_get, []};
+ghost use Rattle.std.specs.Prelude.{◌≡◌, ◌+◌, ◌%◌, ◌^◌, None, IfOk, IsOk, OnOk, OnErr, IfSome, MatchOption, ◌++◌, replicate, slice_index_or, slice_get, []};
 ghost use Rattle.std.specs.Option.{option_copied};
-ghost use Rattle.change_record.specs.Tables.{empty_tables};
+ghost use Rattle.change_record.specs.Tables.{empty_tables, empty_service};
 ghost use Rattle.change_record.specs.Exchange.{after, left_by, AddsBlock, FitsIn};
 
-use crate::{Change, Outbox, Seat};
+use crate::{Change, InService, Making, Outbox, Seat};
 use arrayvec::ArrayVec;
+use group_tree::GroupTree;
 use overlay::Overlay;
 use process_queue::ProcessQueue;
 use request_pool::RequestPool;
-use sector_core::{OutOfMemory, empty_table};
+use sector_core::{Entity, OutOfMemory, Scheduler, empty_table};
+use service_tree::ServiceTree;
 use std::alloc::Global;
 use std::marker::Model;
 use std::mem;
 use tag_set::TagSet;
 
-/// The overlay, the pool, the tags, the queues, the outboxes, the seats and the round robin.
+/// The overlay, the pool, the tags, the queues, the outboxes, the seats, the round robin, and what BFQ knows of entities and groups.
 #[derive(Drop)]
 pub struct Parts {
     overlay: Overlay,
@@ -25,6 +27,13 @@ pub struct Parts {
     outboxes: Vec<Outbox>,
     seats: Vec<Option<Seat>>,
     served: u8,
+    heads: Vec<u64>,
+    trees: Vec<ServiceTree>,
+    groups: GroupTree,
+    weights: Vec<u32>,
+    budgets: Vec<u32>,
+    slot: Option<InService>,
+    scheduler: Scheduler,
     turns: u64,
 }
 
@@ -47,24 +56,38 @@ impl Model for Parts {
         outboxes = p.outboxes.items;
         seats = p.seats.items;
         served = p.served;
+        heads = p.heads.items;
+        trees = p.trees.items;
+        parents = p.groups;
+        weights = p.weights.items;
+        budgets = p.budgets.items;
+        slot = p.slot;
+        scheduler = p.scheduler;
       };
       turns = p.turns;
     } };
 }
 
 impl Parts {
-    /// Empty tables for `requests` requests and `tags` tags.
-    pub fn new(alloc: Global, requests: u16, tags: u8) -> Result<Parts, OutOfMemory>
-        ensures { IfOk result (λ parts. parts ≡ record { tables = empty_tables requests tags; turns = 0 }) }
+    /// Empty tables.
+    pub fn new(alloc: Global, making: Making) -> Result<Parts, OutOfMemory>
+        ensures { IfOk result (λ parts. parts ≡ record { tables = empty_tables making; turns = 0 }) }
     {
         Ok(Parts {
             overlay: Overlay::new(alloc),
-            pool: RequestPool::new(alloc, requests)?,
-            tags: TagSet::new(alloc, tags)?,
-            queues: ProcessQueue::new(alloc, requests)?,
+            pool: RequestPool::new(alloc, making.requests)?,
+            tags: TagSet::new(alloc, making.tags)?,
+            queues: ProcessQueue::new(alloc, making.requests)?,
             outboxes: empty_outboxes(alloc)?,
             seats: empty_table(alloc, 16)?,
             served: 15,
+            heads: table_of(alloc, 16, 0)?,
+            trees: empty_trees(alloc, making.first_vtime)?,
+            groups: GroupTree::new(),
+            weights: table_of(alloc, 48, 1)?,
+            budgets: first_budgets(alloc, making.first_budget, making.max_budget)?,
+            slot: None,
+            scheduler: making.scheduler,
             turns: 0,
         })
     }
@@ -129,6 +152,64 @@ impl Parts {
         self.served
     }
 
+    /// Where the head of a seat's queue is, a sector.
+    pub fn head(&self, seat: u8) -> u64
+        ensures { result ≡ slice_index_or self.now.tables.heads seat 0 }
+    {
+        match self.heads.get(usize::from(seat)) {
+            Some(head) => *head,
+            None => 0,
+        }
+    }
+
+    /// The tree of a group.
+    pub fn tree(&self, group: u8) -> Option<&ServiceTree>
+        ensures { option_copied result ≡ slice_get self.now.tables.trees group }
+    {
+        self.trees.get(usize::from(group))
+    }
+
+    /// The groups.
+    pub fn groups(&self) -> &GroupTree
+        ensures { result.now ≡ self.now.tables.parents }
+    {
+        &self.groups
+    }
+
+    /// The pending weight of an entity.
+    pub fn pending(&self, entity: Entity) -> u32
+        ensures { result ≡ slice_index_or self.now.tables.weights entity 1 }
+    {
+        match self.weights.get(usize::from(entity)) {
+            Some(weight) => *weight,
+            None => 1,
+        }
+    }
+
+    /// The budget of an entity in sectors.
+    pub fn budget(&self, entity: Entity) -> u32
+        ensures { result ≡ slice_index_or self.now.tables.budgets entity 256 }
+    {
+        match self.budgets.get(usize::from(entity)) {
+            Some(budget) => *budget,
+            None => 256,
+        }
+    }
+
+    /// The queue in service, if one is.
+    pub fn slot(&self) -> Option<InService>
+        ensures { result ≡ self.now.tables.slot }
+    {
+        self.slot
+    }
+
+    /// The scheduler.
+    pub fn scheduler(&self) -> Scheduler
+        ensures { result ≡ self.now.tables.scheduler }
+    {
+        self.scheduler
+    }
+
     /// Puts the change's value at its place, and the value that stood there into the change.
     ///
     /// # Errors
@@ -186,6 +267,41 @@ impl Parts {
             Change::Served { seat } => {
                 mem::swap(&mut self.served, seat);
             }
+            Change::Head { seat, head } => {
+                if let Some(place) = self.heads.get_mut(usize::from(*seat)) {
+                    mem::swap(place, head);
+                }
+            }
+            Change::TreeMember {
+                group,
+                entity,
+                member,
+            } => {
+                if let Some(tree) = self.trees.get_mut(usize::from(*group)) {
+                    *member = tree.exchange(*entity, *member);
+                }
+            }
+            Change::Vtime { group, vtime } => {
+                if let Some(tree) = self.trees.get_mut(usize::from(*group)) {
+                    *vtime = tree.exchange_vtime(*vtime);
+                }
+            }
+            Change::GroupEntry { entity, group } => {
+                *group = self.groups.exchange_group(*entity, *group);
+            }
+            Change::Pending { entity, weight } => {
+                if let Some(place) = self.weights.get_mut(usize::from(*entity)) {
+                    mem::swap(place, weight);
+                }
+            }
+            Change::Budget { entity, budget } => {
+                if let Some(place) = self.budgets.get_mut(usize::from(*entity)) {
+                    mem::swap(place, budget);
+                }
+            }
+            Change::Serving { slot } => {
+                mem::swap(&mut self.slot, slot);
+            }
         }
         self.turns = self.turns.wrapping_add(1);
         Ok(())
@@ -201,4 +317,37 @@ fn empty_outboxes(alloc: Global) -> Result<Vec<Outbox>, OutOfMemory>
         boxes.push(ArrayVec::new())?;
     }
     Ok(boxes)
+}
+
+// So many times the same number.
+fn table_of<T: Copy>(alloc: Global, count: u16, value: T) -> Result<Vec<T>, OutOfMemory>
+    ensures { IfOk result (λ table. table.items ≡ replicate count value) }
+{
+    let mut table = Vec::with_capacity(alloc, usize::from(count))?;
+    for _ in 0..count {
+        table.push(value)?;
+    }
+    Ok(table)
+}
+
+// The budgets of the 16 seats and of the 32 groups.
+fn first_budgets(alloc: Global, seats: u32, groups: u32) -> Result<Vec<u32>, OutOfMemory>
+    ensures { IfOk result (λ table. table.items ≡ replicate 16 seats ++ replicate 32 groups) }
+{
+    let mut table = table_of(alloc, 16, seats)?;
+    for _ in 0..32u8 {
+        table.push(groups)?;
+    }
+    Ok(table)
+}
+
+// The trees of the 32 groups, without a member.
+fn empty_trees(alloc: Global, vtime: u64) -> Result<Vec<ServiceTree>, OutOfMemory>
+    ensures { IfOk result (λ trees. trees.items ≡ replicate 32 (empty_service vtime)) }
+{
+    let mut trees = Vec::with_capacity(alloc, 32)?;
+    for _ in 0..32u8 {
+        trees.push(ServiceTree::new(vtime))?;
+    }
+    Ok(trees)
 }

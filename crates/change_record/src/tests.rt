@@ -1,12 +1,21 @@
 // The exchanges in examples: the rules are proved, and these say what they mean, and that a call succeeds while memory is left.
 use super::*;
 use bytes::Bytes;
-use sector_core::Block;
+use sector_core::{Block, Scheduler};
 use std::test::Fail;
+
+const MAKING: Making = Making {
+    requests: 4,
+    tags: 2,
+    scheduler: Scheduler::Bfq,
+    first_budget: 1024,
+    max_budget: 4096,
+    first_vtime: 7,
+};
 
 #[test]
 fn new_tables(rt: HostRuntime) -> Result<(), Fail> {
-    let parts = Parts::new(rt.alloc(), 4, 2)?;
+    let parts = Parts::new(rt.alloc(), MAKING)?;
     assert_eq!(rt; parts.turns(), 0);
     // Seat 15 counts as served, so that seat 0 is the first.
     assert_eq!(rt; parts.served(), 15);
@@ -30,7 +39,7 @@ fn new_tables(rt: HostRuntime) -> Result<(), Fail> {
 
 #[test]
 fn a_turn_and_back(rt: HostRuntime) -> Result<(), Fail> {
-    let mut parts = Parts::new(rt.alloc(), 4, 2)?;
+    let mut parts = Parts::new(rt.alloc(), MAKING)?;
     let mut change = Change::Sector {
         sector: 5,
         block: Some(Block::new(Bytes::from_static(&[65; 512]))),
@@ -69,7 +78,7 @@ fn a_turn_and_back(rt: HostRuntime) -> Result<(), Fail> {
 
 #[test]
 fn a_step_forth_and_back(rt: HostRuntime) -> Result<(), Fail> {
-    let mut parts = Parts::new(rt.alloc(), 4, 2)?;
+    let mut parts = Parts::new(rt.alloc(), MAKING)?;
     let mut tape = Tape::new(rt.alloc());
     tape.reserve(2)?;
     tape.push(Change::Served { seat: 7 });
@@ -90,7 +99,7 @@ fn a_step_forth_and_back(rt: HostRuntime) -> Result<(), Fail> {
 
 #[test]
 fn a_block_stored_by_a_step(rt: HostRuntime) -> Result<(), Fail> {
-    let mut parts = Parts::new(rt.alloc(), 4, 2)?;
+    let mut parts = Parts::new(rt.alloc(), MAKING)?;
     let mut tape = Tape::new(rt.alloc());
     tape.reserve(1)?;
     tape.try_exchange(
@@ -115,7 +124,7 @@ fn a_block_stored_by_a_step(rt: HostRuntime) -> Result<(), Fail> {
 
 #[test]
 fn steps_dropped(rt: HostRuntime) -> Result<(), Fail> {
-    let mut parts = Parts::new(rt.alloc(), 4, 2)?;
+    let mut parts = Parts::new(rt.alloc(), MAKING)?;
     let mut tape = Tape::new(rt.alloc());
     assert_eq!(rt; tape.len(), 0);
     tape.reserve(1)?;
@@ -137,7 +146,7 @@ fn steps_dropped(rt: HostRuntime) -> Result<(), Fail> {
 
 #[test]
 fn a_step_that_is_given_up(rt: HostRuntime) -> Result<(), Fail> {
-    let mut parts = Parts::new(rt.alloc(), 4, 2)?;
+    let mut parts = Parts::new(rt.alloc(), MAKING)?;
     let mut tape = Tape::new(rt.alloc());
     tape.reserve(3)?;
     tape.exchange(&mut parts, Change::Served { seat: 4 });

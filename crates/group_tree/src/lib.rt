@@ -76,7 +76,7 @@ impl GroupTree {
 
     /// How many levels a group is under the root; the root is at level 0.
     pub fn depth(&self, group: u8) -> u8
-        ensures level { result ≡ depth self.now group }
+        ensures level { result ≡ depth (parent self.now) group }
         ensures few { result ≤ 4 }
     {
         self.climb(ArrayVec::new(), Some(group)).len() as u8
@@ -84,7 +84,7 @@ impl GroupTree {
 
     /// An entity and the groups above it, the nearest first.
     pub fn path(&self, entity: Entity) -> ArrayVec<Entity, 5>
-        ensures { result.items ≡ path self.now entity }
+        ensures { result.items ≡ path (parent self.now) entity }
     {
         let mut path = ArrayVec::new();
         path.push(entity);
@@ -94,7 +94,7 @@ impl GroupTree {
     // The path with the entities of a group and of those above it at its end.
     fn climb(&self, path: ArrayVec<Entity, 5>, group: Option<u8>) -> ArrayVec<Entity, 5>
         requires { length path.items ≤ 1 }
-        ensures climbed { result.items ≡ path.items ++ climb 4 self.now group }
+        ensures climbed { result.items ≡ path.items ++ climb 4 (parent self.now) group }
         ensures few { length result.items ≤ length path.items + 4 }
     {
         let mut path = path;

@@ -9,6 +9,8 @@ use thiserror::Error;
 pub enum Scheduler {
     /// `none`: the software queues in turn, each in order of insertion.
     Plain,
+    /// `bfq`: one queue in service at a time, with a budget, by weights.
+    Bfq,
 }
 
 /// The numbers as they were given, of any size.
