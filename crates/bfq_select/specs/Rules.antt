@@ -1,0 +1,168 @@
+-- The four rules of BFQ, on the plain machine: activate, select, charge and expire.
+use Rattle.std.specs.Prelude.{ℕ, zero, suc, ◌+◌, ◌-◌, ◌*◌, ◌/◌, ◌^◌, ◌==◌, nat_le, nat_lt, min, max, Bool, true, false, List, [], ◌∷◌, Option, None, Some, is_some, unwrap_or, if◌then◌else◌, slice_index_or}
+use Rattle.std.specs.Option.{option_and_then, option_map_or}
+use Rattle.service_tree.specs.declared.member.State.{State}
+use Rattle.service_tree.specs.declared.member.State.TheVariants.{Idle, Active, Serving}
+use Rattle.service_tree.specs.declared.member.Member.{Member}
+use Rattle.service_tree.specs.Members.{weight_sum, least_start, pick}
+use Rattle.group_tree.specs.Groups.{path, has_entity}
+use Rattle.change_record.specs.declared.change.InService.{InService}
+use Rattle.change_record.specs.Exchange.{with_member, with_vtime}
+use Rattle.change_record.specs.Machine.{Bfq, put}
+use Rattle.bfq_select.specs.declared.expiry.Expiry.{Expiry}
+use Rattle.bfq_select.specs.declared.expiry.Expiry.TheVariants.{Exhaustion, Emptying}
+
+-- no time is greater; a rule that would make a greater one is refused (our profile)
+abbrev pub top : ℕ
+top = 2 ^ 62
+
+-- the virtual time that the service of some sectors takes at a weight (B-WF2Q+; the scale is our profile; for weight 0, which no entity
+-- has, it is 0)
+abbrev pub delta : ℕ → ℕ → ℕ
+delta sectors weight = if weight == 0 then 0 else sectors * 2 ^ 22 / weight
+
+-- What is known of an entity and of a group.
+
+-- the group that an entity is in (bfq)
+abbrev pub group_of : Bfq → ℕ → ℕ
+group_of b entity = unwrap_or (b.parent entity) 0
+
+-- what is known of an entity that is no member (our profile)
+abbrev pub absent : Member
+absent = record { state = Idle; start = 0; finish = 0; weight = 0 }
+
+-- what a group's tree knows of an entity (B-WF2Q+)
+abbrev pub member_in : Bfq → ℕ → ℕ → Member
+member_in b group entity = unwrap_or (slice_index_or (b.service group).members entity None) absent
+
+-- what the tree of its own group knows of an entity (B-WF2Q+)
+abbrev pub member_of : Bfq → ℕ → Member
+member_of b entity = member_in b (group_of b entity) entity
+
+-- the virtual time of a group (B-WF2Q+)
+abbrev pub vtime_of : Bfq → ℕ → ℕ
+vtime_of b group = (b.service group).vtime
+
+-- the sum of the weights in a group, at its virtual time (B-WF2Q+; who counts is our profile)
+abbrev pub wsum : Bfq → ℕ → ℕ
+wsum b group = weight_sum (vtime_of b group) (b.service group).members
+
+-- this at an entity's place in a group's tree, and this as a group's virtual time (B-WF2Q+)
+abbrev pub put_member : ℕ → ℕ → Member → Bfq → Bfq
+put_member group entity member b = record b { service = put b.service group (with_member (b.service group) entity (Some member)) }
+
+abbrev pub put_vtime : ℕ → ℕ → Bfq → Bfq
+put_vtime group vtime b = record b { service = put b.service group (with_vtime (b.service group) vtime) }
+
+abbrev pub is_idle : State → Bool
+is_idle Idle = true
+is_idle Active = false
+is_idle Serving = false
+
+-- a rule at each entity of a path, the leaf first, until one is refused (our profile)
+abbrev pub along : (ℕ → Bfq → Option Bfq) → List ℕ → Bfq → Option Bfq
+along rule [] b = Some b
+along rule (entity ∷ entities) b = option_and_then (along rule entities) (rule entity b)
+
+-- Stamping: an entity gets its pending weight, a start, and the finish that its budget gives, and waits to be picked (B-WF2Q+).
+abbrev pub finish_from : ℕ → ℕ → Bfq → ℕ
+finish_from start entity b = start + delta (b.budget entity) (b.pending entity)
+
+abbrev pub stamped : ℕ → ℕ → Bfq → Bfq
+stamped start entity b =
+    put_member (group_of b entity) entity (record { state = Active; start = start; finish = finish_from start entity b; weight = b.pending entity }) b
+
+abbrev pub stamp : ℕ → ℕ → Bfq → Option Bfq
+stamp start entity b = if nat_le (finish_from start entity b) top then Some (stamped start entity b) else None
+
+-- Activate: from an entity upwards to the first that is not idle; the start is the later of its group's virtual time and its last finish
+-- (B-WF2Q+).
+abbrev pub start_from : Bfq → ℕ → ℕ
+start_from b entity = max (vtime_of b (group_of b entity)) (member_of b entity).finish
+
+abbrev pub activate_path : List ℕ → Bfq → Option Bfq
+activate_path [] b = Some b
+activate_path (entity ∷ entities) b =
+    if is_idle (member_of b entity).state then option_and_then (activate_path entities) (stamp (start_from b entity) entity b) else Some b
+
+abbrev pub activate : ℕ → Bfq → Option Bfq
+activate seat b = activate_path (path b.parent seat) b
+
+-- Select: from the root down to a session, at each level the pick; where nobody is eligible, the virtual time first becomes the least
+-- start (B-WF2Q+). The session's queue is in service then, with no sector sent yet (bfq).
+abbrev pub picked : Bfq → ℕ → Option ℕ
+picked b group = pick (vtime_of b group) (b.service group).members
+
+abbrev pub jumped : ℕ → Bfq → Bfq
+jumped group b = if is_some (picked b group) then b else option_map_or (λ start. put_vtime group start b) (least_start (b.service group).members) b
+
+abbrev pub in_service : ℕ → ℕ → Bfq → Bfq
+in_service group entity b = put_member group entity (record (member_in b group entity) { state = Serving }) b
+
+abbrev pub on_pick : Option ℕ → Bfq → (ℕ → Bfq) → Bfq
+on_pick None b taken = b
+on_pick (Some entity) b taken = taken entity
+
+-- an entity is taken: a session's queue is in service now; in a group the choice goes on
+abbrev pub taken : (ℕ → Bfq → Bfq) → ℕ → Bfq → ℕ → Bfq
+taken choose group b entity =
+    if nat_lt entity 16 then record (in_service group entity b) { slot = Some (record { seat = entity; service = 0; age = 0 }) }
+    else choose (entity - 16) (in_service group entity b)
+
+-- so many levels at most
+unfoldable pub select_from : ℕ → ℕ → Bfq → Bfq
+select_from zero group b = b
+select_from (suc levels) group b = on_pick (picked (jumped group b) group) (jumped group b) (taken (λ h c. select_from levels h c) group (jumped group b))
+
+-- the root and four levels of groups under it
+abbrev pub select : Bfq → Bfq
+select b = select_from 5 0 b
+
+-- Charge: the queue in service has been sent some sectors more; the virtual time of each group on its path rises by their share of the
+-- sum of weights, as it was before (B-WF2Q+).
+abbrev pub risen : ℕ → ℕ → Bfq → ℕ
+risen sectors group b = vtime_of b group + delta sectors (wsum b group)
+
+abbrev pub charge_one : ℕ → ℕ → Bfq → Option Bfq
+charge_one sectors entity b =
+    if nat_le (risen sectors (group_of b entity) b) top then Some (put_vtime (group_of b entity) (risen sectors (group_of b entity) b) b) else None
+
+abbrev pub served_more : ℕ → InService → Bfq → Bfq
+served_more sectors slot b = record b { slot = Some (record slot { service = slot.service + sectors }) }
+
+abbrev pub charge : ℕ → Bfq → Option Bfq
+charge sectors b = option_and_then (λ slot. along (charge_one sectors) (path b.parent slot.seat) (served_more sectors slot b)) b.slot
+
+-- Expire: the session gets a new budget, by the cause (bfq; the numbers are our profile), and each entity of the path leaves the service
+-- at the finish of what it was really served (B-WF2Q+).
+abbrev pub budget_after : Expiry → ℕ → ℕ → ℕ → ℕ
+budget_after Exhaustion budget service most = min (4 * budget) most
+budget_after Emptying budget service most = max service 256
+
+-- the start with what the service took, at the weight in effect
+abbrev pub ended : ℕ → ℕ → Bfq → ℕ
+ended service entity b = (member_of b entity).start + delta service (member_of b entity).weight
+
+-- there is more to serve: the session's queue is not empty, or the group has an active child (so it has a least start)
+abbrev pub is_backlogged : Bool → ℕ → Bfq → Bool
+is_backlogged queued entity b = if nat_lt entity 16 then queued else is_some (least_start (b.service (entity - 16)).members)
+
+abbrev pub rested : ℕ → ℕ → Bfq → Bfq
+rested finish entity b = put_member (group_of b entity) entity (record (member_of b entity) { state = Idle; start = finish; finish = finish }) b
+
+abbrev pub expire_one : ℕ → Bool → ℕ → Bfq → Option Bfq
+expire_one service queued entity b =
+    if nat_le (ended service entity b) top
+    then if is_backlogged queued entity b then stamp (ended service entity b) entity b else Some (rested (ended service entity b) entity b)
+    else None
+
+abbrev pub out_of_service : Expiry → ℕ → InService → Bfq → Bfq
+out_of_service cause most slot b = record b { budget = put b.budget slot.seat (budget_after cause (b.budget slot.seat) slot.service most); slot = None }
+
+abbrev pub expire : Expiry → ℕ → Bool → Bfq → Option Bfq
+expire cause most queued b =
+    option_and_then (λ slot. along (expire_one slot.service queued) (path b.parent slot.seat) (out_of_service cause most slot b)) b.slot
+
+-- Groups: the root stands always, another one where its entity is in a group (bfq; the numbers are our profile).
+abbrev pub stands : Bfq → ℕ → Bool
+stands b group = if group == 0 then true else if has_entity group then is_some (b.parent (16 + group)) else false
