@@ -1,7 +1,7 @@
 -- The keeper: a line of steps, a cursor, and a journal. Its machine is the fold over the steps that stand.
 use Rattle.std.specs.Prelude.{◌≡◌, ℕ, ◌+◌, ◌-◌, ◌==◌, nat_lt, Bool, true, false, not, List, [], ◌∷◌, ◌++◌, length, take, None, Some, if◌then◌else◌, ◌⊎◌}
 use Rattle.sector_core.specs.First.{first_of}
-use Rattle.change_record.specs.Machine.{Plain, opening}
+use Rattle.change_record.specs.Machine.{Plain}
 use Rattle.plain_machine.specs.declared.step.Step.{Step}
 use Rattle.plain_machine.specs.declared.call.Call.{Call}
 use Rattle.plain_machine.specs.declared.call.Call.TheVariants.{Do, Hold, Release, Undo, Redo}
@@ -12,7 +12,7 @@ use Rattle.plain_machine.specs.declared.answer.Reply.{Reply}
 use Rattle.plain_machine.specs.declared.answer.Reply.TheVariants.{Moved, Done}
 use Rattle.plain_machine.specs.declared.answer.Code.TheVariants.{NotHeld, AlreadyHeld, ZeroCount, NothingToUndo, NothingToRedo, HistoryFull, OutOfMemory}
 use Rattle.plain_machine.specs.declared.answer.Cause.TheVariants.{Held}
-use Rattle.plain_machine.specs.Step.{Limits, step, IsAccepted}
+use Rattle.plain_machine.specs.Step.{Limits, opening, step, MayGiveWay}
 
 -- the machine after some steps, each under its serial, with room in the history
 abbrev pub fold_from : Limits → Plain → List Stamped → Plain
@@ -20,7 +20,7 @@ fold_from l m [] = m
 fold_from l m (s ∷ steps) = fold_from l (step l m s.serial true s.step).0 steps
 
 abbrev pub fold : Limits → List Stamped → Plain
-fold l steps = fold_from l opening steps
+fold l steps = fold_from l (opening l) steps
 
 pub record State : Type 0 where
   -- what the machine was made for, and how many calls the history holds
@@ -99,10 +99,11 @@ MayWant Release = Unit {0}
 MayWant (Undo n) = ⊥
 MayWant (Redo n) = Unit {0}
 
--- what a call may be answered: the plain answer; or want of memory, with no change, where the plain keeper accepts
+-- what a call may be answered: the plain answer; or want of memory, with no change, where the plain keeper accepts, or finds a time too
+-- great
 abbrev pub MayCall : State → Call → Answer → State → Type 0
 MayCall k call answer next =
-    ((next, answer) ≡ called k call) ⊎ (IsAccepted (called k call).1 × MayWant call × (answer ≡ Refused OutOfMemory) × (next ≡ k))
+    ((next, answer) ≡ called k call) ⊎ (MayGiveWay (called k call).1 × MayWant call × (answer ≡ Refused OutOfMemory) × (next ≡ k))
 
 -- calls one after the other
 abbrev pub MayRun : State → List Call → List Answer → State → Type 0

@@ -1,7 +1,7 @@
 -- The steps of the plain machine, in the order of the table of steps.
 use Rattle.std.specs.Prelude.{◌≡◌, ℕ, zero, suc, ◌+◌, ◌-◌, ◌*◌, ◌==◌, nat_le, nat_lt, Bool, true, false, not, ◌||◌, ◌&&◌, ◌⊎◌, List, [], ◌∷◌, ◌++◌, length, map, take, drop, sum, Option, None, Some, is_some, unwrap_or, if◌then◌else◌}
 use Rattle.std.specs.List.{find, count_by}
-use Rattle.std.specs.Option.{option_map, option_map_or, is_none}
+use Rattle.std.specs.Option.{option_map, option_map_or, option_and_then, is_none}
 use Rattle.std.specs.FinMap as blocks
 use Rattle.sector_core.specs.First.{first_of}
 use Rattle.sector_core.specs.declared.range.Range.{Range}
@@ -18,22 +18,61 @@ use Rattle.process_queue.specs.Queue.{is_empty}
 use Rattle.process_queue.specs.declared.merge.Shape.{Shape}
 use Rattle.process_queue.specs.Merge.{shape_of, merge_of, joins_at}
 use Rattle.change_record.specs.declared.change.Seat.{Seat}
-use Rattle.change_record.specs.Machine.{WholeRequest, Flight, Plain, put}
-use Rattle.plain_machine.specs.declared.answer.Code.TheVariants.{BadSeat, SeatTaken, NoSession, StaleSession, NoGroup, BadPrio, BadCount, BadLength, OutOfRange, TooManyBios, NothingOwed, NothingQueued, NoTag, BadTag, NotInFlight, BadOutcome, HistoryFull, OutOfMemory}
+use Rattle.change_record.specs.declared.change.InService.{InService}
+use Rattle.change_record.specs.Tables.{empty_service}
+use Rattle.change_record.specs.Exchange.{with_member}
+use Rattle.change_record.specs.Machine.{WholeRequest, Flight, Bfq, Plain, put}
+use Rattle.sector_core.specs.declared.config.Scheduler.{Scheduler}
+use Rattle.sector_core.specs.declared.config.Scheduler.TheVariants.{Plain as PlainScheduler, Bfq as BfqScheduler}
+use Rattle.service_tree.specs.declared.member.State.TheVariants.{Idle}
+use Rattle.group_tree.specs.Groups.{entity_of, depth, most_levels}
+use Rattle.process_queue.specs.Next.{next_of, has_start}
+use Rattle.bfq_select.specs.declared.expiry.Expiry.TheVariants.{Exhaustion, Emptying}
+use Rattle.bfq_select.specs.Rules.{group_of, put_member, put_vtime, stands, activate, select, charge, expire}
+use Rattle.plain_machine.specs.declared.answer.Code.TheVariants.{BadSeat, SeatTaken, NoSession, StaleSession, NoGroup, BadPrio, BadCount, BadLength, OutOfRange, TooManyBios, NothingOwed, NothingQueued, NoTag, BadTag, NotInFlight, BadOutcome, RootGroup, BadWeight, TooDeep, GroupsFull, GroupInUse, VtimeFull, HistoryFull, OutOfMemory}
 use Rattle.plain_machine.specs.declared.answer.Cause.TheVariants.{RequestsFull, NotCompleted}
 use Rattle.plain_machine.specs.declared.answer.Reply.{Reply}
-use Rattle.plain_machine.specs.declared.answer.Reply.TheVariants.{Attached, Queued, Completed, Issued, Finished}
+use Rattle.plain_machine.specs.declared.answer.Reply.TheVariants.{Attached, Queued, Completed, Issued, Finished, Group, Done}
 use Rattle.plain_machine.specs.declared.answer.Answer.{Answer}
 use Rattle.plain_machine.specs.declared.answer.Answer.TheVariants.{Accepted, Refused, NotYet}
 use Rattle.plain_machine.specs.declared.sizes.Sizes.{Sizes}
 use Rattle.plain_machine.specs.declared.step.Step.{Step}
-use Rattle.plain_machine.specs.declared.step.Step.TheVariants.{Attach, Submit, Reap, Dispatch, Finish}
+use Rattle.plain_machine.specs.declared.step.Step.TheVariants.{Attach, Submit, Reap, Dispatch, Finish, GroupMake, GroupDrop, SetWeight}
 
--- blk-mq: what the queue was made for: the sectors of its image, its requests (`nr_requests`) and the tags of its device
+-- blk-mq: what the queue was made for: the sectors of its image, its requests (`nr_requests`) and the tags of its device; the scheduler
+-- that it begins with; bfq: the budget of a new queue and the greatest one; the virtual time at which all begins (our profile)
 pub record Limits : Type 0 where
   pub sectors : ℕ
   pub requests : ℕ
   pub tags : ℕ
+  pub scheduler : Scheduler
+  pub first_budget : ℕ
+  pub max_budget : ℕ
+  pub first_vtime : ℕ
+
+-- bfq before the first step: the root alone, without a member; a group's budget is always the greatest one (our profile)
+abbrev pub opening_bfq : Limits → Bfq
+opening_bfq l = record {
+  parent = λ _. None;
+  service = λ group. if nat_lt group 32 then empty_service l.first_vtime else record { vtime = 0; members = [] };
+  pending = λ _. 1;
+  budget = λ entity. if nat_lt entity 16 then l.first_budget else if nat_lt entity 48 then l.max_budget else 256;
+  slot = None;
+}
+
+-- a machine before its first step
+abbrev pub opening : Limits → Plain
+opening l = record {
+  overlay = blocks.empty;
+  seat = λ _. None;
+  queue = λ _. [];
+  outbox = λ _. [];
+  flight = λ _. None;
+  served = 15;
+  head = λ _. 0;
+  bfq = opening_bfq l;
+  scheduler = l.scheduler;
+}
 
 -- a machine and an answer
 abbrev pub Outcome_of : Type 0
@@ -48,6 +87,16 @@ unless tests m outcome = elim (first_of tests) [ None ↦ outcome | Some answer 
 -- with room in the history the step is accepted
 abbrev pub accepted : Bool → Plain → Plain → Reply → Outcome_of
 accepted room m next reply = if room then (next, Accepted reply) else (m, Refused HistoryFull)
+
+-- so is a step with a rule that may be refused, and then there is no machine: a time would be too great
+abbrev pub accepted_if : Bool → Plain → Option (Plain × Reply) → Outcome_of
+accepted_if room m None = (m, Refused (if room then VtimeFull else HistoryFull))
+accepted_if room m (Some next) = accepted room m next.0 next.1
+
+-- bfq: the scheduler is bfq
+abbrev pub is_bfq : Scheduler → Bool
+is_bfq PlainScheduler = false
+is_bfq BfqScheduler = true
 
 -- Sessions.
 
@@ -71,15 +120,34 @@ unreaped m seat = option_map_or (λ s. s.unreaped) (m.seat seat) 0
 abbrev pub with_unreaped : ℕ → Seat → Seat
 with_unreaped n seat = record seat { unreaped = n }
 
--- Attach: a session begins, named by the step's serial; the root is the only group.
-abbrev pub attach : Plain → ℕ → Bool → ℕ → ℕ → ℕ → Outcome_of
-attach m n room seat group prio = unless (
+-- Attach: a session begins, named by the step's serial; its entity is new in its group, and its weight comes from its priority.
+
+-- a new entity in a group: idle, with its times at the first virtual time, and with this weight, in effect and pending (bfq)
+abbrev pub with_entity : Limits → ℕ → ℕ → ℕ → Bfq → Bfq
+with_entity l entity group weight b = record (put_member group entity (record { state = Idle; start = l.first_vtime; finish = l.first_vtime; weight = weight }) b) {
+  parent = put b.parent entity (Some group);
+  pending = put b.pending entity weight;
+}
+
+-- bfq: a session's weight by its priority, 80 for the first and 10 for the last
+abbrev pub prio_weight : ℕ → ℕ
+prio_weight prio = (8 - prio) * 10
+
+abbrev pub attached : Limits → Plain → ℕ → ℕ → ℕ → ℕ → Plain
+attached l m n seat group prio = record m {
+  seat = put m.seat seat (Some (record { session = n; prio = prio; unreaped = 0 }));
+  head = put m.head seat 0;
+  bfq = record (with_entity l seat group (prio_weight prio) m.bfq) { budget = put m.bfq.budget seat l.first_budget };
+}
+
+abbrev pub attach : Limits → Plain → ℕ → Bool → ℕ → ℕ → ℕ → Outcome_of
+attach l m n room seat group prio = unless (
     (nat_le 16 seat, Refused BadSeat)
     ∷ (is_some (m.seat seat), Refused SeatTaken)
-    ∷ (not (group == 0), Refused NoGroup)
+    ∷ (not (stands m.bfq group), Refused NoGroup)
     ∷ (nat_lt 7 prio, Refused BadPrio)
     ∷ []) m
-    (accepted room m (record m { seat = put m.seat seat (Some (record { session = n; group = group; prio = prio; unreaped = 0 })) }) (Attached n))
+    (accepted room m (attached l m n seat group prio) (Attached n))
 
 -- Submit: a bio joins a queued request of its seat, or becomes a request of its own at the end of the queue (blk-mq).
 
@@ -132,6 +200,11 @@ submitted m n seat session op range payload = record m {
 abbrev pub needs_request : Plain → ℕ → ℕ → Op → Range → Bool
 needs_request m seat session op range = is_none (merge_in m seat session op range)
 
+-- bfq: with a request in a queue that was empty, its entity waits to be served
+abbrev pub woken : Plain → ℕ → Plain → Option Plain
+woken m seat next =
+    if is_bfq m.scheduler && is_empty (m.queue seat) then option_map (λ b. record next { bfq = b }) (activate seat m.bfq) else Some next
+
 abbrev pub submit : Limits → Plain → ℕ → Bool → ℕ → ℕ → Op → Range → List ℕ → Outcome_of
 submit l m n room seat session op range payload = unless (seat_tests m seat session ++ (
     (range.count == 0 || nat_lt 64 range.count, Refused BadCount)
@@ -140,7 +213,7 @@ submit l m n room seat session op range payload = unless (seat_tests m seat sess
     ∷ (nat_le 32 (unreaped m seat), Refused TooManyBios)
     ∷ (needs_request m seat session op range && nat_le l.requests (queued m + in_flight l m), NotYet RequestsFull)
     ∷ [])) m
-    (accepted room m (submitted m n seat session op range payload) (Queued n))
+    (accepted_if room m (option_map (λ next. (next, Queued n)) (woken m seat (submitted m n seat session op range payload))))
 
 -- Reap: the first completed bio of the session is handed out.
 abbrev pub reaped : Bool → Plain → ℕ → List Bio → Outcome_of
@@ -157,8 +230,8 @@ reap m room seat session = unless (seat_tests m seat session ++ (
     ∷ [])) m
     (reaped room m seat (m.outbox seat))
 
--- Dispatch (blk-mq, scheduler none): the earliest request of the first nonempty queue, in turn from the seat after the
--- last one, is sent under the lowest free tag.
+-- Dispatch: a request is sent under the lowest free tag. Scheduler none (blk-mq): the earliest request of the first nonempty queue, in
+-- turn from the seat after the last one. Scheduler bfq: the next request of the queue in service.
 abbrev pub next_queue : Plain → Option ℕ
 next_queue m = find (λ seat. not (is_empty (m.queue seat))) (drop (m.served + 1) seats ++ take (m.served + 1) seats)
 
@@ -182,13 +255,66 @@ sent m n room seat tag (request ∷ requests) = accepted room m
       served = seat;
     }) (Issued tag n request.op (range_of request.bios))
 
-abbrev pub dispatch_to : Plain → ℕ → Bool → Option ℕ → Option ℕ → Outcome_of
-dispatch_to m n room None tag = (m, Refused NothingQueued)
-dispatch_to m n room (Some seat) None = (m, Refused NoTag)
-dispatch_to m n room (Some seat) (Some tag) = sent m n room seat tag (m.queue seat)
+-- bfq: the request of a queue to be served next, by its head, and how many sectors it has
+abbrev pub next_request : Plain → ℕ → Option WholeRequest
+next_request m seat = next_of shape (m.queue seat) (m.head seat)
+
+abbrev pub next_size : Plain → ℕ → ℕ
+next_size m seat = option_map_or (λ request. size_of request.bios) (next_request m seat) 0
+
+-- bfq: a queue in service whose budget has no room for its next request expires; it is not empty then
+abbrev pub with_budget_in : Limits → Plain → Option InService → Option Bfq
+with_budget_in l m None = Some m.bfq
+with_budget_in l m (Some slot) =
+    if nat_lt (m.bfq.budget slot.seat) (slot.service + next_size m slot.seat) then expire Exhaustion l.max_budget true m.bfq else Some m.bfq
+
+-- bfq: where no queue is in service now, one is selected
+abbrev pub with_slot : Bfq → Bfq
+with_slot b = if is_none b.slot then select b else b
+
+-- a list without its first element that passes a test
+abbrev pub without_first : {A : Type 0} → (A → Bool) → List A → List A
+without_first passes [] = []
+without_first passes (x ∷ xs) = if passes x then xs else x ∷ without_first passes xs
+
+-- bfq: a queue that is empty now expires
+abbrev pub without_empty : Limits → List WholeRequest → Bfq → Option Bfq
+without_empty l queue b = if is_empty queue then expire Emptying l.max_budget false b else Some b
+
+-- bfq: a queue's next request is charged and leaves the queue, whose head is its end then
+abbrev pub sent_next : Limits → Plain → ℕ → ℕ → Bfq → ℕ → WholeRequest → Option (Plain × Reply)
+sent_next l m n tag b seat request =
+    let range = range_of request.bios in
+    let queue = without_first (has_start shape range.start) (m.queue seat) in
+    option_map
+    (λ c. (
+      record m {
+        queue = put m.queue seat queue;
+        head = put m.head seat (range.start + range.count);
+        flight = put m.flight tag (Some (record { issue = n; request = request }));
+        bfq = c;
+      },
+      Issued tag n request.op range,
+    ))
+    (option_and_then (without_empty l queue) (charge range.count b))
+
+abbrev pub sent_in : Limits → Plain → ℕ → ℕ → Bfq → Option (Plain × Reply)
+sent_in l m n tag b = option_and_then (λ slot. option_and_then (sent_next l m n tag b slot.seat) (next_request m slot.seat)) b.slot
+
+abbrev pub sent_by_bfq : Limits → Plain → ℕ → ℕ → Option (Plain × Reply)
+sent_by_bfq l m n tag = option_and_then (λ b. sent_in l m n tag (with_slot b)) (with_budget_in l m m.bfq.slot)
+
+abbrev pub sent_by : Limits → Plain → ℕ → Bool → ℕ → ℕ → Scheduler → Outcome_of
+sent_by l m n room seat tag PlainScheduler = sent m n room seat tag (m.queue seat)
+sent_by l m n room seat tag BfqScheduler = accepted_if room m (sent_by_bfq l m n tag)
+
+abbrev pub dispatch_to : Limits → Plain → ℕ → Bool → Option ℕ → Option ℕ → Outcome_of
+dispatch_to l m n room None tag = (m, Refused NothingQueued)
+dispatch_to l m n room (Some seat) None = (m, Refused NoTag)
+dispatch_to l m n room (Some seat) (Some tag) = sent_by l m n room seat tag m.scheduler
 
 abbrev pub dispatch : Limits → Plain → ℕ → Bool → Outcome_of
-dispatch l m n room = dispatch_to m n room (next_queue m) (lowest_free l m)
+dispatch l m n room = dispatch_to l m n room (next_queue m) (lowest_free l m)
 
 -- Finish: every bio of the request gets its result and goes to its session's outbox.
 
@@ -261,25 +387,98 @@ finish_of m room tag issue outcome (Some flight) = unless (
 abbrev pub finish : Limits → Plain → Bool → ℕ → ℕ → Outcome → Outcome_of
 finish l m room tag issue outcome = unless ((nat_le l.tags tag, Refused BadTag) ∷ []) m (finish_of m room tag issue outcome (m.flight tag))
 
+-- GroupMake: a group comes under its parent, with the lowest number that is free (bfq: groups with weights, in a tree).
+
+-- a weight of a group is 1 to 1000 (bfq)
+abbrev pub is_weight : ℕ → Bool
+is_weight weight = nat_le 1 weight && nat_le weight 1000
+
+abbrev pub free_group : Bfq → Option ℕ
+free_group b = find (λ group. not (stands b group)) (numbers 1 31)
+
+abbrev pub made_group : Limits → Plain → Bool → ℕ → ℕ → Option ℕ → Outcome_of
+made_group l m room parent weight None = (m, Refused GroupsFull)
+made_group l m room parent weight (Some group) =
+    accepted room m (record m { bfq = put_vtime group l.first_vtime (with_entity l (entity_of group) parent weight m.bfq) }) (Group group)
+
+abbrev pub group_make : Limits → Plain → Bool → ℕ → ℕ → Outcome_of
+group_make l m room parent weight = unless (
+    (not (stands m.bfq parent), Refused NoGroup)
+    ∷ (not (is_weight weight), Refused BadWeight)
+    ∷ (nat_le most_levels (depth m.bfq.parent parent), Refused TooDeep)
+    ∷ []) m
+    (made_group l m room parent weight (free_group m.bfq))
+
+-- a group that is not the root
+abbrev pub group_tests : Plain → ℕ → List (Bool × Answer)
+group_tests m group = (not (stands m.bfq group), Refused NoGroup) ∷ (group == 0, Refused RootGroup) ∷ []
+
+-- GroupDrop: a group in which there is no entity goes.
+
+-- an entity is in this group
+abbrev pub is_in : ℕ → Option ℕ → Bool
+is_in group None = false
+is_in group (Some parent) = parent == group
+
+abbrev pub is_used : Bfq → ℕ → Bool
+is_used b group = is_some (find (λ entity. is_in group (b.parent entity)) (numbers 0 48))
+
+abbrev pub without_entity : ℕ → Bfq → Bfq
+without_entity entity b = record b {
+  service = put b.service (group_of b entity) (with_member (b.service (group_of b entity)) entity None);
+  parent = put b.parent entity None;
+}
+
+abbrev pub group_drop : Plain → Bool → ℕ → Outcome_of
+group_drop m room group = unless (group_tests m group ++ (
+    (is_used m.bfq group, Refused GroupInUse)
+    ∷ [])) m
+    (accepted room m (record m { bfq = without_entity (entity_of group) m.bfq }) Done)
+
+-- SetWeight: the weight is pending until the group is stamped next (bfq).
+abbrev pub set_weight : Plain → Bool → ℕ → ℕ → Outcome_of
+set_weight m room group weight = unless (group_tests m group ++ (
+    (not (is_weight weight), Refused BadWeight)
+    ∷ [])) m
+    (accepted room m (record m { bfq = record m.bfq { pending = put m.bfq.pending (entity_of group) weight } }) Done)
+
 -- a step with its serial, on a machine with or without room in its history
 abbrev pub step : Limits → Plain → ℕ → Bool → Step → Outcome_of
-step l m n room (Attach seat group prio) = attach m n room seat group prio
+step l m n room (Attach seat group prio) = attach l m n room seat group prio
 step l m n room (Submit seat session op range payload) = submit l m n room seat session op range payload
 step l m n room (Reap seat session) = reap m room seat session
 step l m n room Dispatch = dispatch l m n room
 step l m n room (Finish tag issue outcome) = finish l m room tag issue outcome
+step l m n room (GroupMake parent weight) = group_make l m room parent weight
+step l m n room (GroupDrop group) = group_drop m room group
+step l m n room (SetWeight group weight) = set_weight m room group weight
 
--- What a step may be answered: the plain step's answer; or want of memory, with no change, where the plain step accepts.
+-- What a step may be answered: the plain step's answer; or want of memory, with no change, where the plain step accepts or finds a time
+-- too great.
 
 abbrev pub IsAccepted : Answer → Type 0
 IsAccepted (Accepted reply) = Unit {0}
 IsAccepted (Refused code) = ⊥
 IsAccepted (NotYet cause) = ⊥
 
+-- where memory may be wanting: in an accepted step, and in one that is refused for a time, after all else has been looked at (our profile)
+abbrev pub MayGiveWay : Answer → Type 0
+MayGiveWay (Accepted reply) = Unit {0}
+MayGiveWay (Refused code) = code ≡ VtimeFull
+MayGiveWay (NotYet cause) = ⊥
+
 abbrev pub Applies : Limits → Plain → ℕ → Bool → Step → Plain → Answer → Type 0
 Applies l m n room s next answer =
-    ((next, answer) ≡ step l m n room s) ⊎ (IsAccepted (step l m n room s).1 × (answer ≡ Refused OutOfMemory) × (next ≡ m))
+    ((next, answer) ≡ step l m n room s) ⊎ (MayGiveWay (step l m n room s).1 × (answer ≡ Refused OutOfMemory) × (next ≡ m))
 
 -- the limits of a machine, from the sizes that it was made for
 abbrev pub of_sizes : Sizes → Limits
-of_sizes sizes = record { sectors = sizes.sectors; requests = sizes.requests; tags = sizes.tags }
+of_sizes sizes = record {
+  sectors = sizes.sectors;
+  requests = sizes.requests;
+  tags = sizes.tags;
+  scheduler = sizes.scheduler;
+  first_budget = sizes.first_budget;
+  max_budget = sizes.max_budget;
+  first_vtime = sizes.first_vtime;
+}

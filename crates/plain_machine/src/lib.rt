@@ -3,7 +3,8 @@
 //!
 //! The rules stand in `specs/`: `Step` has the steps of the plain machine, one definition for each, in the order of
 //! the table of steps; `Keeper` has the line, the cursor and the journal. No code stands on anything else for its meaning.
-//! `Owed` has what a seat's running counter counts, `Whole` what every request is, `Queued` what a look at a queue shows.
+//! `Owed` has what a seat's running counter counts, `Whole` what every request is, `Queued` what a look at a queue shows, and
+//! `Entities` what one at a group or an entity shows.
 //!
 //! | call | rule that it meets |
 //! |---|---|
@@ -23,4 +24,4 @@ pub use call::{Call, Stamped};
 pub use laws::{requests_are_whole, requests_stay_whole, unreaped_is_owed};
 pub use sizes::Sizes;
 pub use step::Step;
-pub use view::RequestView;
+pub use view::{EntityView, RequestView};

@@ -1,4 +1,5 @@
 // What a machine was made for.
+use sector_core::Scheduler;
 
 /// The sizes of a machine, which no step changes.
 #[derive(Clone, Copy, Debug, PartialEq, Eq)]
@@ -9,4 +10,12 @@ pub struct Sizes {
     pub requests: u16,
     /// How many tags the device has.
     pub tags: u8,
+    /// The scheduler that it begins with.
+    pub scheduler: Scheduler,
+    /// The budget of a new queue in sectors.
+    pub first_budget: u32,
+    /// The greatest budget in sectors.
+    pub max_budget: u32,
+    /// The virtual time at which every group starts.
+    pub first_vtime: u64,
 }

@@ -32,4 +32,18 @@ pub enum Step {
         issue: u64,
         outcome: Outcome,
     },
+    /// A group comes under its parent.
+    GroupMake {
+        parent: u8,
+        weight: u16,
+    },
+    /// A group goes.
+    GroupDrop {
+        group: u8,
+    },
+    /// A group gets another weight, from its next stamping on.
+    SetWeight {
+        group: u8,
+        weight: u16,
+    },
 }

@@ -1,5 +1,6 @@
 // What a look at a machine shows.
 use sector_core::Range;
+use service_tree::State;
 
 /// What stands at a place of a seat's queue.
 #[derive(Clone, Copy, Debug, PartialEq, Eq)]
@@ -10,4 +11,21 @@ pub enum RequestView {
     Past,
     /// A queued request: its sectors, and how many bios it has.
     Queued { range: Range, bios: u32 },
+}
+
+/// What is known of an entity: a session's or a group's.
+#[derive(Clone, Copy, Debug, PartialEq, Eq)]
+pub struct EntityView {
+    /// Whether it waits for service, is served, or neither.
+    pub state: State,
+    /// Its start, a virtual time.
+    pub start: u64,
+    /// Its finish, a virtual time.
+    pub finish: u64,
+    /// Its weight in effect.
+    pub weight: u32,
+    /// Its budget in sectors.
+    pub budget: u32,
+    /// The sectors sent for it since it was selected, where it is in service; else 0.
+    pub service: u32,
 }
