@@ -15,14 +15,14 @@ pub record IsSized (t : Tables) : Type 0 where
   pub groups : (entity group : ℕ) → (bfq_of t).parent entity ≡ Some group → group < 32
   pub seat : (slot : InService) → t.slot ≡ Some slot → slot.seat < 16
 
--- the times are at most 2^62, the budgets 256 to 65536, and the service in the slot is within its budget
+-- the times are at most 2^62, the budgets 256 to 65536, and the service in the slot is at most 65536
 pub record IsBounded (b : Bfq) : Type 0 where
   pub vtimes : (group : ℕ) → (b.service group).vtime ≤ 2 ^ 62
   pub starts : (group entity : ℕ) (m : Member) → slice_index_or (b.service group).members entity None ≡ Some m → m.start ≤ 2 ^ 62
   pub finishes : (group entity : ℕ) (m : Member) → slice_index_or (b.service group).members entity None ≡ Some m → m.finish ≤ 2 ^ 62
   pub least_budgets : (entity : ℕ) → 256 ≤ b.budget entity
   pub most_budgets : (entity : ℕ) → b.budget entity ≤ 65536
-  pub served : (slot : InService) → b.slot ≡ Some slot → slot.service ≤ b.budget slot.seat
+  pub served : (slot : InService) → b.slot ≡ Some slot → slot.service ≤ 65536
 
 -- the tables with other trees, budgets and slot
 abbrev pub OnlyServes : Tables → Tables → Type 0
