@@ -19,6 +19,7 @@ use Rattle.dispatch_core.proofs.Sides.{CanAttach, CanSubmit, CanJoin, CanReap, C
 use Rattle.dispatch_core.proofs.Bios.{attached-seated, attached-kept, submitted-seated, submitted-kept, submitted-seat, submitted-outbox, reaped-seated, reaped-kept, reaped-seat, reaped-outbox, sent-seated, sent-kept, finished-seated, finished-kept, finished-outbox}
 use Rattle.dispatch_core.proofs.QueueFacts.{whole_with}
 use Rattle.dispatch_core.proofs.Merges.{merge_found, merge_some}
+use Rattle.dispatch_core.proofs.Ruling.{ruled_like}
 use Rattle.dispatch_core.proofs.Joined as join
 use Rattle.dispatch_core.proofs.JoinedQueues as join_queue
 use Rattle.dispatch_core.proofs.Queues.{whole, attached-placed, submitted-placed, submitted-queue, submitted-flight, reaped-placed, reaped-queue, reaped-flight, sent-placed, sent-queue, sent-flight, finished-placed, finished-queue, finished-flight}
@@ -48,6 +49,7 @@ WellFormed-later l n t w = record {
     once = w.placed.once;
     counted = w.placed.counted;
   };
+  ruled = w.ruled;
   first = let h = w.first in omega arith;
   served = w.served;
 }
@@ -61,7 +63,7 @@ length-with_bios table [] bios = refl
 length-with_bios table (slot ∷ slots) [] = refl
 length-with_bios table (slot ∷ slots) (bio ∷ bios) = length-with_bios (set table slot (Some bio)) slots bios ∙ length-set table slot (Some bio)
 
-pub attached-well : (l : Limits) (n : ℕ) (t : Tables) (seat group prio : ℕ) → WellFormed l n t → CanAttach t seat → WellFormed l (n + 1) (attached_tables t n seat group prio)
+pub attached-well : (l : Limits) (n : ℕ) (t : Tables) (seat group prio : ℕ) → WellFormed l n t → CanAttach t seat → WellFormed l (n + 1) (attached_tables l t n seat group prio)
 attached-well l n t seat group prio w can = record {
   sized = record {
     requests = w.sized.requests;
@@ -98,6 +100,7 @@ submitted-well l n t seat entry slot place session op range payload w can = reco
   seated = submitted-seated l n t seat entry slot place session op range payload w can;
   kept = submitted-kept l n t seat entry slot place session op range payload w can;
   placed = submitted-placed l n t seat entry slot place session op range payload w can;
+  ruled = ruled_like l t (submitted_tables t n seat entry slot place session op range payload) w.ruled;
   first = let h = w.first in omega arith;
   served = w.served;
 }
@@ -124,6 +127,9 @@ submitted-meaning l n t seat entry slot place session op range payload w can alo
       outbox = submitted-outbox l n t seat entry slot place session op range payload w can i;
       flight = submitted-flight l n t seat entry slot place session op range payload w can i;
       served = t.served;
+      head = (meaning t).head;
+      bfq = (meaning t).bfq;
+      scheduler = t.scheduler;
     } in
     changed ∙ ap (queued_with (meaning t) n seat session op range payload) (sym alone)
 
@@ -144,6 +150,7 @@ joined-well l n t seat entry slot place session op range payload request front w
   seated = join.seated l n t seat entry slot place session op range payload request front w can;
   kept = join.kept l n t seat entry slot place session op range payload request front w can;
   placed = join_queue.placed l n t seat entry slot place session op range payload request front w can;
+  ruled = ruled_like l t (joined_tables t n seat entry slot place request front range payload) w.ruled;
   first = let h = w.first in omega arith;
   served = w.served;
 }
@@ -161,6 +168,9 @@ joined-meaning l n t seat entry place session op range payload request found w c
       outbox = join.outbox_is l n t seat entry found.slot place session op range payload request found.front w can i;
       flight = join_queue.flight_is l n t seat entry found.slot place session op range payload request found.front w can i;
       served = t.served;
+      head = (meaning t).head;
+      bfq = (meaning t).bfq;
+      scheduler = t.scheduler;
     } in
     changed ∙ ap (queued_with (meaning t) n seat session op range payload) (sym (merge_some t seat session op range found joins request can.here))
 
@@ -181,6 +191,7 @@ reaped-well l n t seat entry place rest bio w can = record {
   seated = reaped-seated l n t seat entry place rest bio w can;
   kept = reaped-kept l n t seat entry place rest bio w can;
   placed = reaped-placed l n t seat entry place rest bio w can;
+  ruled = ruled_like l t (reaped_tables t seat entry place rest) w.ruled;
   first = let h = w.first in omega arith;
   served = w.served;
 }
@@ -201,6 +212,7 @@ sent-well l n t seat slot tag request w can = record {
   seated = sent-seated l n t seat slot tag request w can;
   kept = sent-kept l n t seat slot tag request w can;
   placed = sent-placed l n t seat slot tag request w can;
+  ruled = ruled_like l t (sent_tables t n seat slot tag) w.ruled;
   first = let h = w.first in omega arith;
   served = can.within;
 }
@@ -222,6 +234,7 @@ finished-well l n t tag issue slot seat entry request outcome w can = record {
   seated = finished-seated l n t tag issue slot seat entry request outcome w can;
   kept = finished-kept l n t tag issue slot seat entry request outcome w can;
   placed = finished-placed l n t tag issue slot seat entry request outcome w can;
+  ruled = ruled_like l t (finished_tables t tag slot seat request.bios.items outcome) w.ruled;
   first = let h = w.first in omega arith;
   served = w.served;
 }
@@ -238,6 +251,9 @@ reaped-meaning l n t seat entry place rest bio w can i = record {
   outbox = reaped-outbox l n t seat entry place rest bio w can i;
   flight = reaped-flight l n t seat entry place rest bio w can i;
   served = t.served;
+  head = (meaning t).head;
+  bfq = (meaning t).bfq;
+  scheduler = t.scheduler;
 }
 
 pub sent-meaning : (l : Limits) (n : ℕ) (t : Tables) (seat slot tag : ℕ) (request : Request) → WellFormed l n t → CanSend l t seat slot tag request
@@ -253,6 +269,9 @@ sent-meaning l n t seat slot tag request w can i = record {
   outbox = (meaning t).outbox;
   flight = sent-flight l n t seat slot tag request w can i;
   served = seat;
+  head = (meaning t).head;
+  bfq = (meaning t).bfq;
+  scheduler = t.scheduler;
 }
 
 pub finished-meaning : (l : Limits) (n : ℕ) (t : Tables) (tag issue slot seat : ℕ) (entry : Seat) (request : Request) (outcome : Outcome) → WellFormed l n t → CanFinish t tag issue slot seat entry request
@@ -268,4 +287,7 @@ finished-meaning l n t tag issue slot seat entry request outcome w can i = recor
   outbox = finished-outbox l n t tag issue slot seat entry request outcome w can i;
   flight = finished-flight l n t tag issue slot seat entry request outcome w can i;
   served = t.served;
+  head = (meaning t).head;
+  bfq = (meaning t).bfq;
+  scheduler = t.scheduler;
 }

@@ -16,6 +16,7 @@ pub mod Joins
 pub mod Merges
 pub mod Joined
 pub mod JoinedQueues
+pub mod Ruling
 pub mod Laws
 pub mod Decided
 pub mod Sectors

@@ -163,15 +163,15 @@ counted_again t u seat entry count sits same k s e = elim (cases_eq k seat) [
 ]
 
 -- a new session moves no request
-pub attached-placed : (l : Limits) (n : ℕ) (t : Tables) (seat group prio : ℕ) → WellFormed l n t → CanAttach t seat → Placed (n + 1) (attached_tables t n seat group prio)
+pub attached-placed : (l : Limits) (n : ℕ) (t : Tables) (seat group prio : ℕ) → WellFormed l n t → CanAttach t seat → Placed (n + 1) (attached_tables l t n seat group prio)
 attached-placed l n t seat group prio w can =
-    let same : (k : ℕ) (s : Seat) → at t.seats k ≡ Some s → IsKept t (attached_tables t n seat group prio) k s = λ k s e. record {
+    let same : (k : ℕ) (s : Seat) → at t.seats k ≡ Some s → IsKept t (attached_tables l t n seat group prio) k s = λ k s e. record {
       now = s;
       there = get_or-set_other t.seats seat k _ None (λ f. let g : at t.seats k ≡ None = ap (at t.seats) f ∙ can.free in cc) ∙ e;
       session = refl;
     } in
     record {
-      link = λ slot link e. moved n t (attached_tables t n seat group prio) slot link (w.placed.link slot link e) refl same;
+      link = λ slot link e. moved n t (attached_tables l t n seat group prio) slot link (w.placed.link slot link e) refl same;
       apart = w.placed.apart;
       tag = λ tag issue e. let h = w.placed.tag tag issue e in (omega (arith, h.0), h.1);
       once = w.placed.once;

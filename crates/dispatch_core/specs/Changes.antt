@@ -8,17 +8,29 @@ use Rattle.sector_core.specs.declared.bio.Outcome.{Outcome}
 use Rattle.request_pool.specs.declared.Request.{Request}
 use Rattle.change_record.specs.declared.change.Seat.{Seat}
 use Rattle.change_record.specs.Tables.{Tables}
+use Rattle.change_record.specs.Exchange.{tree_at, with_member}
+use Rattle.service_tree.specs.declared.member.State.TheVariants.{Idle}
 use Rattle.process_queue.specs.Merge.{bios_at}
 use Rattle.change_record.specs.Machine.{outbox_at}
-use Rattle.plain_machine.specs.Step.{with_unreaped, new_bio, after_outcome, completed}
+use Rattle.plain_machine.specs.Step.{Limits, prio_weight, with_unreaped, new_bio, after_outcome, completed}
 use Rattle.dispatch_core.specs.WellFormed.{at}
 
 abbrev pub unreaped_at : Tables → ℕ → ℕ
 unreaped_at t seat = option_map_or (λ s. s.unreaped) (at t.seats seat) 0
 
-abbrev pub attached_tables : Tables → ℕ → ℕ → ℕ → ℕ → Tables
-attached_tables t n seat group prio = record t {
-  seats = slice_set t.seats seat (Some (record { session = n; group = group; prio = prio; unreaped = 0 }));
+-- an entity of this weight in a group, with its times at the first virtual time
+abbrev pub entered : Limits → Tables → ℕ → ℕ → ℕ → Tables
+entered l t entity group weight = record t {
+  parents = slice_set t.parents entity (Some group);
+  trees = slice_set t.trees group (with_member (tree_at t group) entity (Some (record { state = Idle; start = l.first_vtime; finish = l.first_vtime; weight = weight })));
+  weights = slice_set t.weights entity weight;
+}
+
+abbrev pub attached_tables : Limits → Tables → ℕ → ℕ → ℕ → ℕ → Tables
+attached_tables l t n seat group prio = record (entered l t seat group (prio_weight prio)) {
+  seats = slice_set t.seats seat (Some (record { session = n; prio = prio; unreaped = 0 }));
+  heads = slice_set t.heads seat 0;
+  budgets = slice_set t.budgets seat l.first_budget;
 }
 
 -- the bio goes into one slot, the request into another, and that slot to the end of the queue
@@ -58,6 +70,14 @@ sent_tables t n seat slot tag = record t {
   links = slice_set t.links slot None;
   tags = slice_set t.tags tag (Some (record { issue = n; slot = slot }));
   served = seat;
+}
+
+-- under bfq the queue's head is the end of what was sent
+abbrev pub sent_next_tables : Tables → ℕ → ℕ → ℕ → ℕ → ℕ → Tables
+sent_next_tables t n seat slot tag head = record t {
+  links = slice_set t.links slot None;
+  tags = slice_set t.tags tag (Some (record { issue = n; slot = slot }));
+  heads = slice_set t.heads seat head;
 }
 
 -- the slots with these bios in them

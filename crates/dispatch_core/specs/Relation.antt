@@ -6,16 +6,18 @@ use Rattle.change_record.specs.Tables.{Tables}
 use Rattle.change_record.specs.Machine.{Plain, meaning}
 use Rattle.plain_machine.specs.declared.answer.Answer.{Answer}
 use Rattle.plain_machine.specs.declared.answer.Answer.TheVariants.{Accepted, Refused, NotYet}
-use Rattle.plain_machine.specs.Step.{Limits, Outcome_of, IsAccepted}
+use Rattle.plain_machine.specs.Step.{Limits, Outcome_of, MayGiveWay}
 use Rattle.dispatch_core.specs.WellFormed.{WellFormed}
 
--- the answer and the machine are those of the plain step; memory was wanting only where the plain step accepts
+-- the answer and the machine are those of the plain step; memory was wanting only where the plain step accepts, or finds a time
+-- too great
 abbrev pub Answers : (Plain → Outcome_of) → Tables → Result Answer WantOfMemory → Tables → Type 0
-Answers plain before result now = MatchResult result (λ answer. (meaning now, answer) ≡ plain (meaning before)) (λ _. IsAccepted (plain (meaning before)).1)
+Answers plain before result now = MatchResult result (λ answer. (meaning now, answer) ≡ plain (meaning before)) (λ _. MayGiveWay (plain (meaning before)).1)
 
--- an accepted step leaves a machine for the next serial, so many changes on the tape, and room for its end; a refused one
--- leaves all as it was
-abbrev pub Leaves : Limits → ℕ → ℕ → Answer → Tables → List Change → Tables → List Change → ℕ → Type 0
-Leaves l n count (Accepted reply) before changes now left spare = WellFormed l (n + 1) now × (1 ≤ spare) × (length left ≡ length changes + count)
-Leaves l n count (Refused code) before changes now left spare = (now ≡ before) × (left ≡ changes)
-Leaves l n count (NotYet cause) before changes now left spare = (now ≡ before) × (left ≡ changes)
+-- an accepted step leaves a machine for the next serial, at least so many changes on the tape and so many more at most, and room for its
+-- end; a refused one leaves all as it was
+abbrev pub Leaves : Limits → ℕ → ℕ → ℕ → Answer → Tables → List Change → Tables → List Change → ℕ → Type 0
+Leaves l n least more (Accepted reply) before changes now left spare =
+    WellFormed l (n + 1) now × (1 ≤ spare) × (length changes + least ≤ length left) × (length left ≤ length changes + (least + more))
+Leaves l n least more (Refused code) before changes now left spare = (now ≡ before) × (left ≡ changes)
+Leaves l n least more (NotYet cause) before changes now left spare = (now ≡ before) × (left ≡ changes)

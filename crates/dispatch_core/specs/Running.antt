@@ -1,6 +1,8 @@
 -- A machine as its callers see it: its sizes, its tables, and how many exchanges were made.
 use Rattle.std.specs.Prelude.{◌≡◌, ◌≤◌, ℕ, List, [], ◌∷◌, ◌++◌, length}
 use Rattle.change_record.specs.declared.change.Change.{Change}
+use Rattle.sector_core.specs.declared.config.Config.{Config}
+use Rattle.change_record.specs.declared.change.Making.{Making}
 use Rattle.change_record.specs.Tables.{Tables}
 use Rattle.change_record.specs.Trail.{IsTrail}
 use Rattle.change_record.specs.Machine.{Plain, Flight, meaning}
@@ -16,6 +18,29 @@ pub record Running : Type 0 where
   pub tables : Tables
   pub turns : ℕ
 
+-- what a machine of a configuration is made for
+abbrev pub sizes_of : Config → ℕ → Sizes
+sizes_of config sectors = record {
+  sectors = sectors;
+  requests = config.nr_requests;
+  tags = config.tags;
+  scheduler = config.scheduler;
+  first_budget = config.first_budget;
+  max_budget = config.max_budget;
+  first_vtime = config.first_vtime;
+}
+
+-- and its tables
+abbrev pub making_of : Config → Making
+making_of config = record {
+  requests = config.nr_requests;
+  tags = config.tags;
+  scheduler = config.scheduler;
+  first_budget = config.first_budget;
+  max_budget = config.max_budget;
+  first_vtime = config.first_vtime;
+}
+
 -- what the machine is
 abbrev pub plain_of : Running → Plain
 plain_of m = meaning m.tables
@@ -24,17 +49,13 @@ plain_of m = meaning m.tables
 abbrev pub IsFor : ℕ → Running → Type 0
 IsFor n m = IsSound (of_sizes m.sizes) n m.tables
 
--- the most exchanges that a step may make (our profile)
-abbrev pub most_exchanges : ℕ
-most_exchanges = 512
-
--- an accepted step adds its changes to the tape, so many and never more than the bound, which lead back to the tables from
--- before; a refused one adds none and changes nothing
-abbrev pub Records : Answer → ℕ → List (List Change) → Tables → List (List Change) → Tables → Type 0
-Records (Accepted reply) count steps before now_steps now =
-    (changes : List Change) × (now_steps ≡ steps ++ changes ∷ []) × (length changes ≡ count) × (count ≤ most_exchanges) × IsTrail changes now before
-Records (Refused code) count steps before now_steps now = (now_steps ≡ steps) × (now ≡ before)
-Records (NotYet cause) count steps before now_steps now = (now_steps ≡ steps) × (now ≡ before)
+-- an accepted step adds its changes to the tape, so many as its rules make, which lead back to the tables from before; a refused one
+-- adds none and changes nothing
+abbrev pub Records : Answer → (ℕ → Type 0) → List (List Change) → Tables → List (List Change) → Tables → Type 0
+Records (Accepted reply) IsOne steps before now_steps now =
+    (changes : List Change) × (now_steps ≡ steps ++ changes ∷ []) × IsOne (length changes) × IsTrail changes now before
+Records (Refused code) IsOne steps before now_steps now = (now_steps ≡ steps) × (now ≡ before)
+Records (NotYet cause) IsOne steps before now_steps now = (now_steps ≡ steps) × (now ≡ before)
 
 -- a request in flight, as a device takes it
 abbrev pub work_of : ℕ → Flight → Work

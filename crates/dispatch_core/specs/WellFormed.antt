@@ -9,7 +9,8 @@ use Rattle.tag_set.specs.declared.Issue.{Issue}
 use Rattle.process_queue.specs.declared.Link.{Link}
 use Rattle.change_record.specs.declared.change.Seat.{Seat}
 use Rattle.change_record.specs.Tables.{Tables}
-use Rattle.change_record.specs.Machine.{meaning, outbox_at}
+use Rattle.change_record.specs.Machine.{meaning, outbox_at, bfq_of}
+use Rattle.bfq_select.specs.Service.{IsSized, IsBounded}
 use Rattle.plain_machine.specs.Step.{Limits, payload_length}
 use Rattle.plain_machine.specs.Whole.{AreWhole}
 
@@ -117,11 +118,22 @@ pub record Placed (n : ℕ) (t : Tables) : Type 0 where
   pub once : (slot : ℕ) → count_by (bears slot) t.tags + one (at t.links slot) ≡ one (at t.requests slot)
   pub counted : taken t.requests ≡ taken t.links + taken t.tags
 
+-- what the rules of bfq ask of the tables, and of what these were made for
+pub record Ruled (l : Limits) (t : Tables) : Type 0 where
+  pub heads : length t.heads ≡ 16
+  pub sized : IsSized t
+  pub bounded : IsBounded (bfq_of t)
+  pub first_vtime : l.first_vtime ≤ 2 ^ 62
+  pub least_budget : 256 ≤ l.first_budget
+  pub first_budget : l.first_budget ≤ l.max_budget
+  pub most_budget : l.max_budget ≤ 65536
+
 pub record WellFormed (l : Limits) (n : ℕ) (t : Tables) : Type 0 where
   pub sized : Sized l t
   pub seated : Seated n t
   pub kept : Kept l t
   pub placed : Placed n t
+  pub ruled : Ruled l t
   pub first : 1 ≤ n
   pub served : t.served < 16
 

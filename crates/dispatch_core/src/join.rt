@@ -39,7 +39,7 @@ pub fn submit_joined(
     requires may { MaySubmit (of_sizes sizes) parts.old.tables seat entry place session op range payload.now }
     requires joins { merge_place parts.old.tables.requests parts.old.tables.bios (queue_slots seat parts.old.tables.links) session op range ≡ Some found }
     ensures answers { Answers (λ m. submit (of_sizes sizes) m serial room seat session op range payload.now) parts.old.tables result parts.new.tables }
-    ensures leaves { IfOk result (λ answer. Leaves (of_sizes sizes) serial (submit_exchanges (merge_in (meaning parts.old.tables) seat session op range)) answer parts.old.tables tape.old.current parts.new.tables tape.new.current tape.new.spare) }
+    ensures leaves { IfOk result (λ answer. Leaves (of_sizes sizes) serial (submit_exchanges (merge_in (meaning parts.old.tables) seat session op range)) 0 answer parts.old.tables tape.old.current parts.new.tables tape.new.current tape.new.spare) }
     ensures trail { KeepsTrail tape.old.current parts.old.tables tape.new.current parts.new.tables }
     ensures steps { tape.new.steps ≡ tape.old.steps }
 {

@@ -3,17 +3,20 @@
 
 mod attach;
 mod complete;
+mod entering;
 mod finish;
+mod groups;
 mod join;
 mod machine;
 mod reap;
 mod send;
+mod serve;
 mod slots;
 mod start;
 mod submit;
 
 pub use machine::{Machine, SectorView, View};
-pub use plain_machine::{Answer, Cause, Code, Reply, RequestView, Sizes, Step, Work};
+pub use plain_machine::{Answer, Cause, Code, EntityView, Reply, RequestView, Sizes, Step, Work};
 
 #[cfg(test)]
 mod tests;

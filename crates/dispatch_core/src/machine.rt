@@ -3,23 +3,27 @@ ghost use Rattle.std.specs.Prelude.{◌≡◌, ◌+◌, ◌<◌, ◌≤◌, ◌^
 ghost use Rattle.std.specs.Option.{option_map};
 ghost use Rattle.change_record.specs.Exchange.{FitBack, FitForth, ArePuts, back_tables, back_left, forth_tables, forth_left};
 ghost use Rattle.change_record.specs.Trail.{KeepsTrail};
-ghost use Rattle.change_record.specs.Machine.{meaning, opening};
+ghost use Rattle.change_record.specs.Machine.{meaning};
 ghost use Rattle.change_record.specs.Tape.{step_at};
-ghost use Rattle.plain_machine.specs.Step.{step as plain_step, Applies, of_sizes};
+ghost use Rattle.plain_machine.specs.Step.{step as plain_step, opening, Applies, of_sizes};
+ghost use Rattle.plain_machine.specs.Entities.{vtime_view, entity_view};
+ghost use Rattle.plain_machine.specs.Whole.{AreWhole};
 ghost use Rattle.plain_machine.specs.Queued.{request_view};
 ghost use Rattle.dispatch_core.specs.WellFormed.{WellFormed};
-ghost use Rattle.dispatch_core.specs.Counts.{exchanges_of};
+ghost use Rattle.dispatch_core.specs.Counts.{exchanges_of, rule_exchanges, IsCount};
 ghost use Rattle.dispatch_core.specs.Relation.{Answers, Leaves};
-ghost use Rattle.dispatch_core.specs.Running.{plain_of, IsFor, Records, work_of};
+ghost use Rattle.dispatch_core.specs.Running.{plain_of, sizes_of, making_of, IsFor, Records, work_of};
 
 use crate::attach::run_attach;
+use crate::entering::{member_in, service_of, stands};
 use crate::finish::run_finish;
+use crate::groups::{run_group_drop, run_group_make, run_set_weight};
 use crate::reap::run_reap;
 use crate::send::{range_of_request, run_dispatch};
 use crate::slots::outbox_slots;
 use crate::submit::run_submit;
-use crate::{Answer, Code, RequestView, Sizes, Step, Work};
-use change_record::{Parts, Tape};
+use crate::{Answer, Code, EntityView, RequestView, Sizes, Step, Work};
+use change_record::{Making, Parts, Tape};
 use plain_machine::requests_stay_whole;
 use sector_core::{Block, Config, OutOfMemory};
 use std::alloc::Global;
@@ -48,9 +52,9 @@ impl Machine {
     /// A machine before its first step, over an image of `sectors` sectors.
     pub fn new(alloc: Global, config: Config, sectors: u64) -> Result<Machine, OutOfMemory>
         requires { sectors < 2 ^ 55 }
-        ensures sizes { IfOk result (λ m. m.sizes ≡ record { sectors = sectors; requests = config.nr_requests; tags = config.tags }) }
+        ensures sizes { IfOk result (λ m. m.sizes ≡ sizes_of config sectors) }
         ensures turns { IfOk result (λ m. m.turns ≡ 0) }
-        ensures opening { IfOk result (λ m. plain_of m ≡ opening) }
+        ensures opening { IfOk result (λ m. plain_of m ≡ opening (of_sizes (sizes_of config sectors))) }
         ensures well { IfOk result (λ m. IsFor 1 m) }
     {
         Ok(Machine {
@@ -58,8 +62,12 @@ impl Machine {
                 sectors,
                 requests: config.nr_requests,
                 tags: config.tags,
+                scheduler: config.scheduler,
+                first_budget: config.first_budget,
+                max_budget: config.max_budget,
+                first_vtime: config.first_vtime,
             },
-            parts: Parts::new(alloc, config.nr_requests, config.tags)?,
+            parts: Parts::new(alloc, making_of(config))?,
         })
     }
 
@@ -75,7 +83,7 @@ impl Machine {
         requires well { IsFor serial self.old }
         requires idle { tape.old.current ≡ [] }
         ensures applies { Applies (of_sizes self.old.sizes) (plain_of self.old) serial room step.now (plain_of self.new) result }
-        ensures records { Records result (exchanges_of (plain_of self.old) step.now) tape.old.steps self.old.tables tape.new.steps self.new.tables }
+        ensures records { Records result (IsCount (plain_of self.old) step.now) tape.old.steps self.old.tables tape.new.steps self.new.tables }
         ensures well { IsFor (serial + 1) self.new }
         ensures idle { tape.new.current ≡ [] }
         ensures sizes { self.new.sizes ≡ self.old.sizes }
@@ -146,6 +154,20 @@ impl Machine {
     }
 }
 
+// What the tables of a machine are made for.
+fn making_of(config: Config) -> Making
+    ensures { result ≡ making_of config }
+{
+    Making {
+        requests: config.nr_requests,
+        tags: config.tags,
+        scheduler: config.scheduler,
+        first_budget: config.first_budget,
+        max_budget: config.max_budget,
+        first_vtime: config.first_vtime,
+    }
+}
+
 // The step's own list of refusals, its exchanges and its reply.
 fn perform(
     alloc: Global,
@@ -156,9 +178,11 @@ fn perform(
     room: bool,
     step: &Step,
 ) -> Result<Answer, OutOfMemory>
-    requires { WellFormed (of_sizes sizes) serial parts.old.tables }
+    requires well { WellFormed (of_sizes sizes) serial parts.old.tables }
+    requires whole { AreWhole (meaning parts.old.tables) }
+    requires idle { tape.old.current ≡ [] }
     ensures answers { Answers (λ m. plain_step (of_sizes sizes) m serial room step.now) parts.old.tables result parts.new.tables }
-    ensures leaves { IfOk result (λ answer. Leaves (of_sizes sizes) serial (exchanges_of (meaning parts.old.tables) step.now) answer parts.old.tables tape.old.current parts.new.tables tape.new.current tape.new.spare) }
+    ensures leaves { IfOk result (λ answer. Leaves (of_sizes sizes) serial (exchanges_of (meaning parts.old.tables) step.now) (rule_exchanges (meaning parts.old.tables) step.now) answer parts.old.tables tape.old.current parts.new.tables tape.new.current tape.new.spare) }
     ensures trail { KeepsTrail tape.old.current parts.old.tables tape.new.current parts.new.tables }
     ensures steps { tape.new.steps ≡ tape.old.steps }
 {
@@ -185,6 +209,15 @@ fn perform(
             outcome,
         } => return run_finish(
             alloc, sizes, parts, tape, serial, room, *tag, *issue, outcome,
+        ),
+        Step::GroupMake { parent, weight } => return run_group_make(
+            sizes, parts, tape, serial, room, *parent, *weight,
+        ),
+        Step::GroupDrop { group } => return run_group_drop(
+            sizes, parts, tape, serial, room, *group,
+        ),
+        Step::SetWeight { group, weight } => return run_set_weight(
+            sizes, parts, tape, serial, room, *group, *weight,
         ),
     }
 }
@@ -272,6 +305,39 @@ impl<'a> View<'a> {
             range: range_of_request(machine.parts.pool(), request),
             bios: request.bios.len() as u32,
         }
+    }
+
+    /// The virtual time of a group; none where there is no such group.
+    pub fn vtime(&self, group: u8) -> Option<u64>
+        ensures { result ≡ vtime_view (plain_of self.now) group }
+    {
+        let machine = self.machine;
+        if !stands(&machine.parts, group) {
+            return None;
+        }
+        match machine.parts.tree(group) {
+            Some(tree) => Some(tree.vtime()),
+            None => Some(0),
+        }
+    }
+
+    /// What is known of an entity; none where it is in no group.
+    pub fn entity(&self, number: u8) -> Option<EntityView>
+        ensures { result ≡ entity_view (plain_of self.now) number }
+    {
+        let machine = self.machine;
+        let Some(group) = machine.parts.groups().parent(number) else {
+            return None;
+        };
+        let member = member_in(&machine.parts, group, number);
+        Some(EntityView {
+            state: member.state,
+            start: member.start,
+            finish: member.finish,
+            weight: member.weight,
+            budget: machine.parts.budget(number),
+            service: service_of(&machine.parts, member.state),
+        })
     }
 
     /// How many exchanges were made on it, modulo 2^64.

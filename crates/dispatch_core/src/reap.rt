@@ -24,7 +24,7 @@ pub fn run_reap(
 ) -> Result<Answer, OutOfMemory>
     requires { WellFormed (of_sizes sizes) serial parts.old.tables }
     ensures answers { Answers (λ m. reap m room seat session) parts.old.tables result parts.new.tables }
-    ensures leaves { IfOk result (λ answer. Leaves (of_sizes sizes) serial 3 answer parts.old.tables tape.old.current parts.new.tables tape.new.current tape.new.spare) }
+    ensures leaves { IfOk result (λ answer. Leaves (of_sizes sizes) serial 3 0 answer parts.old.tables tape.old.current parts.new.tables tape.new.current tape.new.spare) }
     ensures trail { KeepsTrail tape.old.current parts.old.tables tape.new.current parts.new.tables }
     ensures steps { tape.new.steps ≡ tape.old.steps }
 {

@@ -1,18 +1,25 @@
 // Dispatch: the next request is sent to the device under the lowest free tag.
-ghost use Rattle.std.specs.Prelude.{◌≡◌, ◌+◌, ◌≤◌, IfOk};
+ghost use Rattle.std.specs.Prelude.{◌≡◌, ◌+◌, ◌≤◌, IfOk, Some, []};
+ghost use Rattle.sector_core.specs.Table.{IsFirstFree};
+ghost use Rattle.soft_queue.specs.Turn.{next_seat};
 ghost use Rattle.dispatch_core.specs.Ranges.{start_at, count_at, first_start, total_count, HasFewSectors};
 ghost use Rattle.change_record.specs.Trail.{KeepsTrail};
-ghost use Rattle.plain_machine.specs.Step.{dispatch, of_sizes};
+ghost use Rattle.change_record.specs.Machine.{meaning};
+ghost use Rattle.plain_machine.specs.declared.step.Step.TheVariants.{Dispatch};
+ghost use Rattle.plain_machine.specs.Step.{dispatch, sent, of_sizes};
+ghost use Rattle.plain_machine.specs.Whole.{AreWhole};
+ghost use Rattle.dispatch_core.specs.Counts.{rule_exchanges};
 ghost use Rattle.dispatch_core.specs.Relation.{Answers, Leaves};
 ghost use Rattle.dispatch_core.specs.WellFormed.{WellFormed};
 
+use crate::serve::send_by_bfq;
 use crate::{Answer, Code, Reply, Sizes};
 use change_record::{Change, Parts, Tape};
 use request_pool::{Request, RequestPool};
-use sector_core::{OutOfMemory, Range, Slot};
+use sector_core::{OutOfMemory, Range, Scheduler, Slot};
 use tag_set::Issue;
 
-/// Seats are tried in turn from the one after the seat last served; of a queue the earliest request is sent.
+/// The request is sent under the lowest free tag; which one it is, is the scheduler's affair.
 pub fn run_dispatch(
     sizes: Sizes,
     parts: &mut Parts,
@@ -20,9 +27,11 @@ pub fn run_dispatch(
     serial: u64,
     room: bool,
 ) -> Result<Answer, OutOfMemory>
-    requires { WellFormed (of_sizes sizes) serial parts.old.tables }
+    requires well { WellFormed (of_sizes sizes) serial parts.old.tables }
+    requires whole { AreWhole (meaning parts.old.tables) }
+    requires idle { tape.old.current ≡ [] }
     ensures answers { Answers (λ m. dispatch (of_sizes sizes) m serial room) parts.old.tables result parts.new.tables }
-    ensures leaves { IfOk result (λ answer. Leaves (of_sizes sizes) serial 3 answer parts.old.tables tape.old.current parts.new.tables tape.new.current tape.new.spare) }
+    ensures leaves { IfOk result (λ answer. Leaves (of_sizes sizes) serial 3 (rule_exchanges (meaning parts.old.tables) Dispatch) answer parts.old.tables tape.old.current parts.new.tables tape.new.current tape.new.spare) }
     ensures trail { KeepsTrail tape.old.current parts.old.tables tape.new.current parts.new.tables }
     ensures steps { tape.new.steps ≡ tape.old.steps }
 {
@@ -32,6 +41,30 @@ pub fn run_dispatch(
     let Some(tag) = parts.tags().lowest_free() else {
         return Ok(Answer::Refused(Code::NoTag));
     };
+    match parts.scheduler() {
+        Scheduler::Plain => return send_first(sizes, parts, tape, serial, room, seat, tag),
+        Scheduler::Bfq => return send_by_bfq(sizes, parts, tape, serial, room, tag),
+    }
+}
+
+/// Scheduler none: of the next queue in turn the earliest request is sent.
+fn send_first(
+    sizes: Sizes,
+    parts: &mut Parts,
+    tape: &mut Tape,
+    serial: u64,
+    room: bool,
+    seat: u8,
+    tag: u8,
+) -> Result<Answer, OutOfMemory>
+    requires well { WellFormed (of_sizes sizes) serial parts.old.tables }
+    requires next { next_seat parts.old.tables.served parts.old.tables.links ≡ Some seat }
+    requires free { IsFirstFree parts.old.tables.tags tag }
+    ensures answers { Answers (λ m. sent m serial room seat tag (m.queue seat)) parts.old.tables result parts.new.tables }
+    ensures leaves { IfOk result (λ answer. Leaves (of_sizes sizes) serial 3 0 answer parts.old.tables tape.old.current parts.new.tables tape.new.current tape.new.spare) }
+    ensures trail { KeepsTrail tape.old.current parts.old.tables tape.new.current parts.new.tables }
+    ensures steps { tape.new.steps ≡ tape.old.steps }
+{
     if !room {
         return Ok(Answer::Refused(Code::HistoryFull));
     }

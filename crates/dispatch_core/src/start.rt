@@ -1,10 +1,12 @@
 // A bio that becomes a request of its own.
-ghost use Rattle.std.specs.Prelude.{length, ◌≡◌, ◌+◌, ◌<◌, ◌≤◌, [], ◌∷◌, IfOk, None, Some, slice_set};
+ghost use Rattle.std.specs.Prelude.{length, ◌≡◌, ◌+◌, ◌<◌, ◌≤◌, [], ◌∷◌, IfOk, MatchResult, None, Some, slice_set, if◌then◌else◌};
 ghost use Rattle.process_queue.specs.Merge.{merge_place};
 ghost use Rattle.process_queue.specs.Queue.{queue_slots};
 ghost use Rattle.change_record.specs.Trail.{KeepsTrail};
-ghost use Rattle.change_record.specs.Machine.{meaning};
-ghost use Rattle.plain_machine.specs.Step.{submit, merge_in, with_unreaped, of_sizes};
+ghost use Rattle.change_record.specs.Machine.{bfq_of, meaning};
+ghost use Rattle.bfq_select.specs.Rules.{activate};
+ghost use Rattle.bfq_select.specs.Service.{IsSized, IsBounded, OnlyServes};
+ghost use Rattle.plain_machine.specs.Step.{submit, merge_in, is_bfq, with_unreaped, of_sizes};
 ghost use Rattle.dispatch_core.specs.Counts.{submit_exchanges};
 ghost use Rattle.dispatch_core.specs.Ready.{MaySubmit};
 ghost use Rattle.dispatch_core.specs.Relation.{Answers, Leaves};
@@ -12,11 +14,12 @@ ghost use Rattle.dispatch_core.specs.WellFormed.{WellFormed};
 
 use crate::{Answer, Cause, Code, Reply, Sizes};
 use arrayvec::ArrayVec;
+use bfq_select::{VtimeFull, activate};
 use bytes::Bytes;
 use change_record::{Change, Parts, Seat, Tape};
 use process_queue::Link;
 use request_pool::Request;
-use sector_core::{Bio, Op, OutOfMemory, Range, Slot};
+use sector_core::{Bio, Op, OutOfMemory, Range, Scheduler, Slot};
 
 /// The end of Submit where the bio joins no request: it needs one that is free, which goes to the end of the queue.
 pub fn submit_new(
@@ -35,9 +38,10 @@ pub fn submit_new(
 ) -> Result<Answer, OutOfMemory>
     requires well { WellFormed (of_sizes sizes) serial parts.old.tables }
     requires may { MaySubmit (of_sizes sizes) parts.old.tables seat entry place session op range payload.now }
+    requires idle { tape.old.current ≡ [] }
     requires alone { merge_place parts.old.tables.requests parts.old.tables.bios (queue_slots seat parts.old.tables.links) session op range ≡ None }
     ensures answers { Answers (λ m. submit (of_sizes sizes) m serial room seat session op range payload.now) parts.old.tables result parts.new.tables }
-    ensures leaves { IfOk result (λ answer. Leaves (of_sizes sizes) serial (submit_exchanges (merge_in (meaning parts.old.tables) seat session op range)) answer parts.old.tables tape.old.current parts.new.tables tape.new.current tape.new.spare) }
+    ensures leaves { IfOk result (λ answer. Leaves (of_sizes sizes) serial (submit_exchanges (merge_in (meaning parts.old.tables) seat session op range)) (if is_bfq parts.old.tables.scheduler then 5 else 0) answer parts.old.tables tape.old.current parts.new.tables tape.new.current tape.new.spare) }
     ensures trail { KeepsTrail tape.old.current parts.old.tables tape.new.current parts.new.tables }
     ensures steps { tape.new.steps ≡ tape.old.steps }
 {
@@ -53,9 +57,48 @@ pub fn submit_new(
         payload: payload.clone()?,
         result: None,
     };
-    tape.reserve(4)?;
+    tape.reserve(9)?;
+    let wakes = is_bfq(parts.scheduler()) && parts.queues().is_empty(seat);
     insert(parts, tape, seat, entry, slot, place, session, op, bio);
-    Ok(Answer::Accepted(Reply::Queued { bio: serial }))
+    match wake(parts, tape, seat, wakes) {
+        Ok(()) => return Ok(Answer::Accepted(Reply::Queued { bio: serial })),
+        Err(_) => {
+            tape.abandon(parts);
+            return Ok(Answer::Refused(Code::VtimeFull));
+        }
+    }
+}
+
+// Whether the scheduler is bfq.
+fn is_bfq(scheduler: Scheduler) -> bool
+    ensures { result ≡ is_bfq scheduler }
+{
+    match scheduler {
+        Scheduler::Plain => false,
+        Scheduler::Bfq => true,
+    }
+}
+
+// Activates the session's entity, where its queue was empty.
+fn wake(parts: &mut Parts, tape: &mut Tape, seat: u8, wakes: bool) -> Result<(), VtimeFull>
+    requires seat { seat < 16 }
+    requires room { 5 ≤ tape.old.room }
+    requires sized { IsSized parts.old.tables }
+    requires bounded { IsBounded (bfq_of parts.old.tables) }
+    ensures made { MatchResult result (λ _. (if wakes then activate seat (bfq_of parts.old.tables) else Some (bfq_of parts.old.tables)) ≡ Some (bfq_of parts.new.tables)) (λ _. (if wakes then activate seat (bfq_of parts.old.tables) else Some (bfq_of parts.old.tables)) ≡ None) }
+    ensures sized { IsSized parts.new.tables }
+    ensures bounded { IsBounded (bfq_of parts.new.tables) }
+    ensures others { OnlyServes parts.old.tables parts.new.tables }
+    ensures trail { KeepsTrail tape.old.current parts.old.tables tape.new.current parts.new.tables }
+    ensures steps { tape.new.steps ≡ tape.old.steps }
+    ensures spare { tape.new.spare ≡ tape.old.spare }
+    ensures some { length tape.old.current ≤ length tape.new.current }
+    ensures few { length tape.new.current ≤ length tape.old.current + (if wakes then 5 else 0) }
+{
+    if wakes {
+        return activate(parts, tape, seat);
+    }
+    Ok(())
 }
 
 // Puts the bio and its request into their slots, and the request at the end of the seat's queue.
@@ -81,6 +124,7 @@ fn insert(
     ensures trail { KeepsTrail tape.old.current parts.old.tables tape.new.current parts.new.tables }
     ensures steps { tape.new.steps ≡ tape.old.steps }
     ensures count { length tape.new.current ≡ length tape.old.current + 4 }
+    ensures left { tape.old.room ≤ tape.new.room + 4 }
     ensures spare { tape.new.spare ≡ tape.old.spare }
 {
     let serial = bio.serial;

@@ -1,8 +1,8 @@
 // Submit: a bio joins a queued request of its seat, or becomes a request of its own at the end of the queue.
-ghost use Rattle.std.specs.Prelude.{length, ◌≡◌, ◌+◌, ◌≤◌, ◌↔◌, IfOk, IsTrue};
+ghost use Rattle.std.specs.Prelude.{length, ◌≡◌, ◌+◌, ◌≤◌, ◌↔◌, [], IfOk, IsTrue, if◌then◌else◌};
 ghost use Rattle.change_record.specs.Trail.{KeepsTrail};
 ghost use Rattle.change_record.specs.Machine.{meaning};
-ghost use Rattle.plain_machine.specs.Step.{submit, payload_length, merge_in, of_sizes};
+ghost use Rattle.plain_machine.specs.Step.{submit, payload_length, merge_in, is_bfq, of_sizes};
 ghost use Rattle.dispatch_core.specs.Counts.{submit_exchanges};
 ghost use Rattle.dispatch_core.specs.Relation.{Answers, Leaves};
 ghost use Rattle.dispatch_core.specs.WellFormed.{WellFormed};
@@ -27,9 +27,10 @@ pub fn run_submit(
     range: Range,
     payload: &Bytes,
 ) -> Result<Answer, OutOfMemory>
-    requires { WellFormed (of_sizes sizes) serial parts.old.tables }
+    requires well { WellFormed (of_sizes sizes) serial parts.old.tables }
+    requires idle { tape.old.current ≡ [] }
     ensures answers { Answers (λ m. submit (of_sizes sizes) m serial room seat session op range payload.now) parts.old.tables result parts.new.tables }
-    ensures leaves { IfOk result (λ answer. Leaves (of_sizes sizes) serial (submit_exchanges (merge_in (meaning parts.old.tables) seat session op range)) answer parts.old.tables tape.old.current parts.new.tables tape.new.current tape.new.spare) }
+    ensures leaves { IfOk result (λ answer. Leaves (of_sizes sizes) serial (submit_exchanges (merge_in (meaning parts.old.tables) seat session op range)) (if is_bfq parts.old.tables.scheduler then 5 else 0) answer parts.old.tables tape.old.current parts.new.tables tape.new.current tape.new.spare) }
     ensures trail { KeepsTrail tape.old.current parts.old.tables tape.new.current parts.new.tables }
     ensures steps { tape.new.steps ≡ tape.old.steps }
 {

@@ -1,0 +1,214 @@
+// Dispatch under bfq: one queue is in service at a time, with a budget.
+ghost use Rattle.std.specs.Prelude.{◌≡◌, ◌+◌, ◌≤◌, ◌<◌, IfOk, OnOk, OnErr, MatchResult, Some, None, [], length, slice_set};
+ghost use Rattle.sector_core.specs.Table.{IsFirstFree};
+ghost use Rattle.change_record.specs.declared.change.InService.{InService as ServiceSlot};
+ghost use Rattle.change_record.specs.Trail.{KeepsTrail};
+ghost use Rattle.change_record.specs.Machine.{bfq_of, meaning};
+ghost use Rattle.bfq_select.specs.Service.{OnlyServes};
+ghost use Rattle.plain_machine.specs.Step.{accepted_if, sent_by_bfq, sent_in, sent_next, with_budget_in, with_slot, next_size, next_request, of_sizes};
+ghost use Rattle.plain_machine.specs.Whole.{AreWhole};
+ghost use Rattle.dispatch_core.specs.Changes.{sent_next_tables};
+ghost use Rattle.dispatch_core.specs.Relation.{Answers, Leaves};
+ghost use Rattle.dispatch_core.specs.WellFormed.{WellFormed};
+
+use crate::send::range_of_request;
+use crate::{Answer, Code, Reply, Sizes};
+use bfq_select::{Expiry, VtimeFull, charge, expire, select};
+use change_record::{Change, InService, Parts, Tape};
+use sector_core::{OutOfMemory, Slot};
+use tag_set::Issue;
+
+/// Scheduler bfq: of the queue in service the next request is sent.
+pub fn send_by_bfq(
+    sizes: Sizes,
+    parts: &mut Parts,
+    tape: &mut Tape,
+    serial: u64,
+    room: bool,
+    tag: u8,
+) -> Result<Answer, OutOfMemory>
+    requires well { WellFormed (of_sizes sizes) serial parts.old.tables }
+    requires whole { AreWhole (meaning parts.old.tables) }
+    requires idle { tape.old.current ≡ [] }
+    requires free { IsFirstFree parts.old.tables.tags tag }
+    ensures answers { Answers (λ m. accepted_if room m (sent_by_bfq (of_sizes sizes) m serial tag)) parts.old.tables result parts.new.tables }
+    ensures leaves { IfOk result (λ answer. Leaves (of_sizes sizes) serial 3 31 answer parts.old.tables tape.old.current parts.new.tables tape.new.current tape.new.spare) }
+    ensures trail { KeepsTrail tape.old.current parts.old.tables tape.new.current parts.new.tables }
+    ensures steps { tape.new.steps ≡ tape.old.steps }
+{
+    if !room {
+        return Ok(Answer::Refused(Code::HistoryFull));
+    }
+    tape.reserve(34)?;
+    match serve(sizes, parts, tape, serial, tag) {
+        Ok(reply) => return Ok(Answer::Accepted(reply)),
+        Err(_) => {
+            tape.abandon(parts);
+            return Ok(Answer::Refused(Code::VtimeFull));
+        }
+    }
+}
+
+// A queue without room in its budget expires; where none is in service now one is selected; and its next request is sent.
+fn serve(
+    sizes: Sizes,
+    parts: &mut Parts,
+    tape: &mut Tape,
+    serial: u64,
+    tag: u8,
+) -> Result<Reply, VtimeFull>
+    requires well { WellFormed (of_sizes sizes) serial parts.old.tables }
+    requires whole { AreWhole (meaning parts.old.tables) }
+    requires free { IsFirstFree parts.old.tables.tags tag }
+    requires room { 34 ≤ tape.old.room }
+    ensures made { MatchResult result (λ reply. sent_by_bfq (of_sizes sizes) (meaning parts.old.tables) serial tag ≡ Some (meaning parts.new.tables, reply)) (λ _. sent_by_bfq (of_sizes sizes) (meaning parts.old.tables) serial tag ≡ None) }
+    ensures well { OnOk result (WellFormed (of_sizes sizes) (serial + 1) parts.new.tables) }
+    ensures trail { KeepsTrail tape.old.current parts.old.tables tape.new.current parts.new.tables }
+    ensures steps { tape.new.steps ≡ tape.old.steps }
+    ensures spare { tape.new.spare ≡ tape.old.spare }
+    ensures least { OnOk result (length tape.old.current + 3 ≤ length tape.new.current) }
+    ensures most { OnOk result (length tape.new.current ≤ length tape.old.current + 34) }
+{
+    make_room(sizes, parts, tape, serial)?;
+    if parts.slot().is_none() {
+        select(parts, tape);
+    }
+    let Some(slot) = parts.slot() else {
+        return Err(VtimeFull);
+    };
+    send_next(sizes, parts, tape, serial, tag, slot)
+}
+
+// The queue in service expires where its budget has no room for its next request.
+fn make_room(
+    sizes: Sizes,
+    parts: &mut Parts,
+    tape: &mut Tape,
+    serial: u64,
+) -> Result<(), VtimeFull>
+    requires well { WellFormed (of_sizes sizes) serial parts.old.tables }
+    requires whole { AreWhole (meaning parts.old.tables) }
+    requires room { 7 ≤ tape.old.room }
+    ensures made { MatchResult result (λ _. with_budget_in (of_sizes sizes) (meaning parts.old.tables) parts.old.tables.slot ≡ Some (bfq_of parts.new.tables)) (λ _. with_budget_in (of_sizes sizes) (meaning parts.old.tables) parts.old.tables.slot ≡ None) }
+    ensures well { WellFormed (of_sizes sizes) serial parts.new.tables }
+    ensures others { OnlyServes parts.old.tables parts.new.tables }
+    ensures fits { OnOk result ((slot : ServiceSlot) → parts.new.tables.slot ≡ Some slot → slot.service + next_size (meaning parts.old.tables) slot.seat ≤ (bfq_of parts.new.tables).budget slot.seat) }
+    ensures trail { KeepsTrail tape.old.current parts.old.tables tape.new.current parts.new.tables }
+    ensures steps { tape.new.steps ≡ tape.old.steps }
+    ensures room { tape.old.room ≤ tape.new.room + 7 }
+    ensures spare { tape.new.spare ≡ tape.old.spare }
+    ensures some { length tape.old.current ≤ length tape.new.current }
+    ensures few { length tape.new.current ≤ length tape.old.current + 7 }
+{
+    let Some(slot) = parts.slot() else {
+        return Ok(());
+    };
+    let size = next_size(parts, slot.seat);
+    if slot.service + size > parts.budget(slot.seat) {
+        expire(parts, tape, Expiry::Exhaustion, sizes.max_budget, true)?;
+    }
+    Ok(())
+}
+
+// How many sectors the next request of a queue has.
+fn next_size(parts: &Parts, seat: u8) -> u32
+    ensures { result ≡ next_size (meaning parts.now.tables) seat }
+{
+    let Some(slot) = parts
+        .queues()
+        .next(parts.pool(), seat, parts.head(seat))
+    else {
+        return 0;
+    };
+    let Some(request) = parts.pool().request(slot) else {
+        return 0;
+    };
+    range_of_request(parts.pool(), request).count
+}
+
+// The next request of the queue in service is charged and sent, and the queue expires where it is empty now.
+fn send_next(
+    sizes: Sizes,
+    parts: &mut Parts,
+    tape: &mut Tape,
+    serial: u64,
+    tag: u8,
+    slot: InService,
+) -> Result<Reply, VtimeFull>
+    requires well { WellFormed (of_sizes sizes) serial parts.old.tables }
+    requires whole { AreWhole (meaning parts.old.tables) }
+    requires free { IsFirstFree parts.old.tables.tags tag }
+    requires serves { parts.old.tables.slot ≡ Some slot }
+    requires fits { slot.service + next_size (meaning parts.old.tables) slot.seat ≤ (bfq_of parts.old.tables).budget slot.seat }
+    requires room { 16 ≤ tape.old.room }
+    ensures made { MatchResult result (λ reply. sent_in (of_sizes sizes) (meaning parts.old.tables) serial tag (bfq_of parts.old.tables) ≡ Some (meaning parts.new.tables, reply)) (λ _. sent_in (of_sizes sizes) (meaning parts.old.tables) serial tag (bfq_of parts.old.tables) ≡ None) }
+    ensures well { OnOk result (WellFormed (of_sizes sizes) (serial + 1) parts.new.tables) }
+    ensures trail { KeepsTrail tape.old.current parts.old.tables tape.new.current parts.new.tables }
+    ensures steps { tape.new.steps ≡ tape.old.steps }
+    ensures spare { tape.new.spare ≡ tape.old.spare }
+    ensures least { OnOk result (length tape.old.current + 3 ≤ length tape.new.current) }
+    ensures most { OnOk result (length tape.new.current ≤ length tape.old.current + 16) }
+{
+    let seat = slot.seat;
+    let Some(place) = parts
+        .queues()
+        .next(parts.pool(), seat, parts.head(seat))
+    else {
+        return Err(VtimeFull);
+    };
+    let Some(request) = parts.pool().request(place) else {
+        return Err(VtimeFull);
+    };
+    let op = request.op;
+    let range = range_of_request(parts.pool(), request);
+    charge(parts, tape, range.count)?;
+    let head = range.start + u64::from(range.count);
+    take_out(parts, tape, serial, seat, place, tag, head);
+    if parts.queues().is_empty(seat) {
+        expire(parts, tape, Expiry::Emptying, sizes.max_budget, false)?;
+    }
+    Ok(Reply::Issued {
+        tag,
+        issue: serial,
+        op,
+        range,
+    })
+}
+
+// A request leaves its queue, and its tag bears it; the queue's head is its end.
+fn take_out(
+    parts: &mut Parts,
+    tape: &mut Tape,
+    serial: u64,
+    seat: u8,
+    place: Slot,
+    tag: u8,
+    head: u64,
+)
+    requires { 3 ≤ tape.old.room }
+    ensures tables { parts.new.tables ≡ sent_next_tables parts.old.tables serial seat place tag head }
+    ensures trail { KeepsTrail tape.old.current parts.old.tables tape.new.current parts.new.tables }
+    ensures steps { tape.new.steps ≡ tape.old.steps }
+    ensures count { length tape.new.current ≡ length tape.old.current + 3 }
+    ensures room { tape.old.room ≤ tape.new.room + 3 }
+    ensures spare { tape.new.spare ≡ tape.old.spare }
+{
+    tape.exchange(
+        parts,
+        Change::QueueLink {
+            slot: place,
+            link: None,
+        },
+    );
+    tape.exchange(
+        parts,
+        Change::Tag {
+            tag,
+            issue: Some(Issue {
+                issue: serial,
+                slot: place,
+            }),
+        },
+    );
+    tape.exchange(parts, Change::Head { seat, head });
+}
