@@ -7,6 +7,7 @@ use Rattle.std.proofs.lemmas.List.Sums.{sum_by-cons}
 use Rattle.std.proofs.lemmas.List.Elements.{All-head, All-tail}
 use Rattle.sector_core.specs.declared.range.Range.{Range}
 use Rattle.sector_core.specs.declared.bio.Bio.{Bio}
+use Rattle.sector_core.specs.declared.bio.BioResult.TheVariants.{Written}
 use Rattle.sector_core.specs.declared.bio.Outcome.{Outcome}
 use Rattle.sector_core.specs.declared.bio.Outcome.TheVariants.{Fetched, Stored, Failed}
 use Rattle.overlay.specs.Blocks.{Blocks}
@@ -52,7 +53,7 @@ completed_none (Failed kind) t = refl
 -- the results of a store do not depend on the overlay
 stored_alike : (a b : Blocks) (bios : List Bio) → completed Stored a bios ≡ completed Stored b bios
 stored_alike a b [] = refl
-stored_alike a b (bio ∷ bios) = ap (λ l. done_of Stored (record { overlay = a; requests = []; bios = []; tags = []; links = []; outboxes = []; seats = []; served = 0 }) bio ∷ l) (stored_alike a b bios)
+stored_alike a b (bio ∷ bios) = ap (λ l. record bio { result = Some Written } ∷ l) (stored_alike a b bios)
 
 -- the first bio and then the others
 results_more : (outcome : Outcome) (t : Tables) (slot : ℕ) (slots : List ℕ) (bio : Bio) (bios : List Bio)

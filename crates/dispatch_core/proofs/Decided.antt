@@ -1,5 +1,5 @@
 -- What the plain step says where the code has made its tests.
-use Rattle.std.proofs.Common.{◌≡◌, ◌≢◌, ℕ, ◌+◌, ◌-◌, ◌<◌, ◌≤◌, List, [], ◌∷◌, length, Some, None, Bool, true, false, not, ◌||◌, ◌&&◌, nat_le, nat_lt, nat_eq, drop, unwrap_or, Result, Ok, Err, IsErr, refl, sym, ap, ◌∙◌, subst, arith, rules}
+use Rattle.std.proofs.Common.{◌≡◌, ◌≢◌, inl, inr, is_some, ◌==◌, ℕ, ◌+◌, ◌-◌, ◌<◌, ◌≤◌, List, [], ◌∷◌, length, Option, Some, None, Bool, true, false, cond, not, ◌||◌, ◌&&◌, nat_le, nat_lt, nat_eq, drop, unwrap_or, Result, Ok, Err, IsErr, refl, sym, ap, ◌∙◌, subst, arith, rules}
 use Rattle.std.specs.Option.{option_map, is_none}
 use Rattle.std.specs.Prelude.{slice_get}
 use Rattle.std.proofs.lemmas.Bool.Decides.{nat_tests}
@@ -12,13 +12,20 @@ use Rattle.change_record.specs.declared.change.Seat.{Seat}
 use Rattle.sector_core.specs.declared.memory.OutOfMemory.{OutOfMemory as WantOfMemory}
 use Rattle.change_record.specs.Tables.{Tables}
 use Rattle.dispatch_core.specs.Relation.{Answers}
-use Rattle.change_record.specs.Machine.{WholeRequest, Flight, Plain, put, meaning}
-use Rattle.plain_machine.specs.declared.answer.Code.TheVariants.{NothingQueued, NoTag, NotInFlight, BadOutcome, HistoryFull}
+use Rattle.change_record.specs.Machine.{WholeRequest, Flight, Bfq, Plain, put, meaning}
+use Rattle.process_queue.specs.Queue.{is_empty}
+use Rattle.process_queue.specs.Merge.{merge_of}
+use Rattle.group_tree.specs.Groups.{has_entity}
+use Rattle.std.proofs.lemmas.Bool.{cases_lt}
+use Rattle.bfq_select.specs.Rules.{activate, stands}
+use Rattle.sector_core.specs.declared.config.Scheduler.{Scheduler}
+use Rattle.plain_machine.specs.declared.answer.Reply.{Reply}
+use Rattle.plain_machine.specs.declared.answer.Code.TheVariants.{BadSeat, SeatTaken, NoGroup, BadPrio, VtimeFull, NothingQueued, NoTag, NotInFlight, BadOutcome, HistoryFull}
 use Rattle.plain_machine.specs.declared.answer.Cause.TheVariants.{RequestsFull, NotCompleted}
-use Rattle.plain_machine.specs.declared.answer.Reply.TheVariants.{Queued, Completed, Issued, Finished}
+use Rattle.plain_machine.specs.declared.answer.Reply.TheVariants.{Attached, Queued, Completed, Issued, Finished}
 use Rattle.plain_machine.specs.declared.answer.Answer.{Answer}
 use Rattle.plain_machine.specs.declared.answer.Answer.TheVariants.{Accepted, Refused, NotYet}
-use Rattle.plain_machine.specs.Step.{Limits, Outcome_of, accepted, unreaped, payload_length, queued, in_flight, submitted, submit, merge_in, needs_request, with_unreaped, reap, next_queue, lowest_free, sent, dispatch_to, dispatch, fits, size_of, range_of, after_outcome, delivered, completed, finished, finish, IsAccepted}
+use Rattle.plain_machine.specs.Step.{Limits, Outcome_of, unless, attach, attached, accepted, accepted_if, is_bfq, shape, woken, sent_by, unreaped, payload_length, queued, in_flight, submitted, submit, merge_in, needs_request, with_unreaped, reap, next_queue, lowest_free, sent, dispatch_to, dispatch, fits, size_of, range_of, after_outcome, delivered, completed, finished, finish, MayGiveWay}
 
 lt_16 : (seat : ℕ) → seat < 16 → nat_le 16 seat ≡ false
 lt_16 seat h = grind (arith, nat_tests)
@@ -54,6 +61,53 @@ pub needs_full : (m : Plain) (seat session : ℕ) (op : Op) (range : Range) (ful
     → (needs_request m seat session op range && full) ≡ true
 needs_full m seat session op range full alone e = ap (λ o. is_none o && full) alone ∙ e
 
+-- a group that stands has a number below 32
+pub stands_below : (b : Bfq) (group : ℕ) → stands b group ≡ true → group < 32
+stands_below b group h = elim (cases_lt group 32) [
+  | inl below ↦ below
+  | inr past ↦
+      let e1 : (group == 0) ≡ false = grind (arith, nat_tests) in
+      let e2 : has_entity group ≡ false = grind (arith, nat_tests) in
+      let none : stands b group ≡ false = rw (e1, e2) refl in
+      absurd cc
+]
+
+-- Attach where its tests have passed
+pub attach_does : (l : Limits) (m : Plain) (n : ℕ) (room : Bool) (seat group prio : ℕ) → seat < 16 → m.seat seat ≡ None → stands m.bfq group ≡ true → prio ≤ 7 → room ≡ true
+    → attach l m n room seat group prio ≡ (attached l m n seat group prio, Accepted (Attached n))
+attach_does l m n room seat group prio h free there low e =
+    let e1 = lt_16 seat h in
+    let e2 : is_some (m.seat seat) ≡ false = ap is_some free in
+    let e3 : not (stands m.bfq group) ≡ false = ap not there in
+    let e4 = not_lt prio 7 low in
+    tested (nat_le 16 seat) (is_some (m.seat seat)) (not (stands m.bfq group)) (nat_lt 7 prio) e1 e2 e3 e4
+    ∙ ap (λ b. accepted b m (attached l m n seat group prio) (Attached n)) e
+  where
+    tested : (a b c d : Bool) → a ≡ false → b ≡ false → c ≡ false → d ≡ false
+        → unless ((a, Refused BadSeat) ∷ (b, Refused SeatTaken) ∷ (c, Refused NoGroup) ∷ (d, Refused BadPrio) ∷ []) m (accepted room m (attached l m n seat group prio) (Attached n))
+        ≡ accepted room m (attached l m n seat group prio) (Attached n)
+    tested a b c d p q r s = rw (p, q, r, s) refl
+
+-- a queue with a request that a bio joins is not empty
+joined_queue : (queue : List WholeRequest) (session : ℕ) (op : Op) (range : Range) (found : WholeRequest × Bool) → merge_of shape queue session op range ≡ Some found → is_empty queue ≡ false
+joined_queue [] session op range found e = absurd cc
+joined_queue (r ∷ rs) session op range found e = refl
+
+-- where the queue is not empty nobody is woken
+pub not_woken : (m : Plain) (seat : ℕ) (next : Plain) → is_empty (m.queue seat) ≡ false → woken m seat next ≡ Some next
+not_woken m seat next e = ap (λ b. cond b (option_map (λ b. let p : Plain = record next { bfq = b } in p) (activate seat m.bfq)) (Some next)) (not_both (is_bfq m.scheduler) (is_empty (m.queue seat)) e)
+
+-- what the activation makes, where it is asked for
+pub woken_by : (m : Plain) (seat : ℕ) (next : Plain) (wakes : Bool) (o : Option Bfq) → wakes ≡ (is_bfq m.scheduler && is_empty (m.queue seat)) → next.bfq ≡ m.bfq
+    → cond wakes (activate seat m.bfq) (Some m.bfq) ≡ o → woken m seat next ≡ option_map (λ b. let p : Plain = record next { bfq = b } in p) o
+woken_by m seat next wakes o e same made =
+    ap (λ b. cond b (option_map (λ b. let p : Plain = record next { bfq = b } in p) (activate seat m.bfq)) (Some next)) (sym e)
+    ∙ either wakes ∙ ap (option_map (λ b. let p : Plain = record next { bfq = b } in p)) made where
+      either : (b : Bool) → cond b (option_map (λ b. let p : Plain = record next { bfq = b } in p) (activate seat m.bfq)) (Some next)
+          ≡ option_map (λ b. let p : Plain = record next { bfq = b } in p) (cond b (activate seat m.bfq) (Some m.bfq))
+      either true = refl
+      either false = ap (λ b. Some (let p : Plain = record next { bfq = b } in p)) same
+
 module _ (l : Limits) (m : Plain) (n : ℕ) (room : Bool) (seat session : ℕ) (op : Op) (range : Range) (payload : List ℕ) (s : Seat)
     (h : seat < 16) (sits : m.seat seat ≡ Some s) (same : s.session ≡ session) (some_sectors : 1 ≤ range.count) (few_sectors : range.count ≤ 64)
     (fits_payload : length payload ≡ payload_length op range.count) (in_image : range.start + range.count ≤ l.sectors) (few : s.unreaped < 32) where
@@ -69,7 +123,7 @@ module _ (l : Limits) (m : Plain) (n : ℕ) (room : Bool) (seat session : ℕ) (
       rw (e1, sits, e3, e4, e5, e6, e7, full) refl
 
   pub submit_goes : (needs_request m seat session op range && nat_le l.requests (queued m + in_flight l m)) ≡ false
-      → submit l m n room seat session op range payload ≡ accepted room m (submitted m n seat session op range payload) (Queued n)
+      → submit l m n room seat session op range payload ≡ accepted_if room m (option_map (λ next. (next, Queued n)) (woken m seat (submitted m n seat session op range payload)))
   submit_goes free =
       let e1 = lt_16 seat h in
       let e3 = same_number s.session session same in
@@ -79,8 +133,16 @@ module _ (l : Limits) (m : Plain) (n : ℕ) (room : Bool) (seat session : ℕ) (
       let e7 = not_le s.unreaped 32 few in
       rw (e1, sits, e3, e4, e5, e6, e7, free) refl
 
+  -- a bio that joins a request goes into a queue that is not empty, and wakes nobody
+  pub submit_joins : (found : WholeRequest × Bool) → merge_in m seat session op range ≡ Some found → submit l m n room seat session op range payload
+      ≡ accepted room m (submitted m n seat session op range payload) (Queued n)
+  submit_joins found some =
+      submit_goes (ap (λ o. is_none o && nat_le l.requests (queued m + in_flight l m)) some)
+      ∙ ap (λ o. accepted_if room m (option_map (λ next. (next, Queued n)) o))
+      (not_woken m seat (submitted m n seat session op range payload) (joined_queue (m.queue seat) session op range found some))
+
 -- memory was wanting where the plain step accepts
-pub Answers-err : (plain : Plain → Outcome_of) (t u : Tables) (r : Result Answer WantOfMemory) → IsErr r → IsAccepted (plain (meaning t)).1 → Answers plain t r u
+pub Answers-err : (plain : Plain → Outcome_of) (t u : Tables) (r : Result Answer WantOfMemory) → IsErr r → MayGiveWay (plain (meaning t)).1 → Answers plain t r u
 Answers-err plain t u (Ok a) e h = absurd (search rules)
 Answers-err plain t u (Err w) e h = h
 
@@ -110,29 +172,54 @@ module _ (m : Plain) (room : Bool) (seat session : ℕ) (s : Seat) (h : seat < 1
 
 module _ (l : Limits) (m : Plain) (n : ℕ) (room : Bool) where
   pub dispatch_idle : next_queue m ≡ None → dispatch l m n room ≡ (m, Refused NothingQueued)
-  dispatch_idle none = ap (λ q. dispatch_to m n room q (lowest_free l m)) none
+  dispatch_idle none = ap (λ q. dispatch_to l m n room q (lowest_free l m)) none
 
   pub dispatch_full : (seat : ℕ) → next_queue m ≡ Some seat → lowest_free l m ≡ None → dispatch l m n room ≡ (m, Refused NoTag)
-  dispatch_full seat next none = ap (λ q. dispatch_to m n room q (lowest_free l m)) next ∙ ap (dispatch_to m n room (Some seat)) none
+  dispatch_full seat next none = ap (λ q. dispatch_to l m n room q (lowest_free l m)) next ∙ ap (dispatch_to l m n room (Some seat)) none
 
-  pub dispatch_goes : (seat tag : ℕ) (r : WholeRequest) (rs : List WholeRequest) → next_queue m ≡ Some seat → lowest_free l m ≡ Some tag → m.queue seat ≡ r ∷ rs
-      → dispatch l m n room ≡ accepted room m (record m { queue = put m.queue seat rs; flight = put m.flight tag (Some (record { issue = n; request = r })); served = seat })
-      (Issued tag n r.op (range_of r.bios))
-  dispatch_goes seat tag r rs next lowest first =
-      ap (λ q. dispatch_to m n room q (lowest_free l m)) next ∙ ap (dispatch_to m n room (Some seat)) lowest ∙ ap (sent m n room seat tag) first
+  -- a queue and a tag are there, and the scheduler decides
+  pub dispatch_by : (seat tag : ℕ) (scheduler : Scheduler) → next_queue m ≡ Some seat → lowest_free l m ≡ Some tag → m.scheduler ≡ scheduler
+      → dispatch l m n room ≡ sent_by l m n room seat tag scheduler
+  dispatch_by seat tag scheduler next lowest is =
+      ap (λ q. dispatch_to l m n room q (lowest_free l m)) next ∙ ap (dispatch_to l m n room (Some seat)) lowest ∙ ap (sent_by l m n room seat tag) is
 
-  module _ (seat tag : ℕ) (r : WholeRequest) (rs : List WholeRequest) (next : next_queue m ≡ Some seat) (lowest : lowest_free l m ≡ Some tag) (first : m.queue seat ≡ r ∷ rs) where
-    pub dispatch_does : room ≡ true → dispatch l m n room
+  module _ (seat tag : ℕ) (r : WholeRequest) (rs : List WholeRequest) (first : m.queue seat ≡ r ∷ rs) where
+    sent_goes : sent m n room seat tag (m.queue seat)
+        ≡ accepted room m (record m { queue = put m.queue seat rs; flight = put m.flight tag (Some (record { issue = n; request = r })); served = seat }) (Issued tag n r.op (range_of r.bios))
+    sent_goes = ap (sent m n room seat tag) first
+
+    pub sent_does : room ≡ true → sent m n room seat tag (m.queue seat)
         ≡ (record m { queue = put m.queue seat rs; flight = put m.flight tag (Some (record { issue = n; request = r })); served = seat }, Accepted (Issued tag n r.op (range_of r.bios)))
-    dispatch_does e = dispatch_goes seat tag r rs next lowest first
+    sent_does e = sent_goes
         ∙ ap (λ b. accepted b m (record m { queue = put m.queue seat rs; flight = put m.flight tag (Some (record { issue = n; request = r })); served = seat }) (Issued tag n r.op (range_of r.bios))) e
 
-    pub dispatch_late : room ≡ false → dispatch l m n room ≡ (m, Refused HistoryFull)
-    dispatch_late e = dispatch_goes seat tag r rs next lowest first
+    pub sent_late : room ≡ false → sent m n room seat tag (m.queue seat) ≡ (m, Refused HistoryFull)
+    sent_late e = sent_goes
         ∙ ap (λ b. accepted b m (record m { queue = put m.queue seat rs; flight = put m.flight tag (Some (record { issue = n; request = r })); served = seat }) (Issued tag n r.op (range_of r.bios))) e
 
-    pub dispatch_accepts : room ≡ true → IsAccepted (dispatch l m n room).1
-    dispatch_accepts e = let P : Plain × Answer → Type 0 = λ o. IsAccepted o.1 in subst P (sym (dispatch_does e)) tt
+    pub sent_accepts : room ≡ true → MayGiveWay (sent m n room seat tag (m.queue seat)).1
+    sent_accepts e = let P : Plain × Answer → Type 0 = λ o. MayGiveWay o.1 in subst P (sym (sent_does e)) tt
+
+-- with room a step with a rule that may be refused is accepted, or finds a time too great
+pub gives_way : (room : Bool) (m : Plain) (o : Option (Plain × Reply)) → room ≡ true → MayGiveWay (accepted_if room m o).1
+gives_way true m None e = refl
+gives_way true m (Some next) e = tt
+gives_way false m o e = absurd cc
+
+-- without room it is late
+pub if_late : (room : Bool) (m : Plain) (o : Option (Plain × Reply)) → room ≡ false → accepted_if room m o ≡ (m, Refused HistoryFull)
+if_late false m None e = refl
+if_late false m (Some next) e = refl
+if_late true m o e = absurd cc
+
+-- where the rule is refused a time is too great
+pub if_full : (room : Bool) (m : Plain) (o : Option (Plain × Reply)) → room ≡ true → o ≡ None → accepted_if room m o ≡ (m, Refused VtimeFull)
+if_full room m o e none = ap (accepted_if room m) none ∙ ap (λ b. (m, Refused (cond b VtimeFull HistoryFull))) e
+
+-- and else it is accepted
+pub if_made : (room : Bool) (m : Plain) (o : Option (Plain × Reply)) (next : Plain) (reply : Reply) → room ≡ true → o ≡ Some (next, reply)
+    → accepted_if room m o ≡ (next, Accepted reply)
+if_made room m o next reply e some = ap (accepted_if room m) some ∙ ap (λ b. accepted b m next reply) e
 
 module _ (l : Limits) (m : Plain) (room : Bool) (tag issue : ℕ) (outcome : Outcome) (within : tag < l.tags) where
   not_past : nat_le l.tags tag ≡ false
@@ -187,8 +274,8 @@ module _ (l : Limits) (m : Plain) (room : Bool) (tag issue : ℕ) (outcome : Out
     unfolding after_finish
     finish_late e = finish_goes f here same good ∙ ap (λ b. accepted b m (after_finish f.request) (Finished (length f.request.bios))) e
 
-    pub finish_accepts : room ≡ true → IsAccepted (finish l m room tag issue outcome).1
-    finish_accepts e = let P : Plain × Answer → Type 0 = λ o. IsAccepted o.1 in subst P (sym (finish_does e)) tt
+    pub finish_accepts : room ≡ true → MayGiveWay (finish l m room tag issue outcome).1
+    finish_accepts e = let P : Plain × Answer → Type 0 = λ o. MayGiveWay o.1 in subst P (sym (finish_does e)) tt
 
 -- a list whose first element is known
 pub first_of_list : {A : Type 0} (xs : List A) (x : A) → slice_get xs 0 ≡ Some x → xs ≡ x ∷ drop 1 xs

@@ -1,5 +1,5 @@
 -- Each step leaves a machine for later serials, and means what the plain step does.
-use Rattle.std.proofs.Common.{◌≡◌, ℕ, ◌+◌, ◌-◌, List, [], ◌∷◌, length, Option, Some, None, Bool, set, refl, sym, ap, ◌∙◌, arith, length-set}
+use Rattle.std.proofs.Common.{◌≡◌, ℕ, ◌+◌, ◌-◌, ◌<◌, List, [], ◌∷◌, length, Option, Some, None, Bool, set, refl, sym, ap, ◌∙◌, arith, length-set}
 use Rattle.sector_core.specs.declared.range.Range.{Range}
 use Rattle.sector_core.specs.declared.bio.Op.{Op}
 use Rattle.sector_core.specs.declared.bio.Bio.{Bio}
@@ -11,15 +11,15 @@ use Rattle.process_queue.specs.declared.merge.Place.{Place}
 use Rattle.process_queue.specs.Queue.{queue_slots}
 use Rattle.process_queue.specs.Merge.{bios_at, merge_place}
 use Rattle.change_record.specs.Machine.{WholeRequest, Plain, meaning, put}
-use Rattle.plain_machine.specs.Step.{Limits, submitted, merge_in, queue_with, new_bio, unreaped, with_unreaped, completed, delivered, after_outcome}
+use Rattle.plain_machine.specs.Step.{Limits, attached, submitted, merge_in, queue_with, new_bio, unreaped, with_unreaped, completed, delivered, after_outcome}
 use Rattle.std.specs.Option.{option_map}
 use Rattle.dispatch_core.specs.WellFormed.{WellFormed, IsSound}
 use Rattle.dispatch_core.specs.Changes.{attached_tables, submitted_tables, joined_tables, reaped_tables, sent_tables, finished_tables, with_bios}
 use Rattle.dispatch_core.proofs.Sides.{CanAttach, CanSubmit, CanJoin, CanReap, CanSend, CanFinish}
-use Rattle.dispatch_core.proofs.Bios.{attached-seated, attached-kept, submitted-seated, submitted-kept, submitted-seat, submitted-outbox, reaped-seated, reaped-kept, reaped-seat, reaped-outbox, sent-seated, sent-kept, finished-seated, finished-kept, finished-outbox}
+use Rattle.dispatch_core.proofs.Bios.{attached-seated, attached-kept, attached-seat, submitted-seated, submitted-kept, submitted-seat, submitted-outbox, reaped-seated, reaped-kept, reaped-seat, reaped-outbox, sent-seated, sent-kept, finished-seated, finished-kept, finished-outbox}
 use Rattle.dispatch_core.proofs.QueueFacts.{whole_with}
 use Rattle.dispatch_core.proofs.Merges.{merge_found, merge_some}
-use Rattle.dispatch_core.proofs.Ruling.{ruled_like}
+use Rattle.dispatch_core.proofs.Ruling.{ruled_like, ruled_attached, attached-bfq, put_set}
 use Rattle.dispatch_core.proofs.Joined as join
 use Rattle.dispatch_core.proofs.JoinedQueues as join_queue
 use Rattle.dispatch_core.proofs.Queues.{whole, attached-placed, submitted-placed, submitted-queue, submitted-flight, reaped-placed, reaped-queue, reaped-flight, sent-placed, sent-queue, sent-flight, finished-placed, finished-queue, finished-flight}
@@ -63,8 +63,8 @@ length-with_bios table [] bios = refl
 length-with_bios table (slot ∷ slots) [] = refl
 length-with_bios table (slot ∷ slots) (bio ∷ bios) = length-with_bios (set table slot (Some bio)) slots bios ∙ length-set table slot (Some bio)
 
-pub attached-well : (l : Limits) (n : ℕ) (t : Tables) (seat group prio : ℕ) → WellFormed l n t → CanAttach t seat → WellFormed l (n + 1) (attached_tables l t n seat group prio)
-attached-well l n t seat group prio w can = record {
+pub attached-well : (l : Limits) (n : ℕ) (t : Tables) (seat group prio : ℕ) → WellFormed l n t → CanAttach t seat → group < 32 → WellFormed l (n + 1) (attached_tables l t n seat group prio)
+attached-well l n t seat group prio w can there = record {
   sized = record {
     requests = w.sized.requests;
     bios = w.sized.bios;
@@ -79,8 +79,23 @@ attached-well l n t seat group prio w can = record {
   seated = attached-seated l n t seat group prio w can;
   kept = attached-kept l n t seat group prio w can;
   placed = attached-placed l n t seat group prio w can;
+  ruled = ruled_attached l n t seat group prio w can.within there;
   first = let h = w.first in omega arith;
   served = w.served;
+}
+
+pub attached-meaning : (l : Limits) (n : ℕ) (t : Tables) (seat group prio : ℕ) → WellFormed l n t → CanAttach t seat → group < 32
+    → meaning (attached_tables l t n seat group prio) ≡ attached l (meaning t) n seat group prio
+attached-meaning l n t seat group prio w can there i = record {
+  overlay = t.overlay;
+  seat = attached-seat l n t seat group prio w can i;
+  queue = (meaning t).queue;
+  outbox = (meaning t).outbox;
+  flight = (meaning t).flight;
+  served = t.served;
+  head = put_set t.heads seat 0 0 (omega (arith, can.within, w.ruled.heads)) i;
+  bfq = attached-bfq l n t seat group prio w can.within there i;
+  scheduler = t.scheduler;
 }
 
 pub submitted-well : (l : Limits) (n : ℕ) (t : Tables) (seat : ℕ) (entry : Seat) (slot place session : ℕ) (op : Op) (range : Range) (payload : List ℕ)

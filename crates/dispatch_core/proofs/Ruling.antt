@@ -1,8 +1,9 @@
 -- What steps leave of the tables of bfq.
-use Rattle.std.proofs.Common.{◌≡◌, ◌⊎◌, inl, inr, ℕ, zero, suc, ◌+◌, ◌<◌, ◌≤◌, ◌^◌, ◌==◌, List, [], ◌∷◌, Option, None, Some, Bool, true, false, cond, length, get_or, set, refl, sym, ap, ◌∙◌, subst, arith, length-set}
+use Rattle.std.proofs.Common.{◌≡◌, ◌⊎◌, inl, inr, ℕ, zero, suc, ◌+◌, ◌<◌, ◌≤◌, ◌^◌, ◌==◌, List, [], ◌∷◌, Option, None, Some, Bool, true, false, cond, length, get_or, set, refl, sym, ap, ◌∙◌, subst, arith, length-set, eqb-true}
 use Rattle.std.proofs.Math.Path.{fun_ext}
 use Rattle.std.proofs.lemmas.Bool.{cases_eq, eq-eqb, ne_eqb}
 use Rattle.std.proofs.lemmas.List.{get_or-set_same, get_or-set_other}
+use Rattle.std.proofs.lemmas.Option.{same_Some}
 use Rattle.service_tree.specs.declared.member.Member.{Member}
 use Rattle.service_tree.specs.declared.member.State.TheVariants.{Idle}
 use Rattle.service_tree.specs.Members.{Service}
@@ -12,9 +13,9 @@ use Rattle.change_record.specs.Exchange.{with_member, with_vtime, tree_at}
 use Rattle.change_record.specs.Machine.{Bfq, Plain, bfq_of, meaning, put}
 use Rattle.bfq_select.specs.Rules.{put_member, put_vtime, group_of}
 use Rattle.bfq_select.specs.Service.{IsSized, IsBounded, OnlyServes}
-use Rattle.plain_machine.specs.Step.{Limits, with_entity, without_entity}
+use Rattle.plain_machine.specs.Step.{Limits, with_entity, without_entity, prio_weight}
 use Rattle.dispatch_core.specs.WellFormed.{WellFormed, Ruled}
-use Rattle.dispatch_core.specs.Changes.{entered}
+use Rattle.dispatch_core.specs.Changes.{entered, attached_tables}
 
 -- tables with what bfq has in others
 abbrev pub like : Tables → Tables → Tables
@@ -53,12 +54,205 @@ placed : (b : ℕ → Service) (g e : ℕ) (v : Option Member) (group entity : �
 placed b g e v group entity m h =
     either (group == g) refl h where
       either : (c : Bool) → (group == g) ≡ c → get_or (cond c (with_member (b g) e v) (b group)).members entity None ≡ Some m → (v ≡ Some m) ⊎ (get_or (b group).members entity None ≡ Some m)
-      either true p k =
-          let same : group ≡ g = omega_eq group g p in
-          elim (written (b g).members e entity v m k) [
-            | inl new ↦ inl new
-            | inr old ↦ inr (ap (λ j. get_or (b j).members entity None) same ∙ old)
-          ]
+      either true p k = elim (written (b g).members e entity v m k) [
+        | inl new ↦ inl new
+        | inr old ↦ inr (ap (λ j. get_or (b j).members entity None) (eqb-true group g p) ∙ old)
+      ]
       either false p k = inr k
-      omega_eq : (x y : ℕ) → (x == y) ≡ true → x ≡ y
-      omega_eq x y p = omega (arith, p)
+
+-- tables with other values of bfq
+abbrev pub with_bfq : Tables → List ℕ → List Service → List (Option ℕ) → List ℕ → List ℕ → Option InService → Tables
+with_bfq t heads trees parents weights budgets slot =
+    record t { heads = heads; trees = trees; parents = parents; weights = weights; budgets = budgets; slot = slot }
+
+-- all else holds of them as before
+pub well_with : (l : Limits) (n : ℕ) (t : Tables) (heads : List ℕ) (trees : List Service) (parents : List (Option ℕ)) (weights budgets : List ℕ) (slot : Option InService)
+    → WellFormed l n t → Ruled l (with_bfq t heads trees parents weights budgets slot) → WellFormed l n (with_bfq t heads trees parents weights budgets slot)
+well_with l n t heads trees parents weights budgets slot w ruled = record {
+  sized = record {
+    requests = w.sized.requests;
+    bios = w.sized.bios;
+    tags = w.sized.tags;
+    links = w.sized.links;
+    outboxes = w.sized.outboxes;
+    seats = w.sized.seats;
+    few_tags = w.sized.few_tags;
+    few_requests = w.sized.few_requests;
+    small_image = w.sized.small_image;
+  };
+  seated = record { early = w.seated.early; apart = w.seated.apart; counted = w.seated.counted };
+  kept = record {
+    bio = w.kept.bio;
+    request = λ k r e. let o = w.kept.request k r e in record { seat = o.seat; entry = o.entry; within = o.within; sits = o.sits; session = o.session; bios = o.bios; some_bios = o.some_bios };
+    outbox = w.kept.outbox;
+    once = w.kept.once;
+  };
+  placed = record {
+    link = λ k link e. let q = w.placed.link k link e in record { early = q.early; within = q.within; request = q.request; here = q.here; entry = q.entry; sits = q.sits; session = q.session };
+    apart = w.placed.apart;
+    tag = w.placed.tag;
+    once = w.placed.once;
+    counted = w.placed.counted;
+  };
+  ruled = ruled;
+  first = w.first;
+  served = w.served;
+}
+
+-- what the rules of bfq make of tables: another meaning of bfq alone
+pub served-meaning : (t u : Tables) → OnlyServes t u → meaning u ≡ record (meaning t) { bfq = bfq_of u }
+served-meaning t u others =
+    ap meaning others ∙ ap (λ b. let m : Plain = record (meaning t) { bfq = b } in m) (sym (ap bfq_of others))
+
+-- and they hold together as before
+pub served-well : (l : Limits) (n : ℕ) (t u : Tables) → OnlyServes t u → WellFormed l n t → IsSized u → IsBounded (bfq_of u) → WellFormed l n u
+served-well l n t u others w sized bounded =
+    let v : Tables = with_bfq t t.heads u.trees t.parents t.weights u.budgets u.slot in
+    let ruled : Ruled l v = record {
+      heads = w.ruled.heads;
+      sized = subst IsSized others sized;
+      bounded = let P : Tables → Type 0 = λ x. IsBounded (bfq_of x) in subst P others bounded;
+      first_vtime = w.ruled.first_vtime;
+      least_budget = w.ruled.least_budget;
+      first_budget = w.ruled.first_budget;
+      most_budget = w.ruled.most_budget;
+    } in
+    subst (WellFormed l n) (sym others) (well_with l n t t.heads u.trees t.parents t.weights u.budgets u.slot w ruled)
+
+-- one step of the rules after another
+pub serves_then : (t u v : Tables) → OnlyServes t u → OnlyServes u v → OnlyServes t v
+serves_then t u v first second =
+    second ∙ ap (λ (x : Tables). let y : Tables = record x { trees = v.trees; budgets = v.budgets; slot = v.slot } in y) first
+
+-- a new entity in a group
+module _ (l : Limits) (t : Tables) (entity group weight : ℕ) (e_within : entity < 48) (g_within : group < 32) (r : Ruled l t) where
+  member : Member
+  member = record { state = Idle; start = l.first_vtime; finish = l.first_vtime; weight = weight }
+
+  pub entered-bfq : bfq_of (entered l t entity group weight) ≡ with_entity l entity group weight (bfq_of t)
+  unfolding member
+  entered-bfq i = record {
+    parent = put_set t.parents entity (Some group) None (omega (arith, e_within, r.sized.parents)) i;
+    service = put_set t.trees group (with_member (tree_at t group) entity (Some member)) (record { vtime = 0; members = [] }) (omega (arith, g_within, r.sized.trees)) i;
+    pending = put_set t.weights entity weight 1 (omega (arith, e_within, r.sized.weights)) i;
+    budget = (bfq_of t).budget;
+    slot = t.slot;
+  }
+
+-- the members of a tree where one was put
+pub bounded-put_member : (b : Bfq) (group entity : ℕ) (v : Option Member) (f : ℕ → Service) → f ≡ put b.service group (with_member (b.service group) entity v)
+    → ((m : Member) → v ≡ Some m → (m.start ≤ 2 ^ 62) × (m.finish ≤ 2 ^ 62)) → IsBounded b
+    → ((g e : ℕ) (m : Member) → get_or (f g).members e None ≡ Some m → (m.start ≤ 2 ^ 62) × (m.finish ≤ 2 ^ 62)) × ((g : ℕ) → (f g).vtime ≤ 2 ^ 62)
+bounded-put_member b group entity v f is new old = (
+  λ g e m h. elim (placed b.service group entity v g e m (sym (ap (λ (s : ℕ → Service). get_or (s g).members e None) is) ∙ h)) [
+    | inl k ↦ new m k
+    | inr k ↦ (old.starts g e m k, old.finishes g e m k)
+  ],
+  λ g. let P : (ℕ → Service) → Type 0 = λ s. (s g).vtime ≤ 2 ^ 62 in
+      subst P (sym is) (vtime_same b.service group entity v g (old.vtimes g) (old.vtimes group)),
+) where
+  vtime_same : (s : ℕ → Service) (group entity : ℕ) (v : Option Member) (g : ℕ) → (s g).vtime ≤ 2 ^ 62 → (s group).vtime ≤ 2 ^ 62
+      → (put s group (with_member (s group) entity v) g).vtime ≤ 2 ^ 62
+  vtime_same s group entity v g h k = elim (g == group) as (λ c. (let x : Service = cond c (with_member (s group) entity v) (s g) in x.vtime) ≤ 2 ^ 62) [ | true ↦ k | false ↦ h ]
+
+-- with a new entity the numbers of bfq are within their limits
+pub bounded_entity : (l : Limits) (entity group weight : ℕ) (b : Bfq) → l.first_vtime ≤ 2 ^ 62 → IsBounded b → IsBounded (with_entity l entity group weight b)
+bounded_entity l entity group weight b first old =
+    let v : Option Member = Some (record { state = Idle; start = l.first_vtime; finish = l.first_vtime; weight = weight }) in
+    let times = bounded-put_member b group entity v (put b.service group (with_member (b.service group) entity v)) refl
+        (λ m h. let p : Member → Type 0 = λ x. (x.start ≤ 2 ^ 62) × (x.finish ≤ 2 ^ 62) in subst p (same_Some _ m h) (first, first)) old in
+    record {
+      vtimes = times.1;
+      starts = λ g e m h. (times.0 g e m h).0;
+      finishes = λ g e m h. (times.0 g e m h).1;
+      least_budgets = old.least_budgets;
+      most_budgets = old.most_budgets;
+      served = old.served;
+    }
+
+-- and without an entity
+pub bounded_without : (entity : ℕ) (b : Bfq) → IsBounded b → IsBounded (without_entity entity b)
+bounded_without entity b old =
+    let group = group_of b entity in
+    let times = bounded-put_member b group entity None (put b.service group (with_member (b.service group) entity None)) refl (λ m h. absurd cc) old in
+    record {
+      vtimes = times.1;
+      starts = λ g e m h. (times.0 g e m h).0;
+      finishes = λ g e m h. (times.0 g e m h).1;
+      least_budgets = old.least_budgets;
+      most_budgets = old.most_budgets;
+      served = old.served;
+    }
+
+-- with another budget
+pub bounded_budget : (seat budget : ℕ) (b : Bfq) → 256 ≤ budget → budget ≤ 65536 → IsBounded b → IsBounded (let c : Bfq = record b { budget = put b.budget seat budget } in c)
+bounded_budget seat budget b least most old = record {
+  vtimes = old.vtimes;
+  starts = old.starts;
+  finishes = old.finishes;
+  least_budgets = λ k. let here = old.least_budgets k in elim (k == seat) as (λ c. 256 ≤ cond c budget (b.budget k)) [ | true ↦ least | false ↦ here ];
+  most_budgets = λ k. let here = old.most_budgets k in elim (k == seat) as (λ c. cond c budget (b.budget k) ≤ 65536) [ | true ↦ most | false ↦ here ];
+  served = old.served;
+}
+
+-- with another virtual time
+pub bounded_vtime : (group vtime : ℕ) (b : Bfq) → vtime ≤ 2 ^ 62 → IsBounded b → IsBounded (put_vtime group vtime b)
+bounded_vtime group vtime b h old = record {
+  vtimes = λ g. let here = old.vtimes g in elim (g == group) as (λ c. (let s : Service = cond c (with_vtime (b.service group) vtime) (b.service g) in s.vtime) ≤ 2 ^ 62) [ | true ↦ h | false ↦ here ];
+  starts = λ g e m k. old.starts (cond (g == group) group g) e m (same_members g e m k);
+  finishes = λ g e m k. old.finishes (cond (g == group) group g) e m (same_members g e m k);
+  least_budgets = old.least_budgets;
+  most_budgets = old.most_budgets;
+  served = old.served;
+} where
+  same_members : (g e : ℕ) (m : Member) → get_or (put b.service group (with_vtime (b.service group) vtime) g).members e None ≡ Some m → get_or (b.service (cond (g == group) group g)).members e None ≡ Some m
+  same_members g e m = elim (g == group) as (λ c. get_or (let s : Service = cond c (with_vtime (b.service group) vtime) (b.service g) in s.members) e None ≡ Some m
+      → get_or (b.service (cond c group g)).members e None ≡ Some m) [ | true ↦ λ k. k | false ↦ λ k. k ]
+
+-- with another pending weight
+pub bounded_pending : (entity weight : ℕ) (b : Bfq) → IsBounded b → IsBounded (let c : Bfq = record b { pending = put b.pending entity weight } in c)
+bounded_pending entity weight b old = record {
+  vtimes = old.vtimes;
+  starts = old.starts;
+  finishes = old.finishes;
+  least_budgets = old.least_budgets;
+  most_budgets = old.most_budgets;
+  served = old.served;
+}
+
+-- tables of other lengths or groups, with bounded numbers
+pub ruled_of : (l : Limits) (t u : Tables) → Ruled l t → length u.heads ≡ 16 → IsSized u → IsBounded (bfq_of u) → Ruled l u
+ruled_of l t u r heads sized bounded =
+    record { heads = heads; sized = sized; bounded = bounded; first_vtime = r.first_vtime; least_budget = r.least_budget; first_budget = r.first_budget; most_budget = r.most_budget }
+
+-- where an entity was put into a group, or taken out
+pub groups_set : (t : Tables) (entity : ℕ) (v : Option ℕ) → ((g : ℕ) → v ≡ Some g → g < 32) → IsSized t → (e g : ℕ) → get_or (set t.parents entity v) e None ≡ Some g → g < 32
+groups_set t entity v new sized e g h = elim (written t.parents entity e v g h) [
+  | inl k ↦ new g k
+  | inr k ↦ sized.groups e g k
+]
+
+-- Attach.
+module _ (l : Limits) (n : ℕ) (t : Tables) (seat group prio : ℕ) (w : WellFormed l n t) (s_within : seat < 16) (g_within : group < 32) where
+  pub attached-bfq : bfq_of (attached_tables l t n seat group prio)
+      ≡ record (with_entity l seat group (prio_weight prio) (bfq_of t)) { budget = put (bfq_of t).budget seat l.first_budget }
+  attached-bfq i =
+      let b = entered-bfq l t seat group (prio_weight prio) (omega arith) g_within w.ruled i in
+      record b { budget = put_set t.budgets seat l.first_budget 256 (omega (arith, s_within, w.ruled.sized.budgets)) i }
+
+  pub ruled_attached : Ruled l (attached_tables l t n seat group prio)
+  ruled_attached =
+      let r = w.ruled in
+      let member : Option Member = Some (record { state = Idle; start = l.first_vtime; finish = l.first_vtime; weight = prio_weight prio }) in
+      ruled_of l t (attached_tables l t n seat group prio) r (length-set t.heads seat 0 ∙ r.heads)
+      (record {
+        trees = length-set t.trees group (with_member (tree_at t group) seat member) ∙ r.sized.trees;
+        parents = length-set t.parents seat (Some group) ∙ r.sized.parents;
+        weights = length-set t.weights seat (prio_weight prio) ∙ r.sized.weights;
+        budgets = length-set t.budgets seat l.first_budget ∙ r.sized.budgets;
+        groups = groups_set t seat (Some group) (λ g h. let e : group ≡ g = same_Some group g h in omega arith) r.sized;
+        seat = r.sized.seat;
+      })
+      (subst IsBounded (sym attached-bfq)
+      (bounded_budget seat l.first_budget (with_entity l seat group (prio_weight prio) (bfq_of t)) r.least_budget (omega (arith, r.first_budget, r.most_budget))
+      (bounded_entity l seat group (prio_weight prio) (bfq_of t) r.first_vtime r.bounded)))

@@ -268,4 +268,5 @@ returns-clause-leaves c =
       subst P (sym now) (finished-well l n t c.args.tag borne.issue borne.slot seat entry r c.args.outcome.now c.requires can),
       omega (arith, c.deliver.ensures.spare, c.in_ok-complete.ensures.spare, c.in_ok-reserve.ensures.spare),
       omega (arith, made, c.deliver.ensures.count, c.in_ok-complete.ensures.count, ap length c.reserve.ensures.current),
+      omega (arith, made, c.deliver.ensures.count, c.in_ok-complete.ensures.count, ap length c.reserve.ensures.current),
     )

@@ -7,7 +7,7 @@ use Rattle.change_record.specs.Machine.{Plain, meaning}
 use Rattle.plain_machine.specs.declared.answer.Answer.{Answer}
 use Rattle.plain_machine.specs.declared.answer.Answer.TheVariants.{Accepted}
 use Rattle.plain_machine.specs.declared.answer.Reply.TheVariants.{Queued}
-use Rattle.plain_machine.specs.Step.{of_sizes, accepted, submit, submitted, needs_request, queued, in_flight, IsAccepted}
+use Rattle.plain_machine.specs.Step.{of_sizes, accepted, submit, submitted, needs_request, queued, in_flight, MayGiveWay}
 use Rattle.dispatch_core.specs.WellFormed.{at, WellFormed}
 use Rattle.dispatch_core.specs.Changes.{joined_tables}
 use Rattle.dispatch_core.specs.Counts.{submit_exchanges}
@@ -16,7 +16,7 @@ use Rattle.dispatch_core.proofs.Sectors.{request_taken}
 use Rattle.dispatch_core.proofs.Written.{length-bios_at}
 use Rattle.dispatch_core.proofs.Merges.{merge_linked, merge_request, merge_some}
 use Rattle.dispatch_core.proofs.Laws.{joined-well, joined-meaning}
-use Rattle.dispatch_core.proofs.Decided.{submit_goes, Answers-err}
+use Rattle.dispatch_core.proofs.Decided.{submit_joins, Answers-err}
 use Rattle.dispatch_core.proofs.join.submit_joined.Goals as goal
 
 pub returns-then-not-room-clause-answers : goal.returns-then-not-room-clause-answers
@@ -27,9 +27,7 @@ returns-then-not-room-clause-answers c =
     let linked = merge_linked t c.args.seat c.args.session c.args.op c.args.range c.args.found c.requires.joins in
     let queued_here = c.requires.well.placed.link c.args.found.slot linked.0 linked.1 in
     let some = merge_some t c.args.seat c.args.session c.args.op c.args.range c.args.found c.requires.joins queued_here.request queued_here.here in
-    let none_needed : (needs_request (meaning t) c.args.seat c.args.session c.args.op c.args.range && nat_le l.requests (queued (meaning t) + in_flight l (meaning t))) ≡ false =
-    ap (λ o. is_none o && nat_le l.requests (queued (meaning t) + in_flight l (meaning t))) some in
-    let goes = submit_goes l (meaning t) c.args.serial c.args.room c.args.seat c.args.session c.args.op c.args.range c.args.payload.now c.args.entry may.within may.sits may.session_is may.some_sectors may.few_sectors may.payload_fits may.in_image may.few none_needed in
+    let goes = submit_joins l (meaning t) c.args.serial c.args.room c.args.seat c.args.session c.args.op c.args.range c.args.payload.now c.args.entry may.within may.sits may.session_is may.some_sectors may.few_sectors may.payload_fits may.in_image may.few _ some in
     sym (goes ∙ ap (λ b. accepted b (meaning t) (submitted (meaning t) c.args.serial c.args.seat c.args.session c.args.op c.args.range c.args.payload.now) (Queued c.args.serial)) c.if-not-room.true)
 
 pub unreachable-requires : goal.unreachable-requires
@@ -60,13 +58,11 @@ returns-in_err-clone-clause-answers c =
     let r : Request = c.in-Some.request.now in
     let here : at t.requests c.args.found.slot ≡ Some r = search rules in
     let some = merge_some t c.args.seat c.args.session c.args.op c.args.range c.args.found c.requires.joins r here in
-    let none_needed : (needs_request (meaning t) c.args.seat c.args.session c.args.op c.args.range && nat_le l.requests (queued (meaning t) + in_flight l (meaning t))) ≡ false =
-    ap (λ o. is_none o && nat_le l.requests (queued (meaning t) + in_flight l (meaning t))) some in
-    let goes = submit_goes l (meaning t) c.args.serial c.args.room c.args.seat c.args.session c.args.op c.args.range c.args.payload.now c.args.entry may.within may.sits may.session_is may.some_sectors may.few_sectors may.payload_fits may.in_image may.few none_needed in
+    let goes = submit_joins l (meaning t) c.args.serial c.args.room c.args.seat c.args.session c.args.op c.args.range c.args.payload.now c.args.entry may.within may.sits may.session_is may.some_sectors may.few_sectors may.payload_fits may.in_image may.few _ some in
     let accepts : submit l (meaning t) c.args.serial c.args.room c.args.seat c.args.session c.args.op c.args.range c.args.payload.now
     ≡ (submitted (meaning t) c.args.serial c.args.seat c.args.session c.args.op c.args.range c.args.payload.now, Accepted (Queued c.args.serial)) =
     goes ∙ ap (λ b. accepted b (meaning t) (submitted (meaning t) c.args.serial c.args.seat c.args.session c.args.op c.args.range c.args.payload.now) (Queued c.args.serial)) c.if-not-room.false in
-    let P : Plain × Answer → Type 0 = λ o. IsAccepted o.1 in
+    let P : Plain × Answer → Type 0 = λ o. MayGiveWay o.1 in
     Answers-err (λ m. submit l m c.args.serial c.args.room c.args.seat c.args.session c.args.op c.args.range c.args.payload.now) t t c.from_residual.result (search rules) (subst P (sym accepts) tt)
 
 pub returns-in_err-reserve-clause-answers : goal.returns-in_err-reserve-clause-answers
@@ -77,13 +73,11 @@ returns-in_err-reserve-clause-answers c =
     let r : Request = c.in-Some.request.now in
     let here : at t.requests c.args.found.slot ≡ Some r = search rules in
     let some = merge_some t c.args.seat c.args.session c.args.op c.args.range c.args.found c.requires.joins r here in
-    let none_needed : (needs_request (meaning t) c.args.seat c.args.session c.args.op c.args.range && nat_le l.requests (queued (meaning t) + in_flight l (meaning t))) ≡ false =
-    ap (λ o. is_none o && nat_le l.requests (queued (meaning t) + in_flight l (meaning t))) some in
-    let goes = submit_goes l (meaning t) c.args.serial c.args.room c.args.seat c.args.session c.args.op c.args.range c.args.payload.now c.args.entry may.within may.sits may.session_is may.some_sectors may.few_sectors may.payload_fits may.in_image may.few none_needed in
+    let goes = submit_joins l (meaning t) c.args.serial c.args.room c.args.seat c.args.session c.args.op c.args.range c.args.payload.now c.args.entry may.within may.sits may.session_is may.some_sectors may.few_sectors may.payload_fits may.in_image may.few _ some in
     let accepts : submit l (meaning t) c.args.serial c.args.room c.args.seat c.args.session c.args.op c.args.range c.args.payload.now
     ≡ (submitted (meaning t) c.args.serial c.args.seat c.args.session c.args.op c.args.range c.args.payload.now, Accepted (Queued c.args.serial)) =
     goes ∙ ap (λ b. accepted b (meaning t) (submitted (meaning t) c.args.serial c.args.seat c.args.session c.args.op c.args.range c.args.payload.now) (Queued c.args.serial)) c.if-not-room.false in
-    let P : Plain × Answer → Type 0 = λ o. IsAccepted o.1 in
+    let P : Plain × Answer → Type 0 = λ o. MayGiveWay o.1 in
     Answers-err (λ m. submit l m c.args.serial c.args.room c.args.seat c.args.session c.args.op c.args.range c.args.payload.now) t t c.from_residual-in_err-reserve.result (search rules) (subst P (sym accepts) tt)
 
 pub returns-clause-answers : goal.returns-clause-answers
@@ -96,9 +90,7 @@ returns-clause-answers c =
     let joined = merge_request t c.args.seat c.args.session c.args.op c.args.range c.args.found c.requires.joins r here in
     let linked = merge_linked t c.args.seat c.args.session c.args.op c.args.range c.args.found c.requires.joins in
     let some = merge_some t c.args.seat c.args.session c.args.op c.args.range c.args.found c.requires.joins r here in
-    let none_needed : (needs_request (meaning t) c.args.seat c.args.session c.args.op c.args.range && nat_le l.requests (queued (meaning t) + in_flight l (meaning t))) ≡ false =
-    ap (λ o. is_none o && nat_le l.requests (queued (meaning t) + in_flight l (meaning t))) some in
-    let goes = submit_goes l (meaning t) c.args.serial c.args.room c.args.seat c.args.session c.args.op c.args.range c.args.payload.now c.args.entry may.within may.sits may.session_is may.some_sectors may.few_sectors may.payload_fits may.in_image may.few none_needed in
+    let goes = submit_joins l (meaning t) c.args.serial c.args.room c.args.seat c.args.session c.args.op c.args.range c.args.payload.now c.args.entry may.within may.sits may.session_is may.some_sectors may.few_sectors may.payload_fits may.in_image may.few _ some in
     let accepts : submit l (meaning t) c.args.serial c.args.room c.args.seat c.args.session c.args.op c.args.range c.args.payload.now
     ≡ (submitted (meaning t) c.args.serial c.args.seat c.args.session c.args.op c.args.range c.args.payload.now, Accepted (Queued c.args.serial)) =
     goes ∙ ap (λ b. accepted b (meaning t) (submitted (meaning t) c.args.serial c.args.seat c.args.session c.args.op c.args.range c.args.payload.now) (Queued c.args.serial)) c.if-not-room.false in
@@ -137,5 +129,6 @@ returns-clause-leaves c =
     let P : Tables → Type 0 = λ u. WellFormed l (c.args.serial + 1) u in (
       subst P (sym now) (joined-well l c.args.serial t c.args.seat c.args.entry c.args.found.slot c.args.place c.args.session c.args.op c.args.range c.args.payload.now r c.args.found.front c.requires.well can),
       omega (arith, c.put_bio.ensures.spare, c.in_ok-reserve.ensures.spare),
+      omega (arith, c.put_bio.ensures.count, ap length c.reserve.ensures.current, ap submit_exchanges some),
       omega (arith, c.put_bio.ensures.count, ap length c.reserve.ensures.current, ap submit_exchanges some),
     )

@@ -57,4 +57,5 @@ returns-clause-leaves c =
       subst P (sym now) (reaped-well l c.args.serial t c.args.seat entry c.in-Some-copied.place rest bio c.requires can),
       omega (arith, c.take_out.ensures.spare, c.in_ok-reserve.ensures.spare),
       omega (arith, c.take_out.ensures.count, ap length c.reserve.ensures.current),
+      omega (arith, c.take_out.ensures.count, ap length c.reserve.ensures.current),
     )

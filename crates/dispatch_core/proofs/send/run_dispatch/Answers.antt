@@ -16,7 +16,7 @@ use Rattle.dispatch_core.proofs.Sides.{CanSend}
 use Rattle.dispatch_core.proofs.Queues.{whole, next_queue_is, no_tag_free, tag_free, first_found, sent-queue_was}
 use Rattle.dispatch_core.proofs.Laws.{sent-well, sent-meaning}
 use Rattle.dispatch_core.proofs.Sectors.{few_sectors_of, range_is, request_taken}
-use Rattle.dispatch_core.proofs.Decided.{dispatch_idle, dispatch_full, dispatch_does, dispatch_late, dispatch_accepts, Answers-err}
+use Rattle.dispatch_core.proofs.Decided.{dispatch_idle, dispatch_full, dispatch_by}
 use Rattle.dispatch_core.proofs.Recorded.{one_more}
 use Rattle.dispatch_core.proofs.send.run_dispatch.Goals as goal
 
@@ -25,7 +25,7 @@ returns-in_default-clause-answers c =
     let l = of_sizes c.args.sizes in
     let t = c.args.parts.now.tables in
     let n = c.args.serial in
-    let turn = next_queue_is l n t c.requires in
+    let turn = next_queue_is l n t c.requires.well in
     let none : next_seat t.served t.links ≡ None = search rules in
     sym (dispatch_idle l (meaning t) n c.args.room (turn ∙ none))
 
@@ -34,141 +34,9 @@ returns-in_default-lowest_free-clause-answers c =
     let l = of_sizes c.args.sizes in
     let t = c.args.parts.now.tables in
     let n = c.args.serial in
-    let turn = next_queue_is l n t c.requires in
+    let turn = next_queue_is l n t c.requires.well in
     let next : next_seat t.served t.links ≡ Some c.in-Some.seat = search rules in
     let seat_next : next_queue (meaning t) ≡ Some c.in-Some.seat = turn ∙ next in
     let all : AllTaken t.tags = search rules in
-    sym (dispatch_full l (meaning t) n c.args.room c.in-Some.seat seat_next (no_tag_free l n t c.requires all))
+    sym (dispatch_full l (meaning t) n c.args.room c.in-Some.seat seat_next (no_tag_free l n t c.requires.well all))
 
-pub returns-then-not-room-clause-answers : goal.returns-then-not-room-clause-answers
-returns-then-not-room-clause-answers c =
-    let l = of_sizes c.args.sizes in
-    let t = c.args.parts.now.tables in
-    let n = c.args.serial in
-    let turn = next_queue_is l n t c.requires in
-    let next : next_seat t.served t.links ≡ Some c.in-Some.seat = search rules in
-    let seat_next : next_queue (meaning t) ≡ Some c.in-Some.seat = turn ∙ next in
-    let tag = c.in-Some-lowest_free.tag in
-    let free : IsFirstFree t.tags tag = search rules in
-    let lowest : lowest_free l (meaning t) ≡ Some tag = tag_free l n t tag c.requires free in
-    let found = first_found l n t c.in-Some.seat c.requires next in
-    let slot = found.0 in
-    let request : Request = found.2 in
-    let can : CanSend l t c.in-Some.seat slot tag request = record { within = found.4; first = found.1; here = found.3; tag_within = omega (arith, free.within, c.requires.sized.tags); tag_free = free.is_free } in
-    let was = sent-queue_was l n t c.in-Some.seat slot tag request c.requires can in
-    sym (dispatch_late l (meaning t) n c.args.room c.in-Some.seat tag (whole t request) ((meaning (sent_tables t n c.in-Some.seat slot tag)).queue c.in-Some.seat) seat_next lowest was c.if-not-room.true)
-
-pub unreachable-requires : goal.unreachable-requires
-unreachable-requires c =
-    let l = of_sizes c.args.sizes in
-    let t = c.args.parts.now.tables in
-    let n = c.args.serial in
-    let turn = next_queue_is l n t c.requires in
-    let next : next_seat t.served t.links ≡ Some c.in-Some.seat = search rules in
-    let seat_next : next_queue (meaning t) ≡ Some c.in-Some.seat = turn ∙ next in
-    let tag = c.in-Some-lowest_free.tag in
-    let free : IsFirstFree t.tags tag = search rules in
-    let lowest : lowest_free l (meaning t) ≡ Some tag = tag_free l n t tag c.requires free in
-    let found = first_found l n t c.in-Some.seat c.requires next in
-    let none : first_slot c.in-Some.seat t.links ≡ None = search rules in
-    let some = found.1 in
-    cc
-
-pub unreachable-requires-in_default-request : goal.unreachable-requires-in_default-request
-unreachable-requires-in_default-request c =
-    let l = of_sizes c.args.sizes in
-    let t = c.args.parts.now.tables in
-    let n = c.args.serial in
-    let turn = next_queue_is l n t c.requires in
-    let next : next_seat t.served t.links ≡ Some c.in-Some.seat = search rules in
-    let seat_next : next_queue (meaning t) ≡ Some c.in-Some.seat = turn ∙ next in
-    let tag = c.in-Some-lowest_free.tag in
-    let free : IsFirstFree t.tags tag = search rules in
-    let lowest : lowest_free l (meaning t) ≡ Some tag = tag_free l n t tag c.requires free in
-    let found = first_found l n t c.in-Some.seat c.requires next in
-    let first : first_slot c.in-Some.seat t.links ≡ Some c.in-Some-first.slot = search rules in
-    let none : at t.requests c.in-Some-first.slot ≡ None = search rules in
-    let known = found.1 in
-    let some : at t.requests found.0 ≡ Some found.2 = found.3 in
-    cc
-
-pub returns-in_err-reserve-clause-answers : goal.returns-in_err-reserve-clause-answers
-returns-in_err-reserve-clause-answers c =
-    let l = of_sizes c.args.sizes in
-    let t = c.args.parts.now.tables in
-    let n = c.args.serial in
-    let turn = next_queue_is l n t c.requires in
-    let next : next_seat t.served t.links ≡ Some c.in-Some.seat = search rules in
-    let seat_next : next_queue (meaning t) ≡ Some c.in-Some.seat = turn ∙ next in
-    let tag = c.in-Some-lowest_free.tag in
-    let free : IsFirstFree t.tags tag = search rules in
-    let lowest : lowest_free l (meaning t) ≡ Some tag = tag_free l n t tag c.requires free in
-    let found = first_found l n t c.in-Some.seat c.requires next in
-    let slot = c.in-Some-first.slot in
-    let first : first_slot c.in-Some.seat t.links ≡ Some slot = search rules in
-    let request : Request = c.in-Some-request.request.now in
-    let here : at t.requests slot ≡ Some request = search rules in
-    let can : CanSend l t c.in-Some.seat slot tag request = record { within = found.4; first = first; here = here; tag_within = omega (arith, free.within, c.requires.sized.tags); tag_free = free.is_free } in
-    let was = sent-queue_was l n t c.in-Some.seat slot tag request c.requires can in
-    Answers-err (λ m. dispatch l m n c.args.room) t t c.from_residual.result (search rules) (dispatch_accepts l (meaning t) n c.args.room c.in-Some.seat tag (whole t request) ((meaning (sent_tables t n c.in-Some.seat slot tag)).queue c.in-Some.seat) seat_next lowest was c.if-not-room.false)
-
-pub returns-clause-answers : goal.returns-clause-answers
-returns-clause-answers c =
-    let l = of_sizes c.args.sizes in
-    let t = c.args.parts.now.tables in
-    let n = c.args.serial in
-    let turn = next_queue_is l n t c.requires in
-    let next : next_seat t.served t.links ≡ Some c.in-Some.seat = search rules in
-    let seat_next : next_queue (meaning t) ≡ Some c.in-Some.seat = turn ∙ next in
-    let tag = c.in-Some-lowest_free.tag in
-    let free : IsFirstFree t.tags tag = search rules in
-    let lowest : lowest_free l (meaning t) ≡ Some tag = tag_free l n t tag c.requires free in
-    let found = first_found l n t c.in-Some.seat c.requires next in
-    let slot = c.in-Some-first.slot in
-    let first : first_slot c.in-Some.seat t.links ≡ Some slot = search rules in
-    let request : Request = c.in-Some-request.request.now in
-    let here : at t.requests slot ≡ Some request = search rules in
-    let can : CanSend l t c.in-Some.seat slot tag request = record { within = found.4; first = first; here = here; tag_within = omega (arith, free.within, c.requires.sized.tags); tag_free = free.is_free } in
-    let was = sent-queue_was l n t c.in-Some.seat slot tag request c.requires can in
-    let now : c.exchange-3.new.parts.tables ≡ sent_tables t n c.in-Some.seat slot tag = search rules in
-    let pool : c.pool-2.result.now.bios ≡ t.bios = c.pool-2.ensures.bios in
-    let few : HasFewSectors c.pool-2.result.now.bios = subst HasFewSectors (sym pool) (few_sectors_of l n t c.requires) in
-    let start : c.range_of_request.result.start ≡ first_start t.bios request.bios.items = c.range_of_request.ensures.start ∙ ap (λ b. first_start b request.bios.items) pool in
-    let count : c.range_of_request.result.count ≡ total_count t.bios request.bios.items = c.range_of_request.ensures.count few ∙ ap (λ b. total_count b request.bios.items) pool in
-    let read : c.range_of_request.result ≡ record { start = first_start t.bios request.bios.items; count = total_count t.bios request.bios.items } = (λ i. record { start = start i; count = count i }) in
-    let range : c.range_of_request.result ≡ range_of (bios_at t.bios request.bios.items) = read ∙ sym (range_is t.bios request.bios.items (request_taken l n t slot request c.requires here)) in
-    let next = ap meaning now ∙ sent-meaning l n t c.in-Some.seat slot tag request c.requires can in
-    sym (dispatch_does l (meaning t) n c.args.room c.in-Some.seat tag (whole t request) ((meaning (sent_tables t n c.in-Some.seat slot tag)).queue c.in-Some.seat) seat_next lowest was c.if-not-room.false
-    ∙ ap (λ m. (m, Accepted (Issued tag n request.op (range_of (bios_at t.bios request.bios.items))))) (sym next)
-    ∙ ap (λ r. (meaning c.exchange-3.new.parts.tables, Accepted (Issued tag n request.op r))) (sym range))
-
-pub returns-clause-leaves : goal.returns-clause-leaves
-returns-clause-leaves c =
-    let l = of_sizes c.args.sizes in
-    let t = c.args.parts.now.tables in
-    let n = c.args.serial in
-    let turn = next_queue_is l n t c.requires in
-    let next : next_seat t.served t.links ≡ Some c.in-Some.seat = search rules in
-    let seat_next : next_queue (meaning t) ≡ Some c.in-Some.seat = turn ∙ next in
-    let tag = c.in-Some-lowest_free.tag in
-    let free : IsFirstFree t.tags tag = search rules in
-    let lowest : lowest_free l (meaning t) ≡ Some tag = tag_free l n t tag c.requires free in
-    let found = first_found l n t c.in-Some.seat c.requires next in
-    let slot = c.in-Some-first.slot in
-    let first : first_slot c.in-Some.seat t.links ≡ Some slot = search rules in
-    let request : Request = c.in-Some-request.request.now in
-    let here : at t.requests slot ≡ Some request = search rules in
-    let can : CanSend l t c.in-Some.seat slot tag request = record { within = found.4; first = first; here = here; tag_within = omega (arith, free.within, c.requires.sized.tags); tag_free = free.is_free } in
-    let was = sent-queue_was l n t c.in-Some.seat slot tag request c.requires can in
-    let now : c.exchange-3.new.parts.tables ≡ sent_tables t n c.in-Some.seat slot tag = search rules in
-    let P : Tables → Type 0 = λ u. WellFormed l (n + 1) u in (
-      subst P (sym now) (sent-well l n t c.in-Some.seat slot tag request c.requires can),
-      omega (arith, c.exchange.ensures.spare, c.exchange-2.ensures.spare, c.exchange-3.ensures.spare, c.in_ok-reserve.ensures.spare),
-      omega (
-        arith,
-        one_more c.reserve.new.self.current c.exchange.new.self.current _ c.exchange.ensures.recorded,
-        one_more c.exchange.new.self.current c.exchange-2.new.self.current _ c.exchange-2.ensures.recorded,
-        one_more c.exchange-2.new.self.current c.exchange-3.new.self.current _ c.exchange-3.ensures.recorded,
-        ap length c.reserve.ensures.current,
-      ),
-    )

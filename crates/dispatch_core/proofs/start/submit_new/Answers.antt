@@ -5,7 +5,7 @@ use Rattle.change_record.specs.Machine.{Plain, meaning}
 use Rattle.plain_machine.specs.declared.answer.Answer.{Answer}
 use Rattle.plain_machine.specs.declared.answer.Answer.TheVariants.{Accepted}
 use Rattle.plain_machine.specs.declared.answer.Reply.TheVariants.{Queued}
-use Rattle.plain_machine.specs.Step.{of_sizes, accepted, submit, submitted, needs_request, IsAccepted}
+use Rattle.plain_machine.specs.Step.{of_sizes, accepted, submit, submitted, needs_request, MayGiveWay}
 use Rattle.dispatch_core.specs.WellFormed.{at, WellFormed}
 use Rattle.dispatch_core.specs.Changes.{submitted_tables}
 use Rattle.dispatch_core.specs.Counts.{submit_exchanges}
@@ -51,7 +51,7 @@ returns-in_err-clone-clause-answers c =
     let accepts : submit l (meaning t) c.args.serial c.args.room c.args.seat c.args.session c.args.op c.args.range c.args.payload.now
     ≡ (submitted (meaning t) c.args.serial c.args.seat c.args.session c.args.op c.args.range c.args.payload.now, Accepted (Queued c.args.serial)) =
     goes ∙ ap (λ b. accepted b (meaning t) (submitted (meaning t) c.args.serial c.args.seat c.args.session c.args.op c.args.range c.args.payload.now) (Queued c.args.serial)) c.if-not-room.false in
-    let P : Plain × Answer → Type 0 = λ o. IsAccepted o.1 in
+    let P : Plain × Answer → Type 0 = λ o. MayGiveWay o.1 in
     Answers-err (λ m. submit l m c.args.serial c.args.room c.args.seat c.args.session c.args.op c.args.range c.args.payload.now) t t c.from_residual.result (search rules) (subst P (sym accepts) tt)
 
 pub returns-in_err-reserve-clause-answers : goal.returns-in_err-reserve-clause-answers
@@ -67,7 +67,7 @@ returns-in_err-reserve-clause-answers c =
     let accepts : submit l (meaning t) c.args.serial c.args.room c.args.seat c.args.session c.args.op c.args.range c.args.payload.now
     ≡ (submitted (meaning t) c.args.serial c.args.seat c.args.session c.args.op c.args.range c.args.payload.now, Accepted (Queued c.args.serial)) =
     goes ∙ ap (λ b. accepted b (meaning t) (submitted (meaning t) c.args.serial c.args.seat c.args.session c.args.op c.args.range c.args.payload.now) (Queued c.args.serial)) c.if-not-room.false in
-    let P : Plain × Answer → Type 0 = λ o. IsAccepted o.1 in
+    let P : Plain × Answer → Type 0 = λ o. MayGiveWay o.1 in
     Answers-err (λ m. submit l m c.args.serial c.args.room c.args.seat c.args.session c.args.op c.args.range c.args.payload.now) t t c.from_residual-in_err-reserve.result (search rules) (subst P (sym accepts) tt)
 
 pub returns-clause-answers : goal.returns-clause-answers

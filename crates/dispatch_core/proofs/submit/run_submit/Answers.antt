@@ -14,4 +14,4 @@ unreachable-requires c =
     let sits : at t.seats c.args.seat ≡ Some entry = sym c.seat.ensures ∙ c.in-Some.is in
     let few : entry.unreaped < 32 = c.if-entry-ge32.false in
     let all : AllTaken (seat_slots c.args.seat t.bios) = search rules in
-    free_place l c.args.serial t c.args.seat entry c.requires c.if-seat-ge16.false sits few all
+    free_place l c.args.serial t c.args.seat entry c.requires.well c.if-seat-ge16.false sits few all

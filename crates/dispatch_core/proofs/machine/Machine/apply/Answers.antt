@@ -8,7 +8,7 @@ use Rattle.plain_machine.specs.Whole.{AreWhole}
 use Rattle.plain_machine.specs.declared.answer.Answer.{Answer}
 use Rattle.dispatch_core.specs.Relation.{Leaves}
 use Rattle.dispatch_core.specs.WellFormed.{WellFormed}
-use Rattle.dispatch_core.specs.Counts.{exchanges_of}
+use Rattle.dispatch_core.specs.Counts.{exchanges_of, rule_exchanges, IsCount}
 use Rattle.dispatch_core.specs.Running.{Running, IsFor, plain_of}
 use Rattle.dispatch_core.proofs.Laws.{WellFormed-later}
 use Rattle.dispatch_core.proofs.Bounds.{exchanges_few}
@@ -48,18 +48,21 @@ pub returns-in-Ok-Accepted-clause-records : goal.returns-in-Ok-Accepted-clause-r
 returns-in-Ok-Accepted-clause-records c =
     let P : Running → Type 0 = λ m. IsFor c.args.serial m in
     let here = subst P (sym c.self.view_is) c.requires.well in
-    let E : Running → Type 0 = λ m. exchanges_of (plain_of m) c.args.step.now ≤ 512 in
-    let few : exchanges_of (plain_of c.args.self.now) c.args.step.now ≤ 512 = subst E c.self.view_is (exchanges_few (meaning c.self.inside.parts.tables) c.args.step.now here.1) in
+    let few = exchanges_few (meaning c.self.inside.parts.tables) c.args.step.now here.1 in
     let same : c.self.inside.parts.tables ≡ c.args.self.now.tables = ap (λ (m : Running). m.tables) c.self.view_is in
     let R : List Change → Type 0 = λ l. IsTrail l c.self.inside.parts.tables c.self.inside.parts.tables in
     let T : Tables → Type 0 = λ t. IsTrail c.perform.new.tape.current c.perform.new.parts.tables t in
     let begun : IsTrail [] c.self.inside.parts.tables c.self.inside.parts.tables = record { back = refl; fits = tt; puts = tt } in
     let trail = c.in-Ok-Accepted.ensures.trail c.self.inside.parts.tables (subst R (sym c.requires.idle) begun) in
     let steps : c.close.new.self.steps ≡ c.args.tape.now.steps ++ c.perform.new.tape.current ∷ [] = search rules in
+    let least = exchanges_of (meaning c.self.inside.parts.tables) c.args.step.now in
+    let more = rule_exchanges (meaning c.self.inside.parts.tables) c.args.step.now in
     let L : Answer → Type 0 =
-    λ a. Leaves (of_sizes c.self.inside.sizes) c.args.serial (exchanges_of (meaning c.self.inside.parts.tables) c.args.step.now) a c.self.inside.parts.tables c.args.tape.now.current
+    λ a. Leaves (of_sizes c.self.inside.sizes) c.args.serial least more a c.self.inside.parts.tables c.args.tape.now.current
     c.perform.new.parts.tables c.perform.new.tape.current c.perform.new.tape.spare in
     let left = subst L c.in-Ok-Accepted.field-0-is c.in-Ok-Accepted.ensures.leaves in
-    let count : length c.perform.new.tape.current ≡ exchanges_of (plain_of c.args.self.now) c.args.step.now =
-    omega (arith, left.2, ap length c.requires.idle, ap (λ m. exchanges_of (plain_of m) c.args.step.now) c.self.view_is) in
-    (c.perform.new.tape.current, steps, count, few, subst T same trail)
+    let none : length c.args.tape.now.current ≡ 0 = ap length c.requires.idle in
+    let counted : IsCount (meaning c.self.inside.parts.tables) c.args.step.now (length c.perform.new.tape.current) =
+    record { least = omega (arith, left.2, none); most = omega (arith, left.3, none); bound = omega (arith, left.3, none, few) } in
+    let C : Running → Type 0 = λ m. IsCount (plain_of m) c.args.step.now (length c.perform.new.tape.current) in
+    (c.perform.new.tape.current, steps, subst C c.self.view_is counted, subst T same trail)

@@ -1,19 +1,26 @@
 use Rattle.std.proofs.Common.{◌≡◌, ap, ◌∙◌, sym, subst, arith}
-use Rattle.change_record.specs.Tables.{Loose}
-use Rattle.change_record.specs.Machine.{meaning, opening}
+use Rattle.change_record.specs.Tables.{Loose, empty_tables}
+use Rattle.change_record.specs.Machine.{meaning}
+use Rattle.plain_machine.specs.Step.{of_sizes, opening}
 use Rattle.plain_machine.specs.Whole.{AreWhole}
+use Rattle.dispatch_core.specs.Running.{sizes_of, making_of}
 use Rattle.dispatch_core.specs.WellFormed.{WellFormed}
-use Rattle.dispatch_core.proofs.Opening.{opening_is, opening-well}
+use Rattle.dispatch_core.proofs.Opening.{opening_is, opening-well, for_limits}
 use Rattle.dispatch_core.proofs.Bounds.{opening-whole}
 use Rattle.dispatch_core.proofs.machine.Machine.new.Goals as goal
 
 pub returns-clause-opening : goal.returns-clause-opening
-returns-clause-opening c = ap (λ p. meaning p.tables) c.in_ok-new.ensures ∙ opening_is c.args.config.nr_requests c.args.config.tags
+returns-clause-opening c =
+    ap (λ p. meaning p.tables) c.in_ok-new.ensures ∙ ap (λ k. meaning (empty_tables k)) c.making_of.ensures ∙ opening_is (of_sizes (sizes_of c.args.config c.args.sectors))
 
 pub returns-clause-well : goal.returns-clause-well
 returns-clause-well c =
-    let P : Loose → Type 0 = λ p. WellFormed (record { sectors = c.args.sectors; requests = c.args.config.nr_requests; tags = c.args.config.tags }) 1 p.tables in
-    let opened : meaning c.in_ok-new.field-0.tables ≡ opening = ap (λ p. meaning p.tables) c.in_ok-new.ensures ∙ opening_is c.args.config.nr_requests c.args.config.tags in (
-      subst P (sym c.in_ok-new.ensures) (opening-well c.args.sectors c.args.config.nr_requests c.args.config.tags c.requires (omega (arith, c.args.config.few_tags)) (omega (arith, c.args.config.few_requests))),
-      subst AreWhole (sym opened) opening-whole,
+    let l = of_sizes (sizes_of c.args.config c.args.sectors) in
+    let config = c.args.config in
+    let P : Loose → Type 0 = λ p. WellFormed l 1 p.tables in
+    let made : c.in_ok-new.field-0 ≡ record { tables = empty_tables (for_limits l); turns = 0 } =
+    c.in_ok-new.ensures ∙ ap (λ k. let p : Loose = record { tables = empty_tables k; turns = 0 } in p) c.making_of.ensures in
+    (
+      subst P (sym made) (opening-well l c.requires (omega (arith, config.few_tags)) (omega (arith, config.few_requests)) config.small_vtime config.first_budget_at_least config.first_budget_at_most config.small_max_budget),
+      subst AreWhole (sym (ap (λ p. meaning p.tables) made ∙ opening_is l)) (opening-whole l),
     )

@@ -1,0 +1,143 @@
+use Rattle.std.proofs.Common.{◌≡◌, ◌+◌, length, Some, None, subst, sym, ap, ◌∙◌, arith, rules}
+use Rattle.sector_core.specs.Table.{AllTaken, IsFirstFree}
+use Rattle.request_pool.specs.declared.Request.{Request}
+use Rattle.process_queue.specs.Queue.{first_slot}
+use Rattle.soft_queue.specs.Turn.{next_seat}
+use Rattle.change_record.specs.Tables.{Tables}
+use Rattle.process_queue.specs.Merge.{bios_at}
+use Rattle.change_record.specs.Machine.{meaning}
+use Rattle.plain_machine.specs.declared.answer.Answer.TheVariants.{Accepted}
+use Rattle.plain_machine.specs.declared.answer.Reply.TheVariants.{Issued}
+use Rattle.plain_machine.specs.Step.{of_sizes, sent, range_of}
+use Rattle.dispatch_core.specs.WellFormed.{at, WellFormed}
+use Rattle.dispatch_core.specs.Changes.{sent_tables}
+use Rattle.dispatch_core.specs.Ranges.{HasFewSectors, first_start, total_count}
+use Rattle.dispatch_core.proofs.Sides.{CanSend}
+use Rattle.dispatch_core.proofs.Queues.{whole, next_queue_is, no_tag_free, tag_free, first_found, sent-queue_was}
+use Rattle.dispatch_core.proofs.Laws.{sent-well, sent-meaning}
+use Rattle.dispatch_core.proofs.Sectors.{few_sectors_of, range_is, request_taken}
+use Rattle.dispatch_core.proofs.Decided.{sent_does, sent_late, sent_accepts, Answers-err}
+use Rattle.dispatch_core.proofs.Recorded.{one_more}
+use Rattle.dispatch_core.proofs.send.send_first.Goals as goal
+
+pub returns-then-not-room-clause-answers : goal.returns-then-not-room-clause-answers
+returns-then-not-room-clause-answers c =
+    let l = of_sizes c.args.sizes in
+    let t = c.args.parts.now.tables in
+    let n = c.args.serial in
+    let next = c.requires.next in
+    let tag = c.args.tag in
+    let free = c.requires.free in
+    let found = first_found l n t c.args.seat c.requires.well next in
+    let slot = found.0 in
+    let request : Request = found.2 in
+    let can : CanSend l t c.args.seat slot tag request = record { within = found.4; first = found.1; here = found.3; tag_within = omega (arith, free.within, c.requires.well.sized.tags); tag_free = free.is_free } in
+    let was = sent-queue_was l n t c.args.seat slot tag request c.requires.well can in
+    sym (sent_late l (meaning t) n c.args.room c.args.seat tag (whole t request) ((meaning (sent_tables t n c.args.seat slot tag)).queue c.args.seat) was c.if-not-room.true)
+
+pub unreachable-requires : goal.unreachable-requires
+unreachable-requires c =
+    let l = of_sizes c.args.sizes in
+    let t = c.args.parts.now.tables in
+    let n = c.args.serial in
+    let next = c.requires.next in
+    let tag = c.args.tag in
+    let free = c.requires.free in
+    let found = first_found l n t c.args.seat c.requires.well next in
+    let none : first_slot c.args.seat t.links ≡ None = search rules in
+    let some = found.1 in
+    cc
+
+pub unreachable-requires-in_default-request : goal.unreachable-requires-in_default-request
+unreachable-requires-in_default-request c =
+    let l = of_sizes c.args.sizes in
+    let t = c.args.parts.now.tables in
+    let n = c.args.serial in
+    let next = c.requires.next in
+    let tag = c.args.tag in
+    let free = c.requires.free in
+    let found = first_found l n t c.args.seat c.requires.well next in
+    let first : first_slot c.args.seat t.links ≡ Some c.in-Some.slot = search rules in
+    let none : at t.requests c.in-Some.slot ≡ None = search rules in
+    let known = found.1 in
+    let some : at t.requests found.0 ≡ Some found.2 = found.3 in
+    cc
+
+pub returns-in_err-reserve-clause-answers : goal.returns-in_err-reserve-clause-answers
+returns-in_err-reserve-clause-answers c =
+    let l = of_sizes c.args.sizes in
+    let t = c.args.parts.now.tables in
+    let n = c.args.serial in
+    let next = c.requires.next in
+    let tag = c.args.tag in
+    let free = c.requires.free in
+    let found = first_found l n t c.args.seat c.requires.well next in
+    let slot = c.in-Some.slot in
+    let first : first_slot c.args.seat t.links ≡ Some slot = search rules in
+    let request : Request = c.in-Some-request.request.now in
+    let here : at t.requests slot ≡ Some request = search rules in
+    let can : CanSend l t c.args.seat slot tag request = record { within = found.4; first = first; here = here; tag_within = omega (arith, free.within, c.requires.well.sized.tags); tag_free = free.is_free } in
+    let was = sent-queue_was l n t c.args.seat slot tag request c.requires.well can in
+    Answers-err (λ m. sent m n c.args.room c.args.seat tag (m.queue c.args.seat)) t t c.from_residual.result (search rules) (sent_accepts l (meaning t) n c.args.room c.args.seat tag (whole t request) ((meaning (sent_tables t n c.args.seat slot tag)).queue c.args.seat) was c.if-not-room.false)
+
+pub returns-clause-answers : goal.returns-clause-answers
+returns-clause-answers c =
+    let l = of_sizes c.args.sizes in
+    let t = c.args.parts.now.tables in
+    let n = c.args.serial in
+    let next = c.requires.next in
+    let tag = c.args.tag in
+    let free = c.requires.free in
+    let found = first_found l n t c.args.seat c.requires.well next in
+    let slot = c.in-Some.slot in
+    let first : first_slot c.args.seat t.links ≡ Some slot = search rules in
+    let request : Request = c.in-Some-request.request.now in
+    let here : at t.requests slot ≡ Some request = search rules in
+    let can : CanSend l t c.args.seat slot tag request = record { within = found.4; first = first; here = here; tag_within = omega (arith, free.within, c.requires.well.sized.tags); tag_free = free.is_free } in
+    let was = sent-queue_was l n t c.args.seat slot tag request c.requires.well can in
+    let now : c.exchange-3.new.parts.tables ≡ sent_tables t n c.args.seat slot tag = search rules in
+    let pool : c.pool-2.result.now.bios ≡ t.bios = c.pool-2.ensures.bios in
+    let few : HasFewSectors c.pool-2.result.now.bios = subst HasFewSectors (sym pool) (few_sectors_of l n t c.requires.well) in
+    let start : c.range_of_request.result.start ≡ first_start t.bios request.bios.items = c.range_of_request.ensures.start ∙ ap (λ b. first_start b request.bios.items) pool in
+    let count : c.range_of_request.result.count ≡ total_count t.bios request.bios.items = c.range_of_request.ensures.count few ∙ ap (λ b. total_count b request.bios.items) pool in
+    let read : c.range_of_request.result ≡ record { start = first_start t.bios request.bios.items; count = total_count t.bios request.bios.items } = (λ i. record { start = start i; count = count i }) in
+    let range : c.range_of_request.result ≡ range_of (bios_at t.bios request.bios.items) = read ∙ sym (range_is t.bios request.bios.items (request_taken l n t slot request c.requires.well here)) in
+    let next = ap meaning now ∙ sent-meaning l n t c.args.seat slot tag request c.requires.well can in
+    sym (sent_does l (meaning t) n c.args.room c.args.seat tag (whole t request) ((meaning (sent_tables t n c.args.seat slot tag)).queue c.args.seat) was c.if-not-room.false
+    ∙ ap (λ m. (m, Accepted (Issued tag n request.op (range_of (bios_at t.bios request.bios.items))))) (sym next)
+    ∙ ap (λ r. (meaning c.exchange-3.new.parts.tables, Accepted (Issued tag n request.op r))) (sym range))
+
+pub returns-clause-leaves : goal.returns-clause-leaves
+returns-clause-leaves c =
+    let l = of_sizes c.args.sizes in
+    let t = c.args.parts.now.tables in
+    let n = c.args.serial in
+    let next = c.requires.next in
+    let tag = c.args.tag in
+    let free = c.requires.free in
+    let found = first_found l n t c.args.seat c.requires.well next in
+    let slot = c.in-Some.slot in
+    let first : first_slot c.args.seat t.links ≡ Some slot = search rules in
+    let request : Request = c.in-Some-request.request.now in
+    let here : at t.requests slot ≡ Some request = search rules in
+    let can : CanSend l t c.args.seat slot tag request = record { within = found.4; first = first; here = here; tag_within = omega (arith, free.within, c.requires.well.sized.tags); tag_free = free.is_free } in
+    let was = sent-queue_was l n t c.args.seat slot tag request c.requires.well can in
+    let now : c.exchange-3.new.parts.tables ≡ sent_tables t n c.args.seat slot tag = search rules in
+    let P : Tables → Type 0 = λ u. WellFormed l (n + 1) u in (
+      subst P (sym now) (sent-well l n t c.args.seat slot tag request c.requires.well can),
+      omega (arith, c.exchange.ensures.spare, c.exchange-2.ensures.spare, c.exchange-3.ensures.spare, c.in_ok-reserve.ensures.spare),
+      omega (
+        arith,
+        one_more c.reserve.new.self.current c.exchange.new.self.current _ c.exchange.ensures.recorded,
+        one_more c.exchange.new.self.current c.exchange-2.new.self.current _ c.exchange-2.ensures.recorded,
+        one_more c.exchange-2.new.self.current c.exchange-3.new.self.current _ c.exchange-3.ensures.recorded,
+        ap length c.reserve.ensures.current,
+      ),
+      omega (
+        arith,
+        one_more c.reserve.new.self.current c.exchange.new.self.current _ c.exchange.ensures.recorded,
+        one_more c.exchange.new.self.current c.exchange-2.new.self.current _ c.exchange-2.ensures.recorded,
+        one_more c.exchange-2.new.self.current c.exchange-3.new.self.current _ c.exchange-3.ensures.recorded,
+        ap length c.reserve.ensures.current,
+      ),
+    )
