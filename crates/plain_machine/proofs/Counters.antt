@@ -11,9 +11,9 @@ use Rattle.change_record.specs.declared.change.Seat.{Seat}
 use Rattle.change_record.specs.Machine.{WholeRequest, Plain, put}
 use Rattle.plain_machine.specs.Step.{Limits, is_session, unreaped, with_unreaped, merge_in, new_bio, with_bio, queue_with, submitted}
 use Rattle.plain_machine.specs.Owed.{bios_in, bios_of, flying, owed}
-use Rattle.plain_machine.proofs.Puts.{put_here, put_other, put_cases}
+use Rattle.plain_machine.proofs.Puts.{put_here, put_other, put_cases, some_is}
 use Rattle.plain_machine.proofs.Joins.{All-queue_with, sum_by-queue_with, joined_is}
-use Rattle.plain_machine.proofs.Debts.{Seated, SitsAt, Sound, some_is, bios_in-same}
+use Rattle.plain_machine.proofs.Debts.{Seated, SitsAt, Sound, bios_in-same}
 
 -- the seats with another counter at one of them
 abbrev counted : (ℕ → Option Seat) → ℕ → ℕ → ℕ → Option Seat

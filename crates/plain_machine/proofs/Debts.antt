@@ -4,10 +4,10 @@ use Rattle.std.proofs.lemmas.Bool.{cases_eq, cond-true, cond-false}
 use Rattle.std.proofs.lemmas.List.Elements.{All-same, All-head, All-weaker}
 use Rattle.soft_queue.specs.Turn.{numbers}
 use Rattle.change_record.specs.declared.change.Seat.{Seat}
-use Rattle.change_record.specs.Machine.{WholeRequest, Flight, Plain, opening, put}
-use Rattle.plain_machine.specs.Step.{Limits, is_session}
+use Rattle.change_record.specs.Machine.{WholeRequest, Flight, Bfq, Plain, put}
+use Rattle.plain_machine.specs.Step.{Limits, opening, is_session}
 use Rattle.plain_machine.specs.Owed.{bios_in, bios_of, flying, CountsOwed}
-use Rattle.plain_machine.proofs.Puts.{put_here, put_other, put_cases}
+use Rattle.plain_machine.proofs.Puts.{put_here, put_other, put_cases, some_is}
 use Rattle.plain_machine.proofs.Flights.{bios_flown, bios_of-none}
 
 -- sessions are serials that were given, and no two seats have the same
@@ -40,14 +40,15 @@ Sound-later l n n' m le h = record {
   counts = h.counts;
 }
 
-pub some_is : {A : Type 0} (a b : A) → Some a ≡ Some b → a ≡ b
-some_is a b e = cc
-
 pub not_both : {A : Type 0} {P : Type 0} (o : Option A) (a : A) → o ≡ None → o ≡ Some a → P
 not_both o a e f = cc
 
+-- what BFQ knows of entities does not matter to it
+pub Sound-bfq : (l : Limits) (n : ℕ) (m : Plain) (b : Bfq) → Sound l n m → Sound l n (record m { bfq = b })
+Sound-bfq l n m b h = record { seated = h.seated; queued = h.queued; flown = h.flown; empty = h.empty; counts = h.counts }
+
 -- before the first step
-pub Sound-opening : (l : Limits) → Sound l 0 opening
+pub Sound-opening : (l : Limits) → Sound l 0 (opening l)
 Sound-opening l = record {
   seated = record { given = λ k s e. cc; apart = λ j k s t e f g. cc };
   queued = λ k i d lt. absurd (omega arith);
@@ -82,8 +83,8 @@ flown_before session n None le h = refl
 flown_before session n (Some f) le h = bios_in-other session f.request (λ e. omega (arith, le, e, h f refl))
 
 -- Attach: nothing is owed yet to a session that begins.
-abbrev attached : Plain → ℕ → Seat → Plain
-attached m seat entry = record m { seat = put m.seat seat (Some entry) }
+abbrev attached : Plain → ℕ → Seat → (ℕ → ℕ) → Bfq → Plain
+attached m seat entry head bfq = record m { seat = put m.seat seat (Some entry); head = head; bfq = bfq }
 
 Seated-attached : (n : ℕ) (seats : ℕ → Option Seat) (seat : ℕ) (entry : Seat) → entry.session ≡ n → Seated n seats → Seated (n + 1) (put seats seat (Some entry))
 Seated-attached n seats seat entry new h = record {
@@ -113,8 +114,8 @@ queued-attached seats seat entry k requests free h = elim (cases_eq k seat) [
   | inr ne ↦ All-weaker (SitsAt seats k) (SitsAt (put seats seat (Some entry)) k) (λ r p. ap (is_session r.session) (put_other seats seat (Some entry) k ne) ∙ p) requests h
 ]
 
-pub attached-sound : (l : Limits) (n : ℕ) (m : Plain) (seat : ℕ) (entry : Seat) → m.seat seat ≡ None → entry.session ≡ n → entry.unreaped ≡ 0 → Sound l n m → Sound l (n + 1) (attached m seat entry)
-attached-sound l n m seat entry free new none h = record {
+pub attached-sound : (l : Limits) (n : ℕ) (m : Plain) (seat : ℕ) (entry : Seat) (head : ℕ → ℕ) (bfq : Bfq) → m.seat seat ≡ None → entry.session ≡ n → entry.unreaped ≡ 0 → Sound l n m → Sound l (n + 1) (attached m seat entry head bfq)
+attached-sound l n m seat entry head bfq free new none h = record {
   seated = Seated-attached n m.seat seat entry new h.seated;
   queued = λ k. queued-attached m.seat seat entry k (m.queue k) free (h.queued k);
   flown = λ tag f e. omega (arith, h.flown tag f e);

@@ -12,7 +12,7 @@ use Rattle.change_record.specs.Machine.{WholeRequest}
 use Rattle.process_queue.specs.declared.merge.Shape.{Shape}
 use Rattle.process_queue.specs.Merge.{merge_of, joins_at, may_join, same_op, has_room, shape_of, starts_at, ends_at}
 use Rattle.plain_machine.specs.Step.{size_of, shape, with_bio, change_first, queue_with}
-use Rattle.plain_machine.proofs.Debts.{some_is}
+use Rattle.plain_machine.proofs.Puts.{some_is}
 
 -- what is found among those that pass one test, or else another, is found by its own
 found_by : {A : Type 0} (p : Bool → A → Bool) (xs : List A) (found : A × Bool)

@@ -4,6 +4,7 @@ pub mod Debts
 pub mod Joins
 pub mod Counters
 pub mod Sendings
+pub mod Served
 pub mod Stepped
 pub mod Serials
 pub mod Wholes

@@ -4,7 +4,8 @@ use Rattle.std.proofs.lemmas.Bool.{cases_eq, cond-true, cond-false}
 use Rattle.change_record.specs.Machine.{Plain, put}
 use Rattle.plain_machine.specs.declared.answer.Answer.{Answer}
 use Rattle.plain_machine.specs.declared.answer.Reply.{Reply}
-use Rattle.plain_machine.specs.Step.{Outcome_of, accepted}
+use Rattle.plain_machine.specs.Step.{Outcome_of, accepted, accepted_if}
+use Rattle.std.specs.Option.{option_map, option_and_then}
 
 pub put_here : {A : Type 0} (f : ℕ → A) (k : ℕ) (v : A) (n : ℕ) → n ≡ k → put f k v n ≡ v
 put_here f k v n e = cond-true (n == k) v (f n) (eq-eqb n k e)
@@ -30,7 +31,26 @@ pub accepted-keeps : (P : Plain → Type 0) (room : Bool) (m next : Plain) (repl
 accepted-keeps P true m next reply same done = done
 accepted-keeps P false m next reply same done = same
 
+pub some_is : {A : Type 0} (a b : A) → Some a ≡ Some b → a ≡ b
+some_is a b e = cc
+
 -- where no test holds the first does not, and none of the others
 pub first_fails : (b : Bool) (answer : Answer) (others : Option Answer) → cond b (Some answer) others ≡ None → (b ≡ false) × (others ≡ None)
 first_fails true answer others e = cc
 first_fails false answer others e = (refl, e)
+
+-- a step with a rule that may be refused keeps what it keeps where the rule is not
+pub accepted_if-keeps : (P : Plain → Type 0) (room : Bool) (m : Plain) (o : Option (Plain × Reply))
+    → P m → ((next : Plain × Reply) → o ≡ Some next → P next.0) → P (accepted_if room m o).0
+accepted_if-keeps P room m None same done = same
+accepted_if-keeps P room m (Some next) same done = accepted-keeps P room m next.0 next.1 same (done next refl)
+
+-- what a rule after another gives, it gives on what the first gave
+pub and_then_is : {A B : Type 0} (f : A → Option B) (o : Option A) (b : B) → option_and_then f o ≡ Some b → (a : A) × (o ≡ Some a) × (f a ≡ Some b)
+and_then_is f None b e = cc
+and_then_is f (Some a) b e = (a, refl, e)
+
+-- what a change of an option's value gives, it makes of that value
+pub map_is : {A B : Type 0} (f : A → B) (o : Option A) (b : B) → option_map f o ≡ Some b → (a : A) × (o ≡ Some a) × (f a ≡ b)
+map_is f None b e = cc
+map_is f (Some a) b e = (a, refl, some_is (f a) b e)

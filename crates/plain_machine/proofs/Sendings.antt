@@ -1,5 +1,5 @@
 -- Dispatch and Finish: bios go from a queue to a tag, and from there to an outbox.
-use Rattle.std.proofs.Common.{true, false, ◌≡◌, inl, inr, ℕ, ◌+◌, ◌<◌, List, [], ◌∷◌, ◌++◌, length, Option, Some, None, All, refl, sym, ap, ◌∙◌, arith, eq-eqb, ne_eqb}
+use Rattle.std.proofs.Common.{true, false, ◌≡◌, inl, inr, ℕ, ◌+◌, ◌<◌, List, [], ◌∷◌, ◌++◌, length, Option, Some, None, All, refl, sym, ap, ◌∙◌, arith, eq-eqb, ne_eqb, sum_by, subst}
 use Rattle.std.proofs.lemmas.Bool.{cases_eq, cond-true, cond-false}
 use Rattle.std.proofs.lemmas.List.{length-append}
 use Rattle.std.proofs.lemmas.List.Elements.{All-same, All-head, All-tail}
@@ -8,41 +8,56 @@ use Rattle.sector_core.specs.declared.bio.Bio.{Bio}
 use Rattle.sector_core.specs.declared.bio.Outcome.{Outcome}
 use Rattle.overlay.specs.Blocks.{Blocks}
 use Rattle.change_record.specs.declared.change.Seat.{Seat}
-use Rattle.change_record.specs.Machine.{WholeRequest, Flight, Plain, put}
+use Rattle.change_record.specs.Machine.{WholeRequest, Flight, Bfq, Plain, put}
 use Rattle.plain_machine.specs.Step.{Limits, is_session, completed, delivered, after_outcome, rest_of_outcome}
 use Rattle.plain_machine.specs.Owed.{bios_in, bios_of}
-use Rattle.plain_machine.proofs.Puts.{put_here, put_other, put_cases}
+use Rattle.plain_machine.proofs.Puts.{put_here, put_other, put_cases, some_is}
 use Rattle.plain_machine.proofs.Flights.{bios_flown, bios_of-put}
-use Rattle.plain_machine.proofs.Debts.{SitsAt, Sound, some_is, seat_of, bios_in-other, bios_in-same}
+use Rattle.plain_machine.proofs.Debts.{SitsAt, Sound, seat_of, bios_in-other, bios_in-same}
 
--- the first request of a seat's queue, sent under a free tag
-abbrev pub dispatched : Plain → ℕ → ℕ → ℕ → WholeRequest → List WholeRequest → Plain
-dispatched m n seat tag request requests = record m {
+-- a request of a seat's queue, sent under a free tag: the others are queued still
+abbrev pub dispatched : Plain → ℕ → ℕ → ℕ → WholeRequest → List WholeRequest → ℕ → (ℕ → ℕ) → Bfq → Plain
+dispatched m n seat tag request requests served head bfq = record m {
   queue = put m.queue seat requests;
   flight = put m.flight tag (Some (record { issue = n; request = request }));
-  served = seat;
+  served = served;
+  head = head;
+  bfq = bfq;
 }
 
--- the queues without the first request of one
-queued-rest : (seats : ℕ → Option Seat) (queue : ℕ → List WholeRequest) (seat : ℕ) (r : WholeRequest) (rest : List WholeRequest) → queue seat ≡ r ∷ rest
+-- a request and others are those of a queue: what holds of each of these holds of those, and a sum over these is the sum over those
+pub record IsTaken (queue : List WholeRequest) (r : WholeRequest) (rest : List WholeRequest) : Type 1 where
+  pub this : (P : WholeRequest → Type 0) → All P queue → P r
+  pub others : (P : WholeRequest → Type 0) → All P queue → All P rest
+  pub total : (f : WholeRequest → ℕ) → sum_by f queue ≡ f r + sum_by f rest
+
+-- so are the first and those after it
+pub IsTaken-first : (queue : List WholeRequest) (r : WholeRequest) (rest : List WholeRequest) → queue ≡ r ∷ rest → IsTaken queue r rest
+IsTaken-first queue r rest e = record {
+  this = λ P h. All-head P r rest (All-same P (r ∷ rest) queue (sym e) h);
+  others = λ P h. All-tail P r rest (All-same P (r ∷ rest) queue (sym e) h);
+  total = λ f. ap (sum_by f) e ∙ sum_by-cons f r rest;
+}
+
+-- the queues without a request of one
+queued-rest : (seats : ℕ → Option Seat) (queue : ℕ → List WholeRequest) (seat : ℕ) (rest : List WholeRequest) → All (SitsAt seats seat) rest
     → ((k : ℕ) → All (SitsAt seats k) (queue k)) → (k : ℕ) → All (SitsAt seats k) (put queue seat rest k)
-queued-rest seats queue seat r rest first h k = elim (cases_eq k seat) [
+queued-rest seats queue seat rest others h k = elim (cases_eq k seat) [
   | inl e ↦
-      let all : All (SitsAt seats k) (r ∷ rest) = All-same (SitsAt seats k) (r ∷ rest) (queue k) (sym (ap queue e ∙ first)) (h k) in
-      All-same (SitsAt seats k) (put queue seat rest k) rest (put_here queue seat rest k e) (All-tail (SitsAt seats k) r rest all)
+      let P : ℕ → Type 0 = λ j. All (SitsAt seats j) rest in
+      All-same (SitsAt seats k) (put queue seat rest k) rest (put_here queue seat rest k e) (subst P (sym e) others)
   | inr ne ↦ All-same (SitsAt seats k) (put queue seat rest k) (queue k) (put_other queue seat rest k ne) (h k)
 ]
 
-pub dispatched-sound : (l : Limits) (n : ℕ) (m : Plain) (seat tag : ℕ) (r : WholeRequest) (rest : List WholeRequest)
-    → m.queue seat ≡ r ∷ rest → tag < l.tags → m.flight tag ≡ None → Sound l n m → Sound l n (dispatched m n seat tag r rest)
-dispatched-sound l n m seat tag r rest first lt free h =
+pub dispatched-sound : (l : Limits) (n : ℕ) (m : Plain) (seat tag : ℕ) (r : WholeRequest) (rest : List WholeRequest) (served : ℕ) (head : ℕ → ℕ) (bfq : Bfq)
+    → IsTaken (m.queue seat) r rest → tag < l.tags → m.flight tag ≡ None → Sound l n m → Sound l n (dispatched m n seat tag r rest served head bfq)
+dispatched-sound l n m seat tag r rest served head bfq is lt free h =
     let f : Flight = record { issue = n; request = r } in
-    let sits : is_session r.session (m.seat seat) ≡ true =
-    All-head (SitsAt m.seat seat) r rest (All-same (SitsAt m.seat seat) (r ∷ rest) (m.queue seat) (sym first) (h.queued seat)) in
+    let sits : is_session r.session (m.seat seat) ≡ true = is.this (SitsAt m.seat seat) (h.queued seat) in
     let entry = seat_of r.session (m.seat seat) sits in
     record {
       seated = h.seated;
-      queued = queued-rest m.seat m.queue seat r rest first h.queued;
+      queued = queued-rest m.seat m.queue seat rest (is.others (SitsAt m.seat seat) (h.queued seat)) h.queued;
       flown = λ k g e. elim (put_cases m.flight tag (Some f) k (Some g) e) [
         | inl x ↦ let same = ap (λ (v : Flight). v.request.session) (some_is f g x.1) in omega (arith, same, entry.2, h.seated.given seat entry.0 entry.1)
         | inr x ↦ h.flown k g x.1
@@ -55,7 +70,7 @@ dispatched-sound l n m seat tag r rest first lt free h =
           elim (cases_eq k seat) [
             | inl same ↦
                 let before : bios_of s.session (m.queue k) ≡ bios_in s.session r + bios_of s.session rest =
-                ap (λ j. bios_of s.session (m.queue j)) same ∙ ap (bios_of s.session) first ∙ sum_by-cons (bios_in s.session) r rest in
+                ap (λ j. bios_of s.session (m.queue j)) same ∙ is.total (bios_in s.session) in
                 let after : bios_of s.session (put m.queue seat rest k) ≡ bios_of s.session rest = ap (bios_of s.session) (put_here m.queue seat rest k same) in
                 omega (arith, had, flights, none, before, after)
             | inr other ↦

@@ -1,6 +1,6 @@
 -- The serials of a keeper's line rise, so that what each step keeps holds of every keeper's machine.
 use Rattle.std.proofs.Common.{true, false, Bool, ◌≡◌, ℕ, zero, suc, ◌+◌, ◌≤◌, List, [], ◌∷◌, ◌++◌, take, Option, Some, None, if◌then◌else◌, refl, sym, subst, arith}
-use Rattle.change_record.specs.Machine.{Plain, opening}
+use Rattle.change_record.specs.Machine.{Plain}
 use Rattle.plain_machine.specs.declared.step.Step.{Step}
 use Rattle.plain_machine.specs.declared.call.Call.{Call}
 use Rattle.plain_machine.specs.declared.call.Call.TheVariants.{Do, Hold, Release, Undo, Redo}
@@ -8,7 +8,7 @@ use Rattle.plain_machine.specs.declared.call.Stamped.{Stamped}
 use Rattle.plain_machine.specs.declared.answer.Answer.{Answer}
 use Rattle.plain_machine.specs.declared.answer.Answer.TheVariants.{Accepted, Refused, NotYet}
 use Rattle.plain_machine.specs.declared.answer.Cause.TheVariants.{Held}
-use Rattle.plain_machine.specs.Step.{Limits, step}
+use Rattle.plain_machine.specs.Step.{Limits, opening, step}
 use Rattle.plain_machine.specs.Keeper.{State, opened, machine_of, has_room, did, called, replayed, replay, fold_from}
 use Rattle.plain_machine.specs.Owed.{UnreapedIsOwed}
 use Rattle.plain_machine.proofs.Debts.{Sound, Sound-later, Sound-opening}
@@ -78,9 +78,9 @@ replayed-stamped l k (call ∷ calls) h = replayed-stamped l (called k call).0 c
 machine-sound : (l : Limits) (k : State) → IsStamped l k → Sound l (k.last + 1) (machine_of k)
 machine-sound l k h =
     let steps = take k.cursor k.line in
-    let made : Sound l (k.last + 1) (fold_from l opening steps) =
-    fold_from-sound l 0 (k.last + 1) opening steps (Rising-take 0 (k.last + 1) k.cursor k.line h.rising) (Sound-opening l) in
-    subst (λ x. Sound l (k.last + 1) (fold_from x opening steps)) (sym h.limits) made
+    let made : Sound l (k.last + 1) (fold_from l (opening l) steps) =
+    fold_from-sound l 0 (k.last + 1) (opening l) steps (Rising-take 0 (k.last + 1) k.cursor k.line h.rising) (Sound-opening l) in
+    subst (λ x. Sound l (k.last + 1) (fold_from x (opening x) steps)) (sym h.limits) made
 
 -- the law
 pub unreaped-owed : (l : Limits) (most : ℕ) (journal : List Call) → UnreapedIsOwed l most journal

@@ -1,9 +1,9 @@
 -- Every step leaves every request with 1 to 32 adjacent bios and at most 256 sectors.
 use Rattle.std.proofs.Common.{true, false, Bool, ◌≡◌, inl, inr, ℕ, zero, suc, ◌+◌, ◌<◌, ◌≤◌, ◌==◌, nat_le, nat_lt, not, ◌||◌, List, [], ◌∷◌, ◌++◌, length, map, take, Option, Some, None, All, refl, sym, ◌∙◌, subst, arith, unwrap_or, eqb-true}
-use Rattle.std.specs.Option.{is_none}
+use Rattle.std.specs.Option.{is_none, option_map}
 use Rattle.std.proofs.lemmas.Bool.{cases_eq, ltb-false, or_parts}
 use Rattle.std.proofs.lemmas.List.{length_push}
-use Rattle.std.proofs.lemmas.List.Elements.{All-nil, All-cons, All-append, All-same, All-head, All-tail}
+use Rattle.std.proofs.lemmas.List.Elements.{All-nil, All-cons, All-append, All-same}
 use Rattle.std.proofs.lemmas.List.Sums.{sum_by-cons}
 use Rattle.sector_core.specs.declared.bio.Bio.{Bio}
 use Rattle.sector_core.specs.declared.bio.BioResult.TheVariants.{Written}
@@ -11,19 +11,21 @@ use Rattle.sector_core.specs.declared.bio.Op.{Op}
 use Rattle.sector_core.specs.declared.bio.Outcome.{Outcome}
 use Rattle.sector_core.specs.declared.range.Range.{Range}
 use Rattle.process_queue.specs.Merge.{shape_of, joins_at}
-use Rattle.change_record.specs.declared.change.Seat.{Seat}
-use Rattle.change_record.specs.Machine.{WholeRequest, Flight, Plain, opening, put}
+use Rattle.change_record.specs.Machine.{WholeRequest, Flight, Bfq, Plain, put}
 use Rattle.plain_machine.specs.declared.answer.Reply.TheVariants.{Attached, Queued, Completed, Issued, Finished}
-use Rattle.plain_machine.specs.declared.step.Step.TheVariants.{Attach, Submit, Reap, Dispatch, Finish}
+use Rattle.plain_machine.specs.declared.step.Step.TheVariants.{Attach, Submit, Reap, Dispatch, Finish, GroupMake, GroupDrop, SetWeight}
 use Rattle.plain_machine.specs.declared.call.Call.{Call}
 use Rattle.plain_machine.specs.declared.call.Stamped.{Stamped}
-use Rattle.plain_machine.specs.Step.{Limits, accepted, is_session, attach, shape, merge_in, new_bio, with_bio, queue_with, submitted, submit, reaped, reap, next_queue, lowest_free, size_of, range_of, sent, dispatch_to, finished, finish_of, finish, step}
+use Rattle.plain_machine.specs.Step.{Limits, accepted, is_session, attach, shape, merge_in, new_bio, with_bio, queue_with, submitted, submit, reaped, reap, next_queue, lowest_free, size_of, range_of, sent, dispatch_to, finished, finish_of, finish, step, attached, accepted_if, woken, sent_by, sent_by_bfq, opening}
 use Rattle.plain_machine.specs.Keeper.{replay, fold_from}
 use Rattle.plain_machine.specs.Whole.{AreInOrder, HasSectors, IsWhole, AreWhole, KeepsWhole, RequestsAreWhole}
-use Rattle.plain_machine.proofs.Puts.{put_here, put_other, put_cases, unless-keeps, accepted-keeps, first_fails}
-use Rattle.plain_machine.proofs.Debts.{some_is}
+use Rattle.plain_machine.proofs.Puts.{put_here, put_other, put_cases, unless-keeps, accepted-keeps, first_fails, accepted_if-keeps, some_is}
 use Rattle.plain_machine.proofs.Joins.{All-queue_with, joined_is}
-use Rattle.plain_machine.proofs.Sendings.{dispatched, done_with}
+use Rattle.plain_machine.proofs.Sendings.{dispatched, done_with, IsTaken, IsTaken-first}
+use Rattle.sector_core.specs.declared.config.Scheduler.{Scheduler}
+use Rattle.sector_core.specs.declared.config.Scheduler.TheVariants.{Plain as PlainScheduler, Bfq as BfqScheduler}
+use Rattle.plain_machine.proofs.Served.{woken-keeps, sent_by_bfq-keeps}
+use Rattle.plain_machine.proofs.Stepped.{group_make-keeps, group_drop-keeps, set_weight-keeps}
 
 -- a list of bios has the sectors of its first and of the rest
 size_of-cons : (bio : Bio) (bios : List Bio) → size_of (bio ∷ bios) ≡ bio.range.count + size_of bios
@@ -100,14 +102,17 @@ queued-whole queue seat more all h k = elim (cases_eq k seat) [
 ]
 
 -- before the first step no request is queued or in flight
-pub AreWhole-opening : AreWhole opening
-AreWhole-opening = record { queued = λ seat. All-nil IsWhole; flying = λ tag f e. cc }
+pub AreWhole-opening : (l : Limits) → AreWhole (opening l)
+AreWhole-opening l = record { queued = λ seat. All-nil IsWhole; flying = λ tag f e. cc }
+
+-- what BFQ knows of entities does not matter to them
+AreWhole-bfq : (m : Plain) (b : Bfq) → AreWhole m → AreWhole (record m { bfq = b })
+AreWhole-bfq m b h = record { queued = h.queued; flying = h.flying }
 
 -- Attach leaves the requests as they are.
-attach-whole : (m : Plain) (n : ℕ) (room : Bool) (seat group prio : ℕ) → AreWhole m → AreWhole (attach m n room seat group prio).0
-attach-whole m n room seat group prio h =
-    let entry : Seat = record { session = n; group = group; prio = prio; unreaped = 0 } in
-    let next : Plain = record m { seat = put m.seat seat (Some entry) } in
+attach-whole : (l : Limits) (m : Plain) (n : ℕ) (room : Bool) (seat group prio : ℕ) → AreWhole m → AreWhole (attach l m n room seat group prio).0
+attach-whole l m n room seat group prio h =
+    let next : Plain = attached l m n seat group prio in
     unless-keeps AreWhole _ m (accepted room m next (Attached n)) h
     (λ _. accepted-keeps AreWhole room m next (Attached n) h (record { queued = h.queued; flying = h.flying }))
 
@@ -133,14 +138,16 @@ submit-whole : (l : Limits) (m : Plain) (n : ℕ) (room : Bool) (seat session : 
     → AreWhole m → AreWhole (submit l m n room seat session op range payload).0
 submit-whole l m n room seat session op range payload h =
     let next = submitted m n seat session op range payload in
-    unless-keeps AreWhole _ m (accepted room m next (Queued n)) h
+    let waits = option_map (λ next. (next, Queued n)) (woken m seat next) in
+    unless-keeps AreWhole _ m (accepted_if room m waits) h
     (λ e.
     let within = first_fails (nat_le 16 seat) _ _ e in
     let taken = first_fails (is_none (m.seat seat)) _ _ within.1 in
     let its = first_fails (not (is_session session (m.seat seat))) _ _ taken.1 in
     let count = first_fails (range.count == 0 || nat_lt 64 range.count) _ _ its.1 in
     let parts = or_parts (range.count == 0) (nat_lt 64 range.count) count.0 in
-    accepted-keeps AreWhole room m next (Queued n) h (submitted-whole m n seat session op range payload (some_count range.count parts.0, ltb-false 64 range.count parts.1) h))
+    let made = submitted-whole m n seat session op range payload (some_count range.count parts.0, ltb-false 64 range.count parts.1) h in
+    accepted_if-keeps AreWhole room m waits h (woken-keeps AreWhole m seat next (Queued n) made (λ b. AreWhole-bfq next b made)))
 
 -- Reap takes from an outbox alone.
 reaped-whole : (m : Plain) (room : Bool) (seat : ℕ) (bios : List Bio) → AreWhole m → AreWhole (reaped room m seat bios).0
@@ -153,24 +160,37 @@ reap-whole : (m : Plain) (room : Bool) (seat session : ℕ) → AreWhole m → A
 reap-whole m room seat session h = unless-keeps AreWhole _ m (reaped room m seat (m.outbox seat)) h (λ _. reaped-whole m room seat (m.outbox seat) h)
 
 -- Dispatch: a queued request is sent as it is.
+dispatched-whole : (m : Plain) (n seat tag : ℕ) (r : WholeRequest) (rest : List WholeRequest) (served : ℕ) (head : ℕ → ℕ) (bfq : Bfq)
+    → IsTaken (m.queue seat) r rest → AreWhole m → AreWhole (dispatched m n seat tag r rest served head bfq)
+dispatched-whole m n seat tag r rest served head bfq is h =
+    let f : Flight = record { issue = n; request = r } in
+    record {
+      queued = queued-whole m.queue seat rest (is.others IsWhole (h.queued seat)) h.queued;
+      flying = λ k g at. elim (put_cases m.flight tag (Some f) k (Some g) at) [
+        | inl x ↦ subst (λ (v : Flight). IsWhole v.request) (some_is f g x.1) (is.this IsWhole (h.queued seat))
+        | inr x ↦ h.flying k g x.1
+      ];
+    }
+
+-- the first of a queue
 sent-whole : (m : Plain) (n : ℕ) (room : Bool) (seat tag : ℕ) (requests : List WholeRequest) → m.queue seat ≡ requests → AreWhole m → AreWhole (sent m n room seat tag requests).0
 sent-whole m n room seat tag [] e h = h
 sent-whole m n room seat tag (r ∷ rest) e h =
-    let all : All IsWhole (r ∷ rest) = All-same IsWhole (r ∷ rest) (m.queue seat) (sym e) (h.queued seat) in
-    let f : Flight = record { issue = n; request = r } in
-    accepted-keeps AreWhole room m (dispatched m n seat tag r rest) (Issued tag n r.op (range_of r.bios)) h (record {
-      queued = queued-whole m.queue seat rest (All-tail IsWhole r rest all) h.queued;
-      flying = λ k g at. elim (put_cases m.flight tag (Some f) k (Some g) at) [
-        | inl x ↦ subst (λ (v : Flight). IsWhole v.request) (some_is f g x.1) (All-head IsWhole r rest all)
-        | inr x ↦ h.flying k g x.1
-      ];
-    })
+    accepted-keeps AreWhole room m (dispatched m n seat tag r rest seat m.head m.bfq) (Issued tag n r.op (range_of r.bios)) h
+    (dispatched-whole m n seat tag r rest seat m.head m.bfq (IsTaken-first (m.queue seat) r rest e) h)
+
+-- under either scheduler
+sent_by-whole : (l : Limits) (m : Plain) (n : ℕ) (room : Bool) (seat tag : ℕ) (scheduler : Scheduler) → AreWhole m → AreWhole (sent_by l m n room seat tag scheduler).0
+sent_by-whole l m n room seat tag PlainScheduler h = sent-whole m n room seat tag (m.queue seat) refl h
+sent_by-whole l m n room seat tag BfqScheduler h =
+    accepted_if-keeps AreWhole room m (sent_by_bfq l m n tag) h
+    (sent_by_bfq-keeps AreWhole l m n tag (λ k r rest head b is. dispatched-whole m n k tag r rest m.served head b is h))
 
 -- whichever queue and tag were found
-dispatch_to-whole : (m : Plain) (n : ℕ) (room : Bool) (seat tag : Option ℕ) → AreWhole m → AreWhole (dispatch_to m n room seat tag).0
-dispatch_to-whole m n room None tag h = h
-dispatch_to-whole m n room (Some seat) None h = h
-dispatch_to-whole m n room (Some seat) (Some tag) h = sent-whole m n room seat tag (m.queue seat) refl h
+dispatch_to-whole : (l : Limits) (m : Plain) (n : ℕ) (room : Bool) (seat tag : Option ℕ) → AreWhole m → AreWhole (dispatch_to l m n room seat tag).0
+dispatch_to-whole l m n room None tag h = h
+dispatch_to-whole l m n room (Some seat) None h = h
+dispatch_to-whole l m n room (Some seat) (Some tag) h = sent_by-whole l m n room seat tag m.scheduler h
 
 -- Finish: a flight ends.
 finish_of-whole : (m : Plain) (room : Bool) (tag issue : ℕ) (outcome : Outcome) (o : Option Flight) → AreWhole m → AreWhole (finish_of m room tag issue outcome o).0
@@ -192,11 +212,14 @@ finish-whole l m room tag issue outcome h =
 
 -- every step leaves the requests whole
 pub step-whole : (l : Limits) (m : Plain) → KeepsWhole l m
-step-whole l m n room (Attach seat group prio) h = attach-whole m n room seat group prio h
+step-whole l m n room (Attach seat group prio) h = attach-whole l m n room seat group prio h
 step-whole l m n room (Submit seat session op range payload) h = submit-whole l m n room seat session op range payload h
 step-whole l m n room (Reap seat session) h = reap-whole m room seat session h
-step-whole l m n room Dispatch h = dispatch_to-whole m n room (next_queue m) (lowest_free l m) h
+step-whole l m n room Dispatch h = dispatch_to-whole l m n room (next_queue m) (lowest_free l m) h
 step-whole l m n room (Finish tag issue outcome) h = finish-whole l m room tag issue outcome h
+step-whole l m n room (GroupMake parent weight) h = group_make-keeps AreWhole l m room parent weight h (λ b. AreWhole-bfq m b h)
+step-whole l m n room (GroupDrop group) h = group_drop-keeps AreWhole m room group h (λ b. AreWhole-bfq m b h)
+step-whole l m n room (SetWeight group weight) h = set_weight-keeps AreWhole m room group weight h (λ b. AreWhole-bfq m b h)
 
 -- and so does a line of steps
 fold_from-whole : (l : Limits) (m : Plain) (steps : List Stamped) → AreWhole m → AreWhole (fold_from l m steps)
@@ -205,4 +228,4 @@ fold_from-whole l m (s ∷ steps) h = fold_from-whole l (step l m s.serial true 
 
 -- so every keeper's machine has whole requests
 pub requests-whole : (l : Limits) (most : ℕ) (journal : List Call) → RequestsAreWhole l most journal
-requests-whole l most journal = let k = replay l most journal in fold_from-whole k.limits opening (take k.cursor k.line) AreWhole-opening
+requests-whole l most journal = let k = replay l most journal in fold_from-whole k.limits (opening k.limits) (take k.cursor k.line) (AreWhole-opening k.limits)
