@@ -8,3 +8,5 @@ pub mod Served
 pub mod Stepped
 pub mod Serials
 pub mod Wholes
+pub mod Times
+pub mod Monotonic

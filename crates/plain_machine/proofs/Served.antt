@@ -72,13 +72,13 @@ found_next queue head r e =
     subst P (sym at) found
 
 -- Submit: a machine with its bio queued, in which at most what BFQ knows has changed
-pub woken-keeps : (P : Plain → Type 0) (m : Plain) (seat : ℕ) (next : Plain) (reply : Reply) → P next → ((b : Bfq) → P (record next { bfq = b }))
+pub woken-keeps : (P : Plain → Type 0) (m : Plain) (seat : ℕ) (next : Plain) (reply : Reply) → P next → ((b : Bfq) → activate seat m.bfq ≡ Some b → P (record next { bfq = b }))
     → (o : Plain × Reply) → option_map (λ next. (next, reply)) (woken m seat next) ≡ Some o → P o.0
 woken-keeps P m seat next reply h g o e =
     let w = map_is (λ (next : Plain). (next, reply)) (woken m seat next) o e in
     let kept : P w.0 =
     elim (is_bfq m.scheduler && is_empty (m.queue seat)) as (λ b. cond b (option_map (λ b. record next { bfq = b }) (activate seat m.bfq)) (Some next) ≡ Some w.0 → P w.0) [
-      | true ↦ λ is. let a = map_is (λ b. record next { bfq = b }) (activate seat m.bfq) w.0 is in subst P a.2 (g a.0)
+      | true ↦ λ is. let a = map_is (λ b. record next { bfq = b }) (activate seat m.bfq) w.0 is in subst P a.2 (g a.0 a.1)
       | false ↦ λ is. subst P (some_is next w.0 is) h
     ] w.1 in
     let Q : Plain × Reply → Type 0 = λ x. P x.0 in

@@ -66,7 +66,7 @@ submit-sound l n m room seat session op range payload h =
     unless-keeps (λ m'. Sound l n m') _ m (accepted_if room m waits) h
     (λ e.
     let made = submitted-sound l n m seat session op range payload (seat_passes m seat session _ _ _ _ e) h in
-    accepted_if-keeps (λ m'. Sound l n m') room m waits h (woken-keeps (λ m'. Sound l n m') m seat next (Queued n) made (λ b. Sound-bfq l n next b made)))
+    accepted_if-keeps (λ m'. Sound l n m') room m waits h (woken-keeps (λ m'. Sound l n m') m seat next (Queued n) made (λ b _. Sound-bfq l n next b made)))
 
 -- Reap
 reaped-keeps : (l : Limits) (n : ℕ) (m : Plain) (room : Bool) (seat : ℕ) (bios : List Bio) → m.outbox seat ≡ bios → Sound l n m → Sound l n (reaped room m seat bios).0

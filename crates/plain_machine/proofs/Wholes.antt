@@ -147,7 +147,7 @@ submit-whole l m n room seat session op range payload h =
     let count = first_fails (range.count == 0 || nat_lt 64 range.count) _ _ its.1 in
     let parts = or_parts (range.count == 0) (nat_lt 64 range.count) count.0 in
     let made = submitted-whole m n seat session op range payload (some_count range.count parts.0, ltb-false 64 range.count parts.1) h in
-    accepted_if-keeps AreWhole room m waits h (woken-keeps AreWhole m seat next (Queued n) made (λ b. AreWhole-bfq next b made)))
+    accepted_if-keeps AreWhole room m waits h (woken-keeps AreWhole m seat next (Queued n) made (λ b _. AreWhole-bfq next b made)))
 
 -- Reap takes from an outbox alone.
 reaped-whole : (m : Plain) (room : Bool) (seat : ℕ) (bios : List Bio) → AreWhole m → AreWhole (reaped room m seat bios).0

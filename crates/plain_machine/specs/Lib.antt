@@ -5,4 +5,5 @@ pub mod Owed
 pub mod Whole
 pub mod Queued
 pub mod Entities
+pub mod Times
 pub use Rattle.change_record.specs.Machine

@@ -1,6 +1,7 @@
 // Laws of the machine of every keeper.
 ghost use Rattle.plain_machine.specs.Owed.{UnreapedIsOwed};
 ghost use Rattle.plain_machine.specs.Whole.{KeepsWhole, RequestsAreWhole};
+ghost use Rattle.plain_machine.specs.Times.{KeepsVtimes};
 ghost use Rattle.plain_machine.specs.Step.{Limits};
 ghost use Rattle.change_record.specs.Machine.{Plain};
 ghost use Rattle.plain_machine.specs.declared.call.Call.{Call};
@@ -21,4 +22,10 @@ pub fn requests_stay_whole()
 /// So every request is on the machine of every keeper that a journal makes. The body is empty: the contract is the law.
 pub fn requests_are_whole()
     ensures { (l : Limits) (most : ℕ) (journal : List Call) → RequestsAreWhole l most journal }
+{}
+
+/// B-WF2Q+: virtual time is monotonic. No step makes the virtual time of a group less that stands before and after it. The
+/// body is empty: the contract is the law.
+pub fn vtimes_never_fall()
+    ensures { (l : Limits) (m : Plain) → KeepsVtimes l m }
 {}
