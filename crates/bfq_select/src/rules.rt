@@ -6,8 +6,14 @@ ghost use Rattle.change_record.specs.Machine.{bfq_of};
 ghost use Rattle.bfq_select.specs.Rules.{activate, select, charge, expire};
 ghost use Rattle.bfq_select.specs.Service.{IsSized, IsBounded, OnlyServes};
 
+use crate::activating::activate_path;
+use crate::charging::charge_path;
+use crate::expiring::{budget_after, expire_path};
+use crate::places::{set_budget, set_slot};
+use crate::reading::picked;
+use crate::selecting::{jump, serve};
 use crate::{Expiry, VtimeFull};
-use change_record::{Parts, Tape};
+use change_record::{InService, Parts, Tape};
 
 /// A session's queue has a request now: its entity waits to be served, and so does each group above it that was idle.
 ///
@@ -30,7 +36,11 @@ pub fn activate(parts: &mut Parts, tape: &mut Tape, seat: u8) -> Result<(), Vtim
     ensures some { length tape.old.current ≤ length tape.new.current }
     ensures few { length tape.new.current ≤ length tape.old.current + 5 }
 {
-    unreachable!()
+    let path = parts.groups().path(seat);
+    match activate_path(parts, tape, path.as_slice()) {
+        Ok(()) => return Ok(()),
+        Err(full) => return Err(full),
+    }
 }
 
 /// A queue is taken into service: at each level from the root down the entity that the pick names.
@@ -49,7 +59,24 @@ pub fn select(parts: &mut Parts, tape: &mut Tape)
     ensures some { length tape.old.current ≤ length tape.new.current }
     ensures few { length tape.new.current ≤ length tape.old.current + 11 }
 {
-    unreachable!()
+    let mut group: u8 = 0;
+    for _level in 0..5u8 {
+        jump(parts, tape, group);
+        let Some(entity) = picked(parts, group) else {
+            return;
+        };
+        serve(parts, tape, group, entity);
+        if entity < 16 {
+            let taken = InService {
+                seat: entity,
+                service: 0,
+                age: 0,
+            };
+            set_slot(parts, tape, Some(taken));
+            return;
+        }
+        group = entity - 16;
+    }
 }
 
 /// The queue in service has been sent some sectors more.
@@ -73,7 +100,20 @@ pub fn charge(parts: &mut Parts, tape: &mut Tape, sectors: u32) -> Result<(), Vt
     ensures some { length tape.old.current ≤ length tape.new.current }
     ensures few { length tape.new.current ≤ length tape.old.current + 6 }
 {
-    unreachable!()
+    let Some(slot) = parts.slot() else {
+        return Err(VtimeFull);
+    };
+    let path = parts.groups().path(slot.seat);
+    let served = InService {
+        seat: slot.seat,
+        service: slot.service + sectors,
+        age: slot.age,
+    };
+    set_slot(parts, tape, Some(served));
+    match charge_path(parts, tape, sectors, path.as_slice()) {
+        Ok(()) => return Ok(()),
+        Err(full) => return Err(full),
+    }
 }
 
 /// The queue in service leaves it. `most` is the greatest budget, and `queued` tells whether its queue has a request.
@@ -104,5 +144,15 @@ pub fn expire(
     ensures some { length tape.old.current ≤ length tape.new.current }
     ensures few { length tape.new.current ≤ length tape.old.current + 7 }
 {
-    unreachable!()
+    let Some(slot) = parts.slot() else {
+        return Err(VtimeFull);
+    };
+    let path = parts.groups().path(slot.seat);
+    let budget = budget_after(cause, parts.budget(slot.seat), slot.service, most);
+    set_budget(parts, tape, slot.seat, budget);
+    set_slot(parts, tape, None);
+    match expire_path(parts, tape, slot.service, queued, path.as_slice()) {
+        Ok(()) => return Ok(()),
+        Err(full) => return Err(full),
+    }
 }

@@ -1,0 +1,61 @@
+-- The bounds of the numbers, after each exchange.
+use Rattle.std.proofs.Common.{◌≡◌, ℕ, zero, suc, ◌+◌, ◌≤◌, ◌^◌, ◌==◌, List, [], ◌∷◌, Option, Some, None, Bool, true, false, cond, if◌then◌else◌, slice_index_or, slice_set, refl, sym, subst, ap, ◌∙◌, arith}
+use Rattle.service_tree.specs.declared.member.Member.{Member}
+use Rattle.service_tree.specs.Members.{Service}
+use Rattle.change_record.specs.declared.change.InService.{InService}
+use Rattle.change_record.specs.Exchange.{with_member, with_vtime}
+use Rattle.change_record.specs.Machine.{Bfq, put}
+use Rattle.bfq_select.specs.Rules.{put_member, put_vtime}
+use Rattle.bfq_select.specs.Service.{IsBounded}
+
+-- what holds of each member and of the new one holds of each after it is put
+pub each_set : (P : Member → Type 0) (xs : List (Option Member)) (i : ℕ) (new : Member)
+    → ((j : ℕ) (m : Member) → slice_index_or xs j None ≡ Some m → P m) → P new
+    → (j : ℕ) (m : Member) → slice_index_or (slice_set xs i (Some new)) j None ≡ Some m → P m
+each_set P [] i new all here j m e = all j m e
+each_set P (x ∷ xs) zero new all here zero m e = let same : new ≡ m = cc in subst P same here
+each_set P (x ∷ xs) zero new all here (suc j) m e = all (suc j) m e
+each_set P (x ∷ xs) (suc i) new all here zero m e = all zero m e
+each_set P (x ∷ xs) (suc i) new all here (suc j) m e = each_set P xs i new (λ k n f. all (suc k) n f) here j m e
+
+-- what holds of each group's tree and of the new one holds of each after it is put
+pub each_put : (P : Service → Type 0) (f : ℕ → Service) (group : ℕ) (new : Service) → ((g : ℕ) → P (f g)) → P new → (g : ℕ) → P (put f group new g)
+each_put P f group new all here g =
+    elim (g == group) as (λ b. P (if b then new else f g)) [
+      | true ↦ here
+      | false ↦ all g
+    ]
+
+-- each member of a tree starts by 2^62, and ends by then
+abbrev AreStarts : Service → Type 0
+AreStarts s = (entity : ℕ) (m : Member) → slice_index_or s.members entity None ≡ Some m → m.start ≤ 2 ^ 62
+
+abbrev AreFinishes : Service → Type 0
+AreFinishes s = (entity : ℕ) (m : Member) → slice_index_or s.members entity None ≡ Some m → m.finish ≤ 2 ^ 62
+
+pub bounded_member : (b c : Bfq) (group entity : ℕ) (new : Member) → c ≡ put_member group entity new b → IsBounded b → new.start ≤ 2 ^ 62 → new.finish ≤ 2 ^ 62 → IsBounded c
+bounded_member b c group entity new e v start finish =
+    let old = b.service group in
+    let now : Service = with_member old entity (Some new) in
+    let put_in : IsBounded (put_member group entity new b) = record {
+      vtimes = each_put (λ s. s.vtime ≤ 2 ^ 62) b.service group now v.vtimes (v.vtimes group);
+      starts = each_put AreStarts b.service group now v.starts (each_set (λ m. m.start ≤ 2 ^ 62) old.members entity new (v.starts group) start);
+      finishes = each_put AreFinishes b.service group now v.finishes (each_set (λ m. m.finish ≤ 2 ^ 62) old.members entity new (v.finishes group) finish);
+      least_budgets = v.least_budgets;
+      most_budgets = v.most_budgets;
+      served = v.served;
+    } in
+    subst IsBounded (sym e) put_in
+
+pub bounded_slot : (b c : Bfq) (slot : Option InService) → c ≡ record b { slot = slot } → IsBounded b
+    → ((served : InService) → slot ≡ Some served → served.service ≤ 65536) → IsBounded c
+bounded_slot b c slot e v fits =
+    let put_in : IsBounded (record b { slot = slot }) = record {
+      vtimes = v.vtimes;
+      starts = v.starts;
+      finishes = v.finishes;
+      least_budgets = v.least_budgets;
+      most_budgets = v.most_budgets;
+      served = fits;
+    } in
+    subst IsBounded (sym e) put_in

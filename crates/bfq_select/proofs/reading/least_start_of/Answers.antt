@@ -1,0 +1,11 @@
+use Rattle.std.specs.Prelude.{slice_get}
+use Rattle.std.proofs.Common.{◌≡◌, [], None, sym, ap, rules}
+use Rattle.service_tree.specs.Members.{Service, least_start}
+use Rattle.bfq_select.proofs.Looking.{looked_none}
+use Rattle.bfq_select.proofs.reading.least_start_of.Goals as goal
+
+pub returns-in-None-clause-value : goal.returns-in-None-clause-value
+returns-in-None-clause-value c =
+    let trees = c.args.parts.now.tables.trees in
+    let none : slice_get trees c.args.group ≡ None = search rules in
+    sym (ap (λ (s : Service). least_start s.members) (looked_none trees c.args.group (record { vtime = 0; members = [] }) none))

@@ -1,0 +1,51 @@
+// The choice in one group.
+ghost use Rattle.std.specs.Prelude.{◌≡◌, ◌≤◌, ◌<◌};
+ghost use Rattle.change_record.specs.Machine.{bfq_of};
+ghost use Rattle.bfq_select.specs.Rules.{jumped, in_service};
+ghost use Rattle.bfq_select.specs.Service.{IsSized, IsBounded};
+ghost use Rattle.bfq_select.specs.Course.{Exchanges};
+
+use crate::places::{set_member, set_vtime};
+use crate::reading::{least_start_of, member_in, picked};
+use change_record::{Parts, Tape};
+use sector_core::Entity;
+use service_tree::{Member, State};
+
+// Where nobody in a group is eligible, its virtual time becomes the least start of those that are active.
+pub fn jump(parts: &mut Parts, tape: &mut Tape, group: u8)
+    requires room { 1 ≤ tape.old.room }
+    requires sized { IsSized parts.old.tables }
+    requires bounded { IsBounded (bfq_of parts.old.tables) }
+    requires group { group < 32 }
+    ensures made { bfq_of parts.new.tables ≡ jumped group (bfq_of parts.old.tables) }
+    ensures sized { IsSized parts.new.tables }
+    ensures bounded { IsBounded (bfq_of parts.new.tables) }
+    ensures course { Exchanges 1 parts.old.tables tape.old parts.new.tables tape.new }
+{
+    if picked(parts, group).is_some() {
+        return;
+    }
+    match least_start_of(parts, group) {
+        Some(start) => set_vtime(parts, tape, group, start),
+        None => {}
+    }
+}
+
+// An entity of a group is in service.
+pub fn serve(parts: &mut Parts, tape: &mut Tape, group: u8, entity: Entity)
+    requires room { 1 ≤ tape.old.room }
+    requires sized { IsSized parts.old.tables }
+    requires bounded { IsBounded (bfq_of parts.old.tables) }
+    requires group { group < 32 }
+    ensures made { bfq_of parts.new.tables ≡ in_service group entity (bfq_of parts.old.tables) }
+    ensures sized { IsSized parts.new.tables }
+    ensures bounded { IsBounded (bfq_of parts.new.tables) }
+    ensures course { Exchanges 1 parts.old.tables tape.old parts.new.tables tape.new }
+{
+    let member = member_in(parts, group, entity);
+    let serving = Member {
+        state: State::Serving,
+        ..member
+    };
+    set_member(parts, tape, group, entity, serving);
+}
