@@ -1,5 +1,5 @@
 -- What the plain step says where the code has made its tests.
-use Rattle.std.proofs.Common.{◌≡◌, ◌≢◌, inl, inr, is_some, ◌==◌, ℕ, ◌+◌, ◌-◌, ◌<◌, ◌≤◌, List, [], ◌∷◌, length, Option, Some, None, Bool, true, false, cond, not, ◌||◌, ◌&&◌, nat_le, nat_lt, nat_eq, drop, unwrap_or, Result, Ok, Err, IsErr, refl, sym, ap, ◌∙◌, subst, arith, rules}
+use Rattle.std.proofs.Common.{◌≡◌, ◌≢◌, ◌⊎◌, inl, inr, is_some, ◌==◌, ℕ, ◌+◌, ◌-◌, ◌<◌, ◌≤◌, List, [], ◌∷◌, length, Option, Some, None, Bool, true, false, cond, not, ◌||◌, ◌&&◌, nat_le, nat_lt, nat_eq, drop, unwrap_or, Result, Ok, Err, IsErr, refl, sym, ap, ◌∙◌, subst, arith, rules}
 use Rattle.std.specs.Option.{option_map, is_none}
 use Rattle.std.specs.Prelude.{slice_get}
 use Rattle.std.proofs.lemmas.Bool.Decides.{nat_tests}
@@ -20,7 +20,7 @@ use Rattle.std.proofs.lemmas.Bool.{cases_lt}
 use Rattle.bfq_select.specs.Rules.{activate, stands}
 use Rattle.sector_core.specs.declared.config.Scheduler.{Scheduler}
 use Rattle.plain_machine.specs.declared.answer.Reply.{Reply}
-use Rattle.plain_machine.specs.declared.answer.Code.TheVariants.{BadSeat, SeatTaken, NoGroup, BadPrio, VtimeFull, NothingQueued, NoTag, NotInFlight, BadOutcome, HistoryFull}
+use Rattle.plain_machine.specs.declared.answer.Code.TheVariants.{NoSession, StaleSession, BadCount, BadLength, OutOfRange, TooManyBios, BadSeat, SeatTaken, NoGroup, BadPrio, VtimeFull, NothingQueued, NoTag, NotInFlight, BadOutcome, HistoryFull}
 use Rattle.plain_machine.specs.declared.answer.Cause.TheVariants.{RequestsFull, NotCompleted}
 use Rattle.plain_machine.specs.declared.answer.Reply.TheVariants.{Attached, Queued, Completed, Issued, Finished}
 use Rattle.plain_machine.specs.declared.answer.Answer.{Answer}
@@ -47,6 +47,16 @@ other_number a b e = grind (arith, nat_tests)
 
 not_zero : (a : ℕ) → 1 ≤ a → nat_eq a 0 ≡ false
 not_zero a h = grind (arith, nat_tests)
+
+is_lt : (a b : ℕ) → a < b → nat_lt a b ≡ true
+is_lt a b h = grind (arith, nat_tests)
+
+bad_count : (k : ℕ) → (k ≡ 0) ⊎ (64 < k) → (nat_eq k 0 || nat_lt 64 k) ≡ true
+bad_count k (inl e) = let f : nat_eq k 0 ≡ true = grind (arith, nat_tests) in ap (λ b. b || nat_lt 64 k) f
+bad_count k (inr h) = let f : nat_lt 64 k ≡ true = is_lt 64 k h in either (nat_eq k 0) f where
+  either : (b : Bool) → nat_lt 64 k ≡ true → (b || nat_lt 64 k) ≡ true
+  either true f = refl
+  either false f = f
 
 neither : (a b : Bool) → a ≡ false → b ≡ false → (a || b) ≡ false
 neither a b e f = ap (λ x. x || b) e ∙ f
@@ -108,6 +118,55 @@ woken_by m seat next wakes o e same made =
       either true = refl
       either false = ap (λ b. Some (let p : Plain = record next { bfq = b } in p)) same
 
+-- Submit where one of its tests holds and those before it fail.
+module _ (l : Limits) (m : Plain) (n : ℕ) (room : Bool) (seat session : ℕ) (op : Op) (range : Range) (payload : List ℕ) where
+  pub submit_seat : 16 ≤ seat → submit l m n room seat session op range payload ≡ (m, Refused BadSeat)
+  submit_seat h = let e = is_le 16 seat h in rw e refl
+
+  pub submit_nobody : seat < 16 → m.seat seat ≡ None → submit l m n room seat session op range payload ≡ (m, Refused NoSession)
+  submit_nobody h none = let e = lt_16 seat h in rw (e, none) refl
+
+  module _ (s : Seat) (h : seat < 16) (sits : m.seat seat ≡ Some s) where
+    pub submit_stale : s.session ≢ session → submit l m n room seat session op range payload ≡ (m, Refused StaleSession)
+    submit_stale other = let e1 = lt_16 seat h in let e2 = other_number s.session session other in rw (e1, sits, e2) refl
+
+    module _ (same : s.session ≡ session) where
+      pub submit_count : ((range.count ≡ 0) ⊎ (64 < range.count)) → submit l m n room seat session op range payload ≡ (m, Refused BadCount)
+      submit_count bad =
+          let e1 = lt_16 seat h in
+          let e2 = same_number s.session session same in
+          let e3 : (nat_eq range.count 0 || nat_lt 64 range.count) ≡ true = bad_count range.count bad in
+          rw (e1, sits, e2, e3) refl
+
+      module _ (some_sectors : 1 ≤ range.count) (few_sectors : range.count ≤ 64) where
+        pub submit_length : length payload ≢ payload_length op range.count → submit l m n room seat session op range payload ≡ (m, Refused BadLength)
+        submit_length other =
+            let e1 = lt_16 seat h in
+            let e2 = same_number s.session session same in
+            let e3 = neither (nat_eq range.count 0) (nat_lt 64 range.count) (not_zero range.count some_sectors) (not_lt range.count 64 few_sectors) in
+            let e4 = other_number (length payload) (payload_length op range.count) other in
+            rw (e1, sits, e2, e3, e4) refl
+
+        module _ (fits_payload : length payload ≡ payload_length op range.count) where
+          pub submit_range : l.sectors < range.start + range.count → submit l m n room seat session op range payload ≡ (m, Refused OutOfRange)
+          submit_range past =
+              let e1 = lt_16 seat h in
+              let e2 = same_number s.session session same in
+              let e3 = neither (nat_eq range.count 0) (nat_lt 64 range.count) (not_zero range.count some_sectors) (not_lt range.count 64 few_sectors) in
+              let e4 = same_number (length payload) (payload_length op range.count) fits_payload in
+              let e5 = is_lt l.sectors (range.start + range.count) past in
+              rw (e1, sits, e2, e3, e4, e5) refl
+
+          pub submit_many : range.start + range.count ≤ l.sectors → 32 ≤ s.unreaped → submit l m n room seat session op range payload ≡ (m, Refused TooManyBios)
+          submit_many in_image many =
+              let e1 = lt_16 seat h in
+              let e2 = same_number s.session session same in
+              let e3 = neither (nat_eq range.count 0) (nat_lt 64 range.count) (not_zero range.count some_sectors) (not_lt range.count 64 few_sectors) in
+              let e4 = same_number (length payload) (payload_length op range.count) fits_payload in
+              let e5 = not_lt (range.start + range.count) l.sectors in_image in
+              let e6 = is_le 32 s.unreaped many in
+              rw (e1, sits, e2, e3, e4, e5, e6) refl
+
 module _ (l : Limits) (m : Plain) (n : ℕ) (room : Bool) (seat session : ℕ) (op : Op) (range : Range) (payload : List ℕ) (s : Seat)
     (h : seat < 16) (sits : m.seat seat ≡ Some s) (same : s.session ≡ session) (some_sectors : 1 ≤ range.count) (few_sectors : range.count ≤ 64)
     (fits_payload : length payload ≡ payload_length op range.count) (in_image : range.start + range.count ≤ l.sectors) (few : s.unreaped < 32) where
@@ -145,6 +204,11 @@ module _ (l : Limits) (m : Plain) (n : ℕ) (room : Bool) (seat session : ℕ) (
 pub Answers-err : (plain : Plain → Outcome_of) (t u : Tables) (r : Result Answer WantOfMemory) → IsErr r → MayGiveWay (plain (meaning t)).1 → Answers plain t r u
 Answers-err plain t u (Ok a) e h = absurd (search rules)
 Answers-err plain t u (Err w) e h = h
+
+-- two plain steps that are one on this machine
+pub Answers-by : (f g : Plain → Outcome_of) (t u : Tables) (r : Result Answer WantOfMemory) → f (meaning t) ≡ g (meaning t) → Answers g t r u → Answers f t r u
+Answers-by f g t u (Ok a) e h = h ∙ sym e
+Answers-by f g t u (Err w) e h = let P : Plain × Answer → Type 0 = λ o. MayGiveWay o.1 in subst P (sym e) h
 
 module _ (m : Plain) (room : Bool) (seat session : ℕ) (s : Seat) (h : seat < 16) (sits : m.seat seat ≡ Some s) (same : s.session ≡ session) (some_owed : s.unreaped ≢ 0) where
   owed : nat_eq s.unreaped 0 ≡ false

@@ -1,9 +1,11 @@
 -- How many exchanges stand on the tape.
-use Rattle.std.proofs.Common.{◌≡◌, ℕ, ◌+◌, List, [], ◌∷◌, ◌++◌, length, refl, ap, ◌∙◌}
+use Rattle.std.proofs.Common.{◌≡◌, ℕ, ◌+◌, ◌≤◌, Bool, true, false, cond, ◌&&◌, List, [], ◌∷◌, ◌++◌, length, refl, sym, ap, ◌∙◌, subst, arith}
 use Rattle.std.proofs.lemmas.List.{length-append}
 use Rattle.sector_core.specs.declared.bio.Outcome.{Outcome}
 use Rattle.sector_core.specs.declared.bio.Outcome.TheVariants.{Fetched, Stored, Failed}
 use Rattle.change_record.specs.declared.change.Change.{Change}
+use Rattle.change_record.specs.Tables.{Tables}
+use Rattle.change_record.specs.Trail.{IsTrail}
 use Rattle.plain_machine.specs.Step.{rest_of_outcome}
 use Rattle.dispatch_core.specs.Counts.{blocks_put}
 
@@ -22,3 +24,16 @@ pub blocks_put-rest : (outcome : Outcome) (k n : ℕ) → blocks_put (rest_of_ou
 blocks_put-rest (Fetched bytes) k n = refl
 blocks_put-rest Stored k n = refl
 blocks_put-rest (Failed kind) k n = refl
+
+-- before its first exchange a step leads back to where it is
+pub not_begun : (changes : List Change) (t : Tables) → changes ≡ [] → IsTrail changes t t
+not_begun changes t none =
+    let P : List Change → Type 0 = λ l. IsTrail l t t in
+    let begun : IsTrail [] t t = record { back = refl; fits = tt; puts = tt } in
+    subst P (sym none) begun
+
+-- of two tests that must pass both, the first alone allows no less
+pub allowed : (passes a b : Bool) (count : ℕ) → passes ≡ (a && b) → cond passes count 0 ≤ cond a count 0
+allowed true true b count e = omega arith
+allowed true false b count e = absurd cc
+allowed false a b count e = omega arith

@@ -1,7 +1,7 @@
 // A bio that becomes a request of its own.
-ghost use Rattle.std.specs.Prelude.{length, ◌≡◌, ◌+◌, ◌<◌, ◌≤◌, [], ◌∷◌, IfOk, MatchResult, None, Some, slice_set, if◌then◌else◌};
+ghost use Rattle.std.specs.Prelude.{length, ◌≡◌, ◌+◌, ◌<◌, ◌≤◌, [], ◌∷◌, IfOk, MatchResult, None, Some, ◌&&◌, slice_set, if◌then◌else◌};
 ghost use Rattle.process_queue.specs.Merge.{merge_place};
-ghost use Rattle.process_queue.specs.Queue.{queue_slots};
+ghost use Rattle.process_queue.specs.Queue.{is_empty, queue_slots};
 ghost use Rattle.change_record.specs.Trail.{KeepsTrail};
 ghost use Rattle.change_record.specs.Machine.{bfq_of, meaning};
 ghost use Rattle.bfq_select.specs.Rules.{activate};
@@ -58,7 +58,7 @@ pub fn submit_new(
         result: None,
     };
     tape.reserve(9)?;
-    let wakes = is_bfq(parts.scheduler()) && parts.queues().is_empty(seat);
+    let wakes = is_woken(parts, seat);
     insert(parts, tape, seat, entry, slot, place, session, op, bio);
     match wake(parts, tape, seat, wakes) {
         Ok(()) => return Ok(Answer::Accepted(Reply::Queued { bio: serial })),
@@ -77,6 +77,13 @@ fn is_bfq(scheduler: Scheduler) -> bool
         Scheduler::Plain => false,
         Scheduler::Bfq => true,
     }
+}
+
+// Whether a new request in a queue wakes its session's entity: under bfq, where the queue is empty.
+fn is_woken(parts: &Parts, seat: u8) -> bool
+    ensures { result ≡ (is_bfq parts.now.tables.scheduler && is_empty (queue_slots seat parts.now.tables.links)) }
+{
+    is_bfq(parts.scheduler()) && parts.queues().is_empty(seat)
 }
 
 // Activates the session's entity, where its queue was empty.

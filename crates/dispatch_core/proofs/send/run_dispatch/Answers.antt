@@ -8,7 +8,8 @@ use Rattle.process_queue.specs.Merge.{bios_at}
 use Rattle.change_record.specs.Machine.{meaning}
 use Rattle.plain_machine.specs.declared.answer.Answer.TheVariants.{Accepted}
 use Rattle.plain_machine.specs.declared.answer.Reply.TheVariants.{Issued}
-use Rattle.plain_machine.specs.Step.{of_sizes, dispatch, next_queue, lowest_free, range_of}
+use Rattle.plain_machine.specs.Step.{of_sizes, dispatch, sent, accepted_if, sent_by_bfq, next_queue, lowest_free}
+use Rattle.sector_core.specs.declared.config.Scheduler.TheVariants.{Plain as PlainScheduler, Bfq as BfqScheduler}
 use Rattle.dispatch_core.specs.WellFormed.{at, WellFormed}
 use Rattle.dispatch_core.specs.Changes.{sent_tables}
 use Rattle.dispatch_core.specs.Ranges.{HasFewSectors, first_start, total_count}
@@ -16,7 +17,7 @@ use Rattle.dispatch_core.proofs.Sides.{CanSend}
 use Rattle.dispatch_core.proofs.Queues.{whole, next_queue_is, no_tag_free, tag_free, first_found, sent-queue_was}
 use Rattle.dispatch_core.proofs.Laws.{sent-well, sent-meaning}
 use Rattle.dispatch_core.proofs.Sectors.{few_sectors_of, range_is, request_taken}
-use Rattle.dispatch_core.proofs.Decided.{dispatch_idle, dispatch_full, dispatch_by}
+use Rattle.dispatch_core.proofs.Decided.{dispatch_idle, dispatch_full, dispatch_by, Answers-by}
 use Rattle.dispatch_core.proofs.Recorded.{one_more}
 use Rattle.dispatch_core.proofs.send.run_dispatch.Goals as goal
 
@@ -40,3 +41,27 @@ returns-in_default-lowest_free-clause-answers c =
     let all : AllTaken t.tags = search rules in
     sym (dispatch_full l (meaning t) n c.args.room c.in-Some.seat seat_next (no_tag_free l n t c.requires.well all))
 
+
+pub returns-in-Plain-clause-answers : goal.returns-in-Plain-clause-answers
+returns-in-Plain-clause-answers c =
+    let l = of_sizes c.args.sizes in
+    let t = c.args.parts.now.tables in
+    let n = c.args.serial in
+    let next : next_seat t.served t.links ≡ Some c.in-Some.seat = search rules in
+    let tag = c.in-Some-lowest_free.tag in
+    let free : IsFirstFree t.tags tag = search rules in
+    let by : dispatch l (meaning t) n c.args.room ≡ sent (meaning t) n c.args.room c.in-Some.seat tag ((meaning t).queue c.in-Some.seat) =
+    dispatch_by l (meaning t) n c.args.room c.in-Some.seat tag PlainScheduler (next_queue_is l n t c.requires.well ∙ next) (tag_free l n t tag c.requires.well free) (search rules) in
+    Answers-by (λ m. dispatch l m n c.args.room) (λ m. sent m n c.args.room c.in-Some.seat tag (m.queue c.in-Some.seat)) t c.send_first.new.parts.tables c.send_first.result by c.send_first.ensures.answers
+
+pub returns-in-Bfq-clause-answers : goal.returns-in-Bfq-clause-answers
+returns-in-Bfq-clause-answers c =
+    let l = of_sizes c.args.sizes in
+    let t = c.args.parts.now.tables in
+    let n = c.args.serial in
+    let next : next_seat t.served t.links ≡ Some c.in-Some.seat = search rules in
+    let tag = c.in-Some-lowest_free.tag in
+    let free : IsFirstFree t.tags tag = search rules in
+    let by : dispatch l (meaning t) n c.args.room ≡ accepted_if c.args.room (meaning t) (sent_by_bfq l (meaning t) n tag) =
+    dispatch_by l (meaning t) n c.args.room c.in-Some.seat tag BfqScheduler (next_queue_is l n t c.requires.well ∙ next) (tag_free l n t tag c.requires.well free) (search rules) in
+    Answers-by (λ m. dispatch l m n c.args.room) (λ m. accepted_if c.args.room m (sent_by_bfq l m n tag)) t c.send_by_bfq.new.parts.tables c.send_by_bfq.result by c.send_by_bfq.ensures.answers

@@ -1,9 +1,9 @@
-use Rattle.std.proofs.Common.{◌≡◌, ◌+◌, length, None, subst, sym, ap, ◌∙◌, arith, rules}
+use Rattle.std.proofs.Common.{◌≡◌, ◌+◌, ◌&&◌, cond, length, None, Some, refl, subst, sym, ap, ◌∙◌, arith, rules}
 use Rattle.sector_core.specs.Table.{AllTaken}
 use Rattle.change_record.specs.Tables.{Tables}
 use Rattle.change_record.specs.Machine.{Plain, meaning}
 use Rattle.plain_machine.specs.declared.answer.Answer.{Answer}
-use Rattle.plain_machine.specs.declared.answer.Answer.TheVariants.{Accepted}
+use Rattle.plain_machine.specs.declared.answer.Answer.TheVariants.{Accepted, Refused}
 use Rattle.plain_machine.specs.declared.answer.Reply.TheVariants.{Queued}
 use Rattle.plain_machine.specs.Step.{of_sizes, accepted, submit, submitted, needs_request, MayGiveWay}
 use Rattle.dispatch_core.specs.WellFormed.{at, WellFormed}
@@ -12,8 +12,19 @@ use Rattle.dispatch_core.specs.Counts.{submit_exchanges}
 use Rattle.dispatch_core.proofs.Sides.{CanSubmit}
 use Rattle.dispatch_core.proofs.Queues.{requests_full, requests_free}
 use Rattle.dispatch_core.proofs.Laws.{submitted-well, submitted-meaning}
-use Rattle.dispatch_core.proofs.Decided.{submit_full, submit_goes, not_both, needs_full, Answers-err}
+use Rattle.dispatch_core.proofs.Decided.{submit_full, submit_goes, not_both, needs_full, gives_way, if_late, if_made, if_full, woken_by, Answers-err}
 use Rattle.dispatch_core.proofs.Merges.{merge_none}
+use Rattle.process_queue.specs.Queue.{is_empty, queue_slots}
+use Rattle.change_record.specs.Machine.{bfq_of, whole_at}
+use Rattle.bfq_select.specs.Rules.{activate}
+use Rattle.plain_machine.specs.declared.answer.Reply.{Reply}
+use Rattle.plain_machine.specs.declared.answer.Code.TheVariants.{VtimeFull}
+use Rattle.plain_machine.specs.Step.{is_bfq, woken}
+use Rattle.std.specs.Option.{option_map}
+use Rattle.dispatch_core.proofs.QueueLists.{queue_empty}
+use Rattle.dispatch_core.proofs.QueueFacts.{linked_some}
+use Rattle.dispatch_core.proofs.Ruling.{served-meaning, served-well}
+use Rattle.dispatch_core.proofs.Recorded.{not_begun, allowed}
 use Rattle.dispatch_core.proofs.start.submit_new.Goals as goal
 
 pub returns-in_default-clause-answers : goal.returns-in_default-clause-answers
@@ -36,7 +47,7 @@ returns-then-not-room-clause-answers c =
     let free : at t.requests c.in-Some.slot ≡ None = search rules in
     let room_left = not_both (needs_request (meaning t) c.args.seat c.args.session c.args.op c.args.range) _ (requests_free l c.args.serial t c.in-Some.slot c.requires.well (search rules)) in
     let goes = submit_goes l (meaning t) c.args.serial c.args.room c.args.seat c.args.session c.args.op c.args.range c.args.payload.now entry may.within may.sits may.session_is may.some_sectors may.few_sectors may.payload_fits may.in_image may.few room_left in
-    sym (goes ∙ ap (λ b. accepted b (meaning t) (submitted (meaning t) c.args.serial c.args.seat c.args.session c.args.op c.args.range c.args.payload.now) (Queued c.args.serial)) c.if-not-room.true)
+    sym (goes ∙ if_late c.args.room (meaning t) _ c.if-not-room.true)
 
 pub returns-in_err-clone-clause-answers : goal.returns-in_err-clone-clause-answers
 returns-in_err-clone-clause-answers c =
@@ -48,11 +59,8 @@ returns-in_err-clone-clause-answers c =
     let free : at t.requests c.in-Some.slot ≡ None = search rules in
     let room_left = not_both (needs_request (meaning t) c.args.seat c.args.session c.args.op c.args.range) _ (requests_free l c.args.serial t c.in-Some.slot c.requires.well (search rules)) in
     let goes = submit_goes l (meaning t) c.args.serial c.args.room c.args.seat c.args.session c.args.op c.args.range c.args.payload.now entry may.within may.sits may.session_is may.some_sectors may.few_sectors may.payload_fits may.in_image may.few room_left in
-    let accepts : submit l (meaning t) c.args.serial c.args.room c.args.seat c.args.session c.args.op c.args.range c.args.payload.now
-    ≡ (submitted (meaning t) c.args.serial c.args.seat c.args.session c.args.op c.args.range c.args.payload.now, Accepted (Queued c.args.serial)) =
-    goes ∙ ap (λ b. accepted b (meaning t) (submitted (meaning t) c.args.serial c.args.seat c.args.session c.args.op c.args.range c.args.payload.now) (Queued c.args.serial)) c.if-not-room.false in
     let P : Plain × Answer → Type 0 = λ o. MayGiveWay o.1 in
-    Answers-err (λ m. submit l m c.args.serial c.args.room c.args.seat c.args.session c.args.op c.args.range c.args.payload.now) t t c.from_residual.result (search rules) (subst P (sym accepts) tt)
+    Answers-err (λ m. submit l m c.args.serial c.args.room c.args.seat c.args.session c.args.op c.args.range c.args.payload.now) t t c.from_residual.result (search rules) (subst P (sym goes) (gives_way c.args.room (meaning t) _ c.if-not-room.false))
 
 pub returns-in_err-reserve-clause-answers : goal.returns-in_err-reserve-clause-answers
 returns-in_err-reserve-clause-answers c =
@@ -64,26 +72,21 @@ returns-in_err-reserve-clause-answers c =
     let free : at t.requests c.in-Some.slot ≡ None = search rules in
     let room_left = not_both (needs_request (meaning t) c.args.seat c.args.session c.args.op c.args.range) _ (requests_free l c.args.serial t c.in-Some.slot c.requires.well (search rules)) in
     let goes = submit_goes l (meaning t) c.args.serial c.args.room c.args.seat c.args.session c.args.op c.args.range c.args.payload.now entry may.within may.sits may.session_is may.some_sectors may.few_sectors may.payload_fits may.in_image may.few room_left in
-    let accepts : submit l (meaning t) c.args.serial c.args.room c.args.seat c.args.session c.args.op c.args.range c.args.payload.now
-    ≡ (submitted (meaning t) c.args.serial c.args.seat c.args.session c.args.op c.args.range c.args.payload.now, Accepted (Queued c.args.serial)) =
-    goes ∙ ap (λ b. accepted b (meaning t) (submitted (meaning t) c.args.serial c.args.seat c.args.session c.args.op c.args.range c.args.payload.now) (Queued c.args.serial)) c.if-not-room.false in
     let P : Plain × Answer → Type 0 = λ o. MayGiveWay o.1 in
-    Answers-err (λ m. submit l m c.args.serial c.args.room c.args.seat c.args.session c.args.op c.args.range c.args.payload.now) t t c.from_residual-in_err-reserve.result (search rules) (subst P (sym accepts) tt)
+    Answers-err (λ m. submit l m c.args.serial c.args.room c.args.seat c.args.session c.args.op c.args.range c.args.payload.now) t t c.from_residual-in_err-reserve.result (search rules) (subst P (sym goes) (gives_way c.args.room (meaning t) _ c.if-not-room.false))
 
-pub returns-clause-answers : goal.returns-clause-answers
-returns-clause-answers c =
+pub returns-in-Ok-clause-answers : goal.returns-in-Ok-clause-answers
+returns-in-Ok-clause-answers c =
     let l = of_sizes c.args.sizes in
+    let n = c.args.serial in
     let t = c.args.parts.now.tables in
+    let m = meaning t in
+    let seat = c.args.seat in
     let entry = c.args.entry in
     let may = c.requires.may in
-    let alone = merge_none t c.args.seat c.args.session c.args.op c.args.range c.requires.alone in
+    let alone = merge_none t seat c.args.session c.args.op c.args.range c.requires.alone in
     let free : at t.requests c.in-Some.slot ≡ None = search rules in
-    let room_left = not_both (needs_request (meaning t) c.args.seat c.args.session c.args.op c.args.range) _ (requests_free l c.args.serial t c.in-Some.slot c.requires.well (search rules)) in
-    let goes = submit_goes l (meaning t) c.args.serial c.args.room c.args.seat c.args.session c.args.op c.args.range c.args.payload.now entry may.within may.sits may.session_is may.some_sectors may.few_sectors may.payload_fits may.in_image may.few room_left in
-    let accepts : submit l (meaning t) c.args.serial c.args.room c.args.seat c.args.session c.args.op c.args.range c.args.payload.now
-    ≡ (submitted (meaning t) c.args.serial c.args.seat c.args.session c.args.op c.args.range c.args.payload.now, Accepted (Queued c.args.serial)) =
-    goes ∙ ap (λ b. accepted b (meaning t) (submitted (meaning t) c.args.serial c.args.seat c.args.session c.args.op c.args.range c.args.payload.now) (Queued c.args.serial)) c.if-not-room.false in
-    let can : CanSubmit l t c.args.seat entry c.in-Some.slot c.args.place c.args.session c.args.op c.args.range c.args.payload.now = record {
+    let can : CanSubmit l t seat entry c.in-Some.slot c.args.place c.args.session c.args.op c.args.range c.args.payload.now = record {
       within = may.within;
       sits = may.sits;
       session_is = may.session_is;
@@ -97,18 +100,38 @@ returns-clause-answers c =
       in_image = may.in_image;
       payload_fits = may.payload_fits;
     } in
-    let now : c.insert.new.parts.tables ≡ submitted_tables t c.args.serial c.args.seat entry c.in-Some.slot c.args.place c.args.session c.args.op c.args.range c.args.payload.now = search rules in
-    sym (accepts ∙ ap (λ m. (m, Accepted (Queued c.args.serial))) (sym (ap meaning now ∙ submitted-meaning l c.args.serial t c.args.seat entry c.in-Some.slot c.args.place c.args.session c.args.op c.args.range c.args.payload.now c.requires.well can alone)))
+    let u = c.insert.new.parts.tables in
+    let now : u ≡ submitted_tables t n seat entry c.in-Some.slot c.args.place c.args.session c.args.op c.args.range c.args.payload.now = search rules in
+    let room_left = not_both (needs_request m seat c.args.session c.args.op c.args.range) _ (requests_free l n t c.in-Some.slot c.requires.well (search rules)) in
+    let goes = submit_goes l m n c.args.room seat c.args.session c.args.op c.args.range c.args.payload.now entry may.within may.sits may.session_is may.some_sectors may.few_sectors may.payload_fits may.in_image may.few room_left in
+    let sub = submitted m n seat c.args.session c.args.op c.args.range c.args.payload.now in
+    let reply : Plain → Plain × Reply = λ next. (next, Queued n) in
+    let wakes : c.is_woken-wakes.result ≡ (is_bfq m.scheduler && is_empty (m.queue seat)) =
+    c.is_woken-wakes.ensures ∙ ap (λ b. is_bfq m.scheduler && b) (sym (queue_empty (whole_at t.requests t.bios) seat t.links (linked_some n t c.requires.well.placed))) in
+    let same : bfq_of u ≡ m.bfq = ap bfq_of now in
+    let asked : cond c.is_woken-wakes.result (activate seat m.bfq) (Some m.bfq) ≡ cond c.is_woken-wakes.result (activate seat (bfq_of u)) (Some (bfq_of u)) =
+    ap (λ b. cond c.is_woken-wakes.result (activate seat b) (Some b)) (sym same) in
+    let v = c.wake.new.parts.tables in
+    let woke : woken m seat sub ≡ Some (let p : Plain = record sub { bfq = bfq_of v } in p) =
+    woken_by m seat sub c.is_woken-wakes.result (Some (bfq_of v)) wakes refl (asked ∙ c.in-Ok.ensures.made) in
+    let after : meaning v ≡ record sub { bfq = bfq_of v } =
+    served-meaning u v c.in-Ok.ensures.others
+    ∙ ap (λ (x : Plain). let p : Plain = record x { bfq = bfq_of v } in p)
+    (ap meaning now ∙ submitted-meaning l n t seat entry c.in-Some.slot c.args.place c.args.session c.args.op c.args.range c.args.payload.now c.requires.well can alone) in
+    sym (goes ∙ if_made c.args.room m _ _ (Queued n) c.if-not-room.false (ap (option_map reply) woke) ∙ ap (λ x. (x, Accepted (Queued n))) (sym after))
 
-pub returns-clause-leaves : goal.returns-clause-leaves
-returns-clause-leaves c =
+pub returns-in-Ok-clause-leaves : goal.returns-in-Ok-clause-leaves
+returns-in-Ok-clause-leaves c =
     let l = of_sizes c.args.sizes in
+    let n = c.args.serial in
     let t = c.args.parts.now.tables in
+    let m = meaning t in
+    let seat = c.args.seat in
     let entry = c.args.entry in
     let may = c.requires.may in
-    let alone = merge_none t c.args.seat c.args.session c.args.op c.args.range c.requires.alone in
+    let alone = merge_none t seat c.args.session c.args.op c.args.range c.requires.alone in
     let free : at t.requests c.in-Some.slot ≡ None = search rules in
-    let can : CanSubmit l t c.args.seat entry c.in-Some.slot c.args.place c.args.session c.args.op c.args.range c.args.payload.now = record {
+    let can : CanSubmit l t seat entry c.in-Some.slot c.args.place c.args.session c.args.op c.args.range c.args.payload.now = record {
       within = may.within;
       sits = may.sits;
       session_is = may.session_is;
@@ -122,9 +145,70 @@ returns-clause-leaves c =
       in_image = may.in_image;
       payload_fits = may.payload_fits;
     } in
-    let now : c.insert.new.parts.tables ≡ submitted_tables t c.args.serial c.args.seat entry c.in-Some.slot c.args.place c.args.session c.args.op c.args.range c.args.payload.now = search rules in
-    let P : Tables → Type 0 = λ u. WellFormed l (c.args.serial + 1) u in (
-      subst P (sym now) (submitted-well l c.args.serial t c.args.seat entry c.in-Some.slot c.args.place c.args.session c.args.op c.args.range c.args.payload.now c.requires.well can),
-      omega (arith, c.insert.ensures.spare, c.in_ok-reserve.ensures.spare),
-      omega (arith, c.insert.ensures.count, ap length c.reserve.ensures.current, ap submit_exchanges alone),
+    let u = c.insert.new.parts.tables in
+    let now : u ≡ submitted_tables t n seat entry c.in-Some.slot c.args.place c.args.session c.args.op c.args.range c.args.payload.now = search rules in
+    let v = c.wake.new.parts.tables in
+    let P : Tables → Type 0 = λ x. WellFormed l (n + 1) x in
+    let well = subst P (sym now) (submitted-well l n t seat entry c.in-Some.slot c.args.place c.args.session c.args.op c.args.range c.args.payload.now c.requires.well can) in
+    let more = allowed c.is_woken-wakes.result (is_bfq t.scheduler) (is_empty (queue_slots seat t.links)) 5 c.is_woken-wakes.ensures in (
+      served-well l (n + 1) u v c.in-Ok.ensures.others well c.in-Ok.ensures.sized c.in-Ok.ensures.bounded,
+      omega (arith, c.in-Ok.ensures.spare, c.insert.ensures.spare, c.in_ok-reserve.ensures.spare),
+      omega (arith, c.in-Ok.ensures.some, c.insert.ensures.count, ap length c.reserve.ensures.current, ap submit_exchanges alone),
+      omega (arith, more, c.in-Ok.ensures.few, c.insert.ensures.count, ap length c.reserve.ensures.current, ap submit_exchanges alone),
     )
+
+pub abandon-requires : goal.abandon-requires
+abandon-requires c =
+    let t = c.args.parts.now.tables in
+    let begun = not_begun c.reserve.new.self.current t (c.reserve.ensures.current ∙ c.requires.idle) in
+    let trail = c.in-Err.ensures.trail t (c.insert.ensures.trail t begun) in
+    trail.fits
+
+pub returns-in-Err-clause-answers : goal.returns-in-Err-clause-answers
+returns-in-Err-clause-answers c =
+    let l = of_sizes c.args.sizes in
+    let n = c.args.serial in
+    let t = c.args.parts.now.tables in
+    let m = meaning t in
+    let seat = c.args.seat in
+    let entry = c.args.entry in
+    let may = c.requires.may in
+    let alone = merge_none t seat c.args.session c.args.op c.args.range c.requires.alone in
+    let free : at t.requests c.in-Some.slot ≡ None = search rules in
+    let can : CanSubmit l t seat entry c.in-Some.slot c.args.place c.args.session c.args.op c.args.range c.args.payload.now = record {
+      within = may.within;
+      sits = may.sits;
+      session_is = may.session_is;
+      few = may.few;
+      slot_within = search rules;
+      slot_free = free;
+      place_of = may.place_of;
+      place_free = may.place_free;
+      some_sectors = may.some_sectors;
+      few_sectors = may.few_sectors;
+      in_image = may.in_image;
+      payload_fits = may.payload_fits;
+    } in
+    let u = c.insert.new.parts.tables in
+    let now : u ≡ submitted_tables t n seat entry c.in-Some.slot c.args.place c.args.session c.args.op c.args.range c.args.payload.now = search rules in
+    let room_left = not_both (needs_request m seat c.args.session c.args.op c.args.range) _ (requests_free l n t c.in-Some.slot c.requires.well (search rules)) in
+    let goes = submit_goes l m n c.args.room seat c.args.session c.args.op c.args.range c.args.payload.now entry may.within may.sits may.session_is may.some_sectors may.few_sectors may.payload_fits may.in_image may.few room_left in
+    let sub = submitted m n seat c.args.session c.args.op c.args.range c.args.payload.now in
+    let reply : Plain → Plain × Reply = λ next. (next, Queued n) in
+    let wakes : c.is_woken-wakes.result ≡ (is_bfq m.scheduler && is_empty (m.queue seat)) =
+    c.is_woken-wakes.ensures ∙ ap (λ b. is_bfq m.scheduler && b) (sym (queue_empty (whole_at t.requests t.bios) seat t.links (linked_some n t c.requires.well.placed))) in
+    let same : bfq_of u ≡ m.bfq = ap bfq_of now in
+    let asked : cond c.is_woken-wakes.result (activate seat m.bfq) (Some m.bfq) ≡ cond c.is_woken-wakes.result (activate seat (bfq_of u)) (Some (bfq_of u)) =
+    ap (λ b. cond c.is_woken-wakes.result (activate seat b) (Some b)) (sym same) in
+    let begun = not_begun c.reserve.new.self.current t (c.reserve.ensures.current ∙ c.requires.idle) in
+    let trail = c.in-Err.ensures.trail t (c.insert.ensures.trail t begun) in
+    let woke : woken m seat sub ≡ None = woken_by m seat sub c.is_woken-wakes.result None wakes refl (asked ∙ c.in-Err.ensures.made) in
+    sym (goes ∙ if_full c.args.room m _ c.if-not-room.false (ap (option_map reply) woke)
+    ∙ ap (λ x. (meaning x, Refused VtimeFull)) (sym (c.abandon.ensures.tables ∙ trail.back)))
+
+pub returns-in-Err-clause-leaves : goal.returns-in-Err-clause-leaves
+returns-in-Err-clause-leaves c =
+    let t = c.args.parts.now.tables in
+    let begun = not_begun c.reserve.new.self.current t (c.reserve.ensures.current ∙ c.requires.idle) in
+    let trail = c.in-Err.ensures.trail t (c.insert.ensures.trail t begun) in
+    (c.abandon.ensures.tables ∙ trail.back, c.abandon.ensures.current ∙ sym c.requires.idle)
