@@ -11,7 +11,7 @@ use Rattle.plain_machine.specs.declared.answer.Reply.TheVariants.{Moved, Done}
 use Rattle.plain_machine.specs.declared.answer.Code.{Code}
 use Rattle.plain_machine.specs.declared.answer.Cause.{Cause}
 use Rattle.plain_machine.specs.declared.answer.Cause.TheVariants.{Held}
-use Rattle.plain_machine.specs.Step.{Limits, of_sizes, step, IsAccepted}
+use Rattle.plain_machine.specs.Step.{Limits, of_sizes, step, IsAccepted, MayGiveWay}
 use Rattle.plain_machine.specs.Keeper.{State, opened, machine_of, has_room, did, called, MayCall, replayed, replay}
 use Rattle.history.specs.Roll.{Line, plain_at, SameLine, AddsStep, MayStep}
 use Rattle.history.proofs.Room.{no_room}
@@ -50,7 +50,7 @@ pub step-done : (k : State) (s : Step) (answer : Answer) → k.held ≡ false �
     → called k (Do s) ≡ did k s answer
 step-done k s answer h e = ap (λ b. if b then (k, NotYet Held) else did k s (step k.limits (machine_of k) (k.last + 1) (has_room k) s).1) h ∙ ap (did k s) e
 
-did-accepted : (k : State) (s : Step) (a : Answer) → IsAccepted a → IsAccepted (did k s a).1
+did-accepted : (k : State) (s : Step) (a : Answer) → MayGiveWay a → MayGiveWay (did k s a).1
 did-accepted k s (Accepted reply) h = h
 did-accepted k s (Refused code) h = h
 did-accepted k s (NotYet cause) h = h
@@ -75,7 +75,7 @@ may-refuse r new held room journal now most s code h e j may =
     let P : Bool → Type 0 = λ b. MayStep r b s (Refused code) new in
     elim (subst P e may) as (λ _. MayCall k (Do s) (Refused code) (state_of new held now most)) [
       | inl x ↦ inl (ap (λ n. (n, Refused code)) (same-state r new held journal now most x.1 j) ∙ sym (step-done k s (Refused code) h (sym x.0)))
-      | inr x ↦ inr (subst (λ o. IsAccepted o.1) (sym (step-done k s _ h refl)) (did-accepted k s _ x.0), tt, x.1, same-state r new held journal now most x.2 j)
+      | inr x ↦ inr (subst (λ o. MayGiveWay o.1) (sym (step-done k s _ h refl)) (did-accepted k s _ x.0), tt, x.1, same-state r new held journal now most x.2 j)
     ]
 
 pub may-wait : (r new : Line) (held room : Bool) (journal now : List Call) (most : ℕ) (s : Step) (cause : Cause)
@@ -86,7 +86,7 @@ may-wait r new held room journal now most s cause h e j may =
     let P : Bool → Type 0 = λ b. MayStep r b s (NotYet cause) new in
     elim (subst P e may) as (λ _. MayCall k (Do s) (NotYet cause) (state_of new held now most)) [
       | inl x ↦ inl (ap (λ n. (n, NotYet cause)) (same-state r new held journal now most x.1 j) ∙ sym (step-done k s (NotYet cause) h (sym x.0)))
-      | inr x ↦ inr (subst (λ o. IsAccepted o.1) (sym (step-done k s _ h refl)) (did-accepted k s _ x.0), tt, x.1, same-state r new held journal now most x.2 j)
+      | inr x ↦ inr (subst (λ o. MayGiveWay o.1) (sym (step-done k s _ h refl)) (did-accepted k s _ x.0), tt, x.1, same-state r new held journal now most x.2 j)
     ]
 
 -- the line is the same after a step that is not accepted

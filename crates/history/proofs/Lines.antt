@@ -4,10 +4,10 @@ use Rattle.std.proofs.Math.Seq.{take-suc}
 use Rattle.change_record.specs.declared.change.Change.{Change}
 use Rattle.change_record.specs.Tables.{Tables}
 use Rattle.change_record.specs.Exchange.{back_tables, back_left, forth_tables, forth_left, ArePuts}
-use Rattle.change_record.specs.Machine.{Plain, meaning, opening}
+use Rattle.change_record.specs.Machine.{Plain, meaning}
 use Rattle.change_record.proofs.Exchanges.{back_tables-forth, back_left-forth, forth_tables-back, FitBack-forth}
 use Rattle.plain_machine.specs.declared.call.Stamped.{Stamped}
-use Rattle.plain_machine.specs.Step.{Limits, step}
+use Rattle.plain_machine.specs.Step.{Limits, opening, step}
 use Rattle.plain_machine.specs.Keeper.{fold_from, fold}
 use Rattle.dispatch_core.specs.WellFormed.{IsSound}
 use Rattle.dispatch_core.proofs.Laws.{IsSound-later}
@@ -72,5 +72,5 @@ past-fold l n f line zero t e h = h
 past-fold l n f line (suc k) t e h =
     h.0.made
     ∙ ap (λ m. (step l m (stamped_at line k).serial true (stamped_at line k).step).0) (past-fold l n f line k (back_tables (f k) t) (omega (arith, e)) h.1)
-    ∙ sym (fold_from-append l opening (take k line) (stamped_at line k ∷ []))
+    ∙ sym (fold_from-append l (opening l) (take k line) (stamped_at line k ∷ []))
     ∙ ap (fold l) (sym (take-suc line k _ (omega (arith, e))))

@@ -6,12 +6,19 @@ use Rattle.sector_core.specs.declared.bio.Bio.{Bio}
 use Rattle.change_record.specs.Machine.{Plain, Flight, WholeRequest}
 use Rattle.plain_machine.specs.declared.answer.Answer.{Answer}
 use Rattle.plain_machine.specs.declared.step.Step.{Step}
-use Rattle.plain_machine.specs.declared.step.Step.TheVariants.{Attach, Submit, Reap, Dispatch, Finish}
-use Rattle.plain_machine.specs.declared.answer.Code.TheVariants.{BadSeat, SeatTaken, NoGroup, BadPrio, BadCount, BadLength, OutOfRange, TooManyBios, NothingOwed, BadTag, NotInFlight, BadOutcome, HistoryFull}
+use Rattle.plain_machine.specs.declared.step.Step.TheVariants.{Attach, Submit, Reap, Dispatch, Finish, GroupMake, GroupDrop, SetWeight}
+use Rattle.plain_machine.specs.declared.answer.Code.TheVariants.{BadSeat, SeatTaken, NoGroup, BadPrio, BadCount, BadLength, OutOfRange, TooManyBios, NothingOwed, BadTag, NotInFlight, BadOutcome, BadWeight, TooDeep, GroupInUse, HistoryFull}
 use Rattle.plain_machine.specs.declared.answer.Cause.TheVariants.{RequestsFull}
 use Rattle.plain_machine.specs.declared.answer.Answer.TheVariants.{Refused, NotYet}
 use Rattle.std.specs.Prelude.{◌+◌, ◌==◌, nat_le, nat_lt, not, ◌||◌, ◌&&◌, is_some, length}
-use Rattle.plain_machine.specs.Step.{Limits, Outcome_of, unless, seat_tests, payload_length, unreaped, queued, in_flight, fits, size_of, finished, needs_request, reaped, sent, dispatch_to, next_queue, lowest_free, finish_of, step, IsAccepted}
+use Rattle.plain_machine.specs.Step.{Limits, Outcome_of, unless, seat_tests, payload_length, unreaped, queued, in_flight, fits, size_of, finished, needs_request, reaped, sent, sent_by, sent_by_bfq, accepted_if, woken, submitted, dispatch_to, next_queue, lowest_free, finish_of, made_group, free_group, group_tests, is_used, is_weight, step, IsAccepted}
+use Rattle.std.specs.Option.{option_map}
+use Rattle.sector_core.specs.declared.config.Scheduler.{Scheduler}
+use Rattle.sector_core.specs.declared.config.Scheduler.TheVariants.{Plain as PlainScheduler, Bfq as BfqScheduler}
+use Rattle.group_tree.specs.Groups.{depth, most_levels}
+use Rattle.bfq_select.specs.Rules.{stands}
+use Rattle.plain_machine.specs.declared.answer.Reply.{Reply}
+use Rattle.plain_machine.specs.declared.answer.Reply.TheVariants.{Queued}
 
 -- no test of the list accepts
 abbrev AllRefuse : List (Bool × Answer) → Type 0
@@ -35,10 +42,23 @@ no_send : (m : Plain) (n seat tag : ℕ) (requests : List WholeRequest) → IsAc
 no_send m n seat tag [] h = h
 no_send m n seat tag (r ∷ rs) h = h
 
-no_dispatch : (m : Plain) (n : ℕ) (seat tag : Option ℕ) → IsAccepted (dispatch_to m n false seat tag).1 → ⊥
-no_dispatch m n None tag h = h
-no_dispatch m n (Some seat) None h = h
-no_dispatch m n (Some seat) (Some tag) h = no_send m n seat tag (m.queue seat) h
+-- nor is one with a rule
+no_rule : (m : Plain) (o : Option (Plain × Reply)) → IsAccepted (accepted_if false m o).1 → ⊥
+no_rule m None h = h
+no_rule m (Some next) h = h
+
+no_scheduler : (l : Limits) (m : Plain) (n seat tag : ℕ) (scheduler : Scheduler) → IsAccepted (sent_by l m n false seat tag scheduler).1 → ⊥
+no_scheduler l m n seat tag PlainScheduler h = no_send m n seat tag (m.queue seat) h
+no_scheduler l m n seat tag BfqScheduler h = no_rule m (sent_by_bfq l m n tag) h
+
+no_dispatch : (l : Limits) (m : Plain) (n : ℕ) (seat tag : Option ℕ) → IsAccepted (dispatch_to l m n false seat tag).1 → ⊥
+no_dispatch l m n None tag h = h
+no_dispatch l m n (Some seat) None h = h
+no_dispatch l m n (Some seat) (Some tag) h = no_scheduler l m n seat tag m.scheduler h
+
+no_group : (l : Limits) (m : Plain) (parent weight : ℕ) (group : Option ℕ) → IsAccepted (made_group l m false parent weight group).1 → ⊥
+no_group l m parent weight None h = h
+no_group l m parent weight (Some group) h = h
 
 no_finish : (m : Plain) (tag issue : ℕ) (outcome : Outcome) (f : Option Flight) → IsAccepted (finish_of m false tag issue outcome f).1 → ⊥
 no_finish m tag issue outcome None h = h
@@ -51,7 +71,7 @@ pub no_room : (l : Limits) (m : Plain) (n : ℕ) (s : Step) → IsAccepted (step
 no_room l m n (Attach seat group prio) h = refuses (
     (nat_le 16 seat, Refused BadSeat)
     ∷ (is_some (m.seat seat), Refused SeatTaken)
-    ∷ (not (group == 0), Refused NoGroup)
+    ∷ (not (stands m.bfq group), Refused NoGroup)
     ∷ (nat_lt 7 prio, Refused BadPrio)
     ∷ []) m (m, Refused HistoryFull) ((λ h. h), ((λ h. h), ((λ h. h), ((λ h. h), tt)))) (λ h. h) h
 no_room l m n (Submit seat session op range payload) h = refuses (seat_tests m seat session ++ (
@@ -60,9 +80,21 @@ no_room l m n (Submit seat session op range payload) h = refuses (seat_tests m s
     ∷ (nat_lt l.sectors (range.start + range.count), Refused OutOfRange)
     ∷ (nat_le 32 (unreaped m seat), Refused TooManyBios)
     ∷ (needs_request m seat session op range && nat_le l.requests (queued m + in_flight l m), NotYet RequestsFull)
-    ∷ [])) m (m, Refused HistoryFull) ((λ h. h), ((λ h. h), ((λ h. h), ((λ h. h), ((λ h. h), ((λ h. h), ((λ h. h), ((λ h. h), tt)))))))) (λ h. h) h
+    ∷ [])) m (accepted_if false m (option_map (λ next. (next, Queued n)) (woken m seat (submitted m n seat session op range payload))))
+    ((λ h. h), ((λ h. h), ((λ h. h), ((λ h. h), ((λ h. h), ((λ h. h), ((λ h. h), ((λ h. h), tt)))))))) (no_rule m _) h
 no_room l m n (Reap seat session) h = refuses (seat_tests m seat session ++ (
     (unreaped m seat == 0, Refused NothingOwed)
     ∷ [])) m (reaped false m seat (m.outbox seat)) ((λ h. h), ((λ h. h), ((λ h. h), ((λ h. h), tt)))) (no_reap m seat (m.outbox seat)) h
-no_room l m n Dispatch h = no_dispatch m n (next_queue m) (lowest_free l m) h
+no_room l m n Dispatch h = no_dispatch l m n (next_queue m) (lowest_free l m) h
 no_room l m n (Finish tag issue outcome) h = refuses ((nat_le l.tags tag, Refused BadTag) ∷ []) m (finish_of m false tag issue outcome (m.flight tag)) ((λ h. h), tt) (no_finish m tag issue outcome (m.flight tag)) h
+no_room l m n (GroupMake parent weight) h = refuses (
+    (not (stands m.bfq parent), Refused NoGroup)
+    ∷ (not (is_weight weight), Refused BadWeight)
+    ∷ (nat_le most_levels (depth m.bfq.parent parent), Refused TooDeep)
+    ∷ []) m (made_group l m false parent weight (free_group m.bfq)) ((λ h. h), ((λ h. h), ((λ h. h), tt))) (no_group l m parent weight (free_group m.bfq)) h
+no_room l m n (GroupDrop group) h = refuses (group_tests m group ++ (
+    (is_used m.bfq group, Refused GroupInUse)
+    ∷ [])) m (m, Refused HistoryFull) ((λ h. h), ((λ h. h), ((λ h. h), tt))) (λ h. h) h
+no_room l m n (SetWeight group weight) h = refuses (group_tests m group ++ (
+    (not (is_weight weight), Refused BadWeight)
+    ∷ [])) m (m, Refused HistoryFull) ((λ h. h), ((λ h. h), ((λ h. h), tt))) (λ h. h) h

@@ -17,7 +17,7 @@ use Rattle.plain_machine.specs.declared.answer.Answer.{Answer}
 use Rattle.plain_machine.specs.declared.answer.Answer.TheVariants.{Accepted, Refused, NotYet}
 use Rattle.plain_machine.specs.declared.answer.Reply.{Reply}
 use Rattle.plain_machine.specs.declared.answer.Code.TheVariants.{OutOfMemory}
-use Rattle.plain_machine.specs.Step.{Limits, of_sizes, step, IsAccepted, Applies}
+use Rattle.plain_machine.specs.Step.{Limits, of_sizes, step, IsAccepted, MayGiveWay, Applies}
 use Rattle.history.specs.Roll.{Line, plain_at, SameLine, AddsStep, LineAfter, MayStep}
 use Rattle.history.proofs.Room.{no_room}
 use Rattle.dispatch_core.specs.WellFormed.{IsSound}
@@ -190,7 +190,7 @@ pub may-want : (old new : Line) (m next : Plain) (room : Bool) (s : Step) (reply
 may-want old new m next room s reply e h same =
     let P : Plain → Type 0 = λ p. Applies (of_sizes old.sizes) p (old.last + 1) room s next (Accepted reply) in
     elim (subst P e h) as (λ _. MayStep old room s (Refused OutOfMemory) new) [
-      | inl same_answer ↦ inr (subst IsAccepted (ap (λ o. o.1) same_answer) tt, refl, same)
+      | inl same_answer ↦ inr (subst MayGiveWay (ap (λ o. o.1) same_answer) tt, refl, same)
       | inr want ↦ absurd (subst IsAccepted want.1 tt)
     ]
 

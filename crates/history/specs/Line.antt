@@ -4,11 +4,11 @@ use Rattle.change_record.specs.declared.change.Change.{Change}
 use Rattle.change_record.specs.Tables.{Tables}
 use Rattle.change_record.specs.Exchange.{back_tables, back_left, forth_tables, FitBack, ArePuts}
 use Rattle.change_record.specs.Tape.{step_at}
-use Rattle.change_record.specs.Machine.{meaning, opening}
+use Rattle.change_record.specs.Machine.{meaning}
 use Rattle.plain_machine.specs.declared.sizes.Sizes.{Sizes}
 use Rattle.plain_machine.specs.declared.step.Step.TheVariants.{Dispatch}
 use Rattle.plain_machine.specs.declared.call.Stamped.{Stamped}
-use Rattle.plain_machine.specs.Step.{Limits, of_sizes, step}
+use Rattle.plain_machine.specs.Step.{Limits, opening, of_sizes, step}
 use Rattle.dispatch_core.specs.WellFormed.{IsSound}
 
 -- the step at a number
@@ -30,7 +30,7 @@ pub record Waits (l : Limits) (n : ℕ) (changes : List Change) (s : Stamped) (t
 
 -- the steps before a number stand, and lead back to a machine before its first step
 abbrev pub IsPast : Limits → ℕ → (ℕ → List Change) → (ℕ → Stamped) → ℕ → Tables → Type 0
-IsPast l n list step zero t = meaning t ≡ opening
+IsPast l n list step zero t = meaning t ≡ opening l
 IsPast l n list step (suc k) t = Stands l n (list k) (step k) t × IsPast l n list step k (back_tables (list k) t)
 
 -- so many steps from a number on wait, one after the other

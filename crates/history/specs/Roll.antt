@@ -7,10 +7,9 @@ use Rattle.plain_machine.specs.declared.call.Stamped.{Stamped}
 use Rattle.plain_machine.specs.declared.answer.Answer.{Answer}
 use Rattle.plain_machine.specs.declared.answer.Answer.TheVariants.{Accepted, Refused, NotYet}
 use Rattle.plain_machine.specs.declared.answer.Code.TheVariants.{OutOfMemory}
-use Rattle.plain_machine.specs.Step.{of_sizes, step, IsAccepted}
+use Rattle.plain_machine.specs.Step.{of_sizes, step, MayGiveWay}
 use Rattle.plain_machine.specs.Keeper.{fold}
-use Rattle.dispatch_core.specs.Counts.{exchanges_of}
-use Rattle.dispatch_core.specs.Running.{most_exchanges}
+use Rattle.dispatch_core.specs.Counts.{IsCount}
 
 pub record Line : Type 0 where
   pub sizes : Sizes
@@ -45,14 +44,15 @@ LineAfter old s (Accepted reply) new = AddsStep old s new
 LineAfter old s (Refused code) new = SameLine old new
 LineAfter old s (NotYet cause) new = SameLine old new
 
--- the lists of the steps that stand stay, and an accepted step adds one with exactly its exchanges
+-- the lists of the steps that stand stay, and an accepted step adds one with so many exchanges as it may have
 abbrev pub LengthsAfter : Line → Step → Answer → Line → Type 0
-LengthsAfter old s (Accepted reply) new = (new.lengths ≡ take old.cursor old.lengths ++ exchanges_of (plain_at old) s ∷ []) × (exchanges_of (plain_at old) s ≤ most_exchanges)
+LengthsAfter old s (Accepted reply) new = (count : ℕ) × (new.lengths ≡ take old.cursor old.lengths ++ count ∷ []) × IsCount (plain_at old) s count
 LengthsAfter old s (Refused code) new = new.lengths ≡ old.lengths
 LengthsAfter old s (NotYet cause) new = new.lengths ≡ old.lengths
 
--- the answer is the plain step's, and so is the line; or memory was wanting where the plain step accepts, and the line is the same
+-- the answer is the plain step's, and so is the line; or memory was wanting where the plain step accepts or
+-- finds a time too great, and the line is the same
 abbrev pub MayStep : Line → Bool → Step → Answer → Line → Type 0
 MayStep old room s answer new =
     ((answer ≡ (step (of_sizes old.sizes) (plain_at old) (old.last + 1) room s).1) × LineAfter old s answer new)
-    ⊎ (IsAccepted (step (of_sizes old.sizes) (plain_at old) (old.last + 1) room s).1 × (answer ≡ Refused OutOfMemory) × SameLine old new)
+    ⊎ (MayGiveWay (step (of_sizes old.sizes) (plain_at old) (old.last + 1) room s).1 × (answer ≡ Refused OutOfMemory) × SameLine old new)

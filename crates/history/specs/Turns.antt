@@ -6,8 +6,7 @@ use Rattle.plain_machine.specs.declared.call.Call.TheVariants.{Do, Hold, Release
 use Rattle.plain_machine.specs.declared.answer.Answer.{Answer}
 use Rattle.plain_machine.specs.declared.answer.Answer.TheVariants.{Accepted, Refused, NotYet}
 use Rattle.plain_machine.specs.Keeper.{machine_of, MayCall}
-use Rattle.dispatch_core.specs.Counts.{exchanges_of}
-use Rattle.dispatch_core.specs.Running.{most_exchanges}
+use Rattle.dispatch_core.specs.Counts.{IsCount}
 use Rattle.history.specs.Kept.{Kept}
 
 -- the changes of so many steps from a number on
@@ -18,7 +17,7 @@ changes_of lengths from count = sum (take count (drop from lengths))
 abbrev pub MakesTurns : ℕ → ℕ → ℕ → Type 0
 MakesTurns old count new = new % 2 ^ 64 ≡ (old + count) % 2 ^ 64
 
--- an accepted step cuts the lists at the cursor and adds one with exactly its exchanges, 512 at most;
+-- an accepted step cuts the lists at the cursor and adds one with so many exchanges as it may have, 512 at most;
 -- an accepted Undo or Redo makes exactly the exchanges of its steps, and leaves each list as long as it is
 abbrev pub Turns : Kept → Call → Answer → Kept → Type 0
 Turns old (Undo n) (Accepted reply) new = MakesTurns old.turns (changes_of old.lengths (old.state.cursor - n) n) new.turns × (new.lengths ≡ old.lengths)
@@ -28,7 +27,7 @@ Turns old (Redo n) (Refused code) new = new.lengths ≡ old.lengths
 Turns old (Undo n) (NotYet cause) new = new.lengths ≡ old.lengths
 Turns old (Redo n) (NotYet cause) new = new.lengths ≡ old.lengths
 Turns old (Do s) (Accepted reply) new =
-    (new.lengths ≡ take old.state.cursor old.lengths ++ exchanges_of (machine_of old.state) s ∷ []) × (exchanges_of (machine_of old.state) s ≤ most_exchanges)
+    (count : ℕ) × (new.lengths ≡ take old.state.cursor old.lengths ++ count ∷ []) × IsCount (machine_of old.state) s count
 Turns old (Do s) (Refused code) new = new.lengths ≡ old.lengths
 Turns old (Do s) (NotYet cause) new = new.lengths ≡ old.lengths
 Turns old Hold answer new = (new.turns ≡ old.turns) × (new.lengths ≡ old.lengths)

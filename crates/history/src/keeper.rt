@@ -5,7 +5,7 @@ ghost use Rattle.plain_machine.specs.Keeper.{State, opened, machine_of, called, 
 ghost use Rattle.plain_machine.specs.declared.call.Call.TheVariants.{Do as DoStep, Hold as HoldAll, Release as ReleaseAll, Undo as UndoSteps, Redo as RedoSteps};
 ghost use Rattle.plain_machine.specs.declared.answer.Answer.TheVariants.{Accepted};
 ghost use Rattle.plain_machine.specs.declared.answer.Reply.TheVariants.{Moved};
-ghost use Rattle.dispatch_core.specs.Running.{plain_of, IsFor};
+ghost use Rattle.dispatch_core.specs.Running.{plain_of, sizes_of, IsFor};
 ghost use Rattle.history.specs.Turns.{Turns};
 
 use crate::moves::{redo_steps, undo_steps};
@@ -50,7 +50,7 @@ impl Keeper {
     /// There is no memory for its machine.
     pub fn new(alloc: Global, config: Config, sectors: u64) -> Result<Keeper, OutOfMemory>
         requires { sectors < 2 ^ 55 }
-        ensures opened { IfOk result (λ k. k.state ≡ opened (record { sectors = sectors; requests = config.nr_requests; tags = config.tags }) config.history_max) }
+        ensures opened { IfOk result (λ k. k.state ≡ opened (of_sizes (sizes_of config sectors)) config.history_max) }
         ensures lengths { IfOk result (λ k. k.lengths ≡ []) }
         ensures turns { IfOk result (λ k. k.turns ≡ 0) }
     {

@@ -2,7 +2,7 @@
 ghost use Rattle.std.specs.Prelude.{◌≡◌, ◌+◌, ◌-◌, ◌<◌, ◌≤◌, ◌^◌, ◌%◌, slice_index_or, [], ◌∷◌, ◌++◌, IfOk, OnOk, OnErr, IfSome, length, take, IsTrue, vec_len, vec_capacity};
 ghost use Rattle.plain_machine.specs.Step.{of_sizes, IsAccepted};
 ghost use Rattle.plain_machine.specs.Keeper.{fold};
-ghost use Rattle.dispatch_core.specs.Running.{plain_of, IsFor};
+ghost use Rattle.dispatch_core.specs.Running.{plain_of, sizes_of, IsFor};
 ghost use Rattle.history.specs.Roll.{plain_at, SameLine, LengthsAfter, MayStep};
 
 use change_record::{Tape, push_within};
@@ -45,7 +45,7 @@ impl Roll {
     /// An empty line and a machine before its first step.
     pub fn new(alloc: Global, config: Config, sectors: u64) -> Result<Roll, OutOfMemory>
         requires { sectors < 2 ^ 55 }
-        ensures sizes { IfOk result (λ r. r.sizes ≡ record { sectors = sectors; requests = config.nr_requests; tags = config.tags }) }
+        ensures sizes { IfOk result (λ r. r.sizes ≡ sizes_of config sectors) }
         ensures steps { IfOk result (λ r. r.steps ≡ []) }
         ensures cursor { IfOk result (λ r. r.cursor ≡ 0) }
         ensures last { IfOk result (λ r. r.last ≡ 0) }

@@ -10,8 +10,8 @@ use Rattle.dispatch_core.specs.WellFormed.{IsSound}
 use Rattle.plain_machine.specs.Step.{of_sizes, step as plain_step}
 use Rattle.std.specs.List.{take-map}
 use Rattle.std.proofs.lemmas.List.{map-append}
-use Rattle.dispatch_core.specs.Counts.{exchanges_of}
-use Rattle.dispatch_core.specs.Running.{plain_of, most_exchanges}
+use Rattle.dispatch_core.specs.Counts.{IsCount}
+use Rattle.dispatch_core.specs.Running.{plain_of}
 use Rattle.history.specs.Line.{IsLine}
 use Rattle.history.specs.Roll.{Line, plain_at, MayStep}
 use Rattle.history.proofs.Lines.{past-fold}
@@ -59,7 +59,7 @@ invariant_of-self-in-Some c =
     let Q : List Stamped → Type 0 = λ l. IsLine l (suc k) (i.last + 1) c.apply.new.self.sizes c.apply.new.self.tables c.keep_last.new.self.steps c.keep_last.new.self.current in
     subst P (omega arith) (subst Q (sym lines) (same-line _ (suc k) (i.last + 1) _ _ _ _ _ _ _ _ c.apply.ensures.sizes refl tapes (c.keep_last.ensures.current ∙ sym c.self.invariant.idle)
     (step-line i.line.items k i.last i.machine.sizes i.machine.tables c.apply.new.self.tables i.tape.steps i.tape.current r.0 c.args.step.now
-    c.self.invariant r.4 (subst W c.apply.ensures.sizes c.apply.ensures.well) made_it)))
+    c.self.invariant r.3 (subst W c.apply.ensures.sizes c.apply.ensures.well) made_it)))
 
 pub returns-in-Some-clause-may : goal.returns-in-Some-clause-may
 returns-in-Some-clause-may c =
@@ -99,12 +99,10 @@ returns-in-Some-clause-lengths c =
     c.keep_last.ensures.steps
     ∙ ap (λ l. take k l ++ step_at l (length l - 1) ∷ []) r.1
     ∙ kept-last i.tape.steps r.0 k cut in
-    let count : length r.0 ≡ exchanges_of (plain_of i.machine) s = r.2 in
-    let lists : map length c.keep_last.new.self.steps ≡ take k (map length i.tape.steps) ++ exchanges_of (plain_at old) s ∷ [] =
+    let lists : map length c.keep_last.new.self.steps ≡ take k (map length i.tape.steps) ++ length r.0 ∷ [] =
     ap (map length) tapes ∙ map-append length (take k i.tape.steps) (r.0 ∷ [])
-    ∙ ap (λ l. l ++ length r.0 ∷ []) (sym (take-map length k i.tape.steps))
-    ∙ ap (λ n. take k (map length i.tape.steps) ++ n ∷ []) (count ∙ ap (λ m. exchanges_of m s) plain) in
-    let P : Line → Type 0 = λ v. map length c.keep_last.new.self.steps ≡ take v.cursor v.lengths ++ exchanges_of (plain_at v) s ∷ [] in
-    let M : Plain → Type 0 = λ m. exchanges_of m s ≤ most_exchanges in
-    let Q : Line → Type 0 = λ v. exchanges_of (plain_at v) s ≤ most_exchanges in
-    (subst P c.self.view_is lists, subst Q c.self.view_is (subst M plain r.3))
+    ∙ ap (λ l. l ++ length r.0 ∷ []) (sym (take-map length k i.tape.steps)) in
+    let P : Line → Type 0 = λ v. map length c.keep_last.new.self.steps ≡ take v.cursor v.lengths ++ length r.0 ∷ [] in
+    let M : Plain → Type 0 = λ m. IsCount m s (length r.0) in
+    let Q : Line → Type 0 = λ v. IsCount (plain_at v) s (length r.0) in
+    (length r.0, subst P c.self.view_is lists, subst Q c.self.view_is (subst M plain r.2))
