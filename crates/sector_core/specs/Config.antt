@@ -4,13 +4,13 @@ use Rattle.sector_core.specs.First.{first_of}
 use Rattle.sector_core.specs.declared.config.Config.{Config}
 use Rattle.sector_core.specs.declared.config.ConfigDraft.{ConfigDraft}
 use Rattle.sector_core.specs.declared.config.ConfigFault.{ConfigFault}
-use Rattle.sector_core.specs.declared.config.Scheduler.TheVariants.{Plain}
+use Rattle.sector_core.specs.declared.config.Scheduler.TheVariants.{Bfq}
 use Rattle.sector_core.specs.declared.config.ConfigFault.TheVariants.{NrRequests, Tags, MaxBudget, FirstBudget, Timeout, HistoryMax, FirstVtime}
 
 -- the numbers of a host that says nothing of them
 abbrev pub default_draft : ConfigDraft
 default_draft = record {
-  scheduler = Plain;
+  scheduler = Bfq;
   nr_requests = 64;
   tags = 4;
   first_budget = 1024;

@@ -41,7 +41,7 @@ impl Default for ConfigDraft {
 
     fn default() -> ConfigDraft {
         ConfigDraft {
-            scheduler: Scheduler::Plain,
+            scheduler: Scheduler::Bfq,
             nr_requests: 64,
             tags: 4,
             first_budget: 1024,

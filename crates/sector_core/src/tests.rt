@@ -6,7 +6,7 @@ use std::test::Fail;
 #[test]
 fn default_configuration(rt: HostRuntime) -> Result<(), Fail> {
     let config = Config::check(ConfigDraft::default())?;
-    assert_eq!(rt; config.scheduler, Scheduler::Plain);
+    assert_eq!(rt; config.scheduler, Scheduler::Bfq);
     assert_eq!(rt; config.nr_requests, 64);
     assert_eq!(rt; config.tags, 4);
     assert_eq!(rt; config.first_budget, 1024);
