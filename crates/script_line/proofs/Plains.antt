@@ -7,7 +7,7 @@ use Rattle.script_line.specs.Plain.{IsWordAndNumbers, Reads}
 use Rattle.std.specs.Prelude.{Option, None, Some, IfNone}
 use Rattle.script_line.specs.declared.line.Line.{Line}
 use Rattle.script_line.specs.declared.line.Ending.{Ending}
-use Rattle.script_line.specs.declared.line.Line.TheVariants.{Attach, Read, Write, Reap, Dispatch, Finish, Hold, Release, Undo, Redo, Sector, Queue, Cursor}
+use Rattle.script_line.specs.declared.line.Line.TheVariants.{Attach, Read, Write, Reap, Dispatch, Finish, Hold, Release, Undo, Redo, Group, Drop, Weight, Sector, Queue, Cursor, Vtime, Entity}
 use Rattle.script_line.proofs.Cuts.{one_number, one_cut, IsTail-numbers}
 
 pub record IsPlain (word given : List ℕ) (l : Line) : Type 0 where
@@ -33,9 +33,14 @@ parts Hold f = inl (codes "hold", [], record { spelling = refl; space = search r
 parts Release f = inl (codes "release", [], record { spelling = refl; space = search rules; fits = tt; few = lit≤ tt; is = λ w ns e d. (e, d) })
 parts (Undo k) f = inl (codes "undo", k ∷ [], record { spelling = refl; space = search rules; fits = (omega arith, tt); few = lit≤ tt; is = λ w ns e d. (e, d) })
 parts (Redo k) f = inl (codes "redo", k ∷ [], record { spelling = refl; space = search rules; fits = (omega arith, tt); few = lit≤ tt; is = λ w ns e d. (e, d) })
+parts (Group g w) f = inl (codes "group", g ∷ w ∷ [], record { spelling = refl; space = search rules; fits = (omega arith, (omega arith, tt)); few = lit≤ tt; is = λ w ns e d. (e, d) })
+parts (Drop g) f = inl (codes "drop", g ∷ [], record { spelling = refl; space = search rules; fits = (omega arith, tt); few = lit≤ tt; is = λ w ns e d. (e, d) })
+parts (Weight g w) f = inl (codes "weight", g ∷ w ∷ [], record { spelling = refl; space = search rules; fits = (omega arith, (omega arith, tt)); few = lit≤ tt; is = λ w ns e d. (e, d) })
 parts (Sector n) f = inl (codes "sector", n ∷ [], record { spelling = refl; space = search rules; fits = (f, tt); few = lit≤ tt; is = λ w ns e d. (e, d) })
 parts (Queue s) f = inl (codes "queue", s ∷ [], record { spelling = refl; space = search rules; fits = (omega arith, tt); few = lit≤ tt; is = λ w ns e d. (e, d) })
 parts Cursor f = inl (codes "line", [], record { spelling = refl; space = search rules; fits = tt; few = lit≤ tt; is = λ w ns e d. (e, d) })
+parts (Vtime g) f = inl (codes "vtime", g ∷ [], record { spelling = refl; space = search rules; fits = (omega arith, tt); few = lit≤ tt; is = λ w ns e d. (e, d) })
+parts (Entity n) f = inl (codes "entity", n ∷ [], record { spelling = refl; space = search rules; fits = (omega arith, tt); few = lit≤ tt; is = λ w ns e d. (e, d) })
 
 pub one_numbers : (xs ys : List ℕ) → AreNumbers xs → AreNumbers ys → numbers xs ≡ numbers ys → xs ≡ ys
 one_numbers [] [] _ _ _ = refl

@@ -4,7 +4,7 @@ use Rattle.script_line.specs.Words.{numbers}
 use Rattle.script_line.specs.Line.{spelled, ended, Fits, EndingFits}
 use Rattle.script_line.specs.Plain.{IsWordAndNumbers}
 use Rattle.script_line.specs.declared.line.Line.{Line}
-use Rattle.script_line.specs.declared.line.Line.TheVariants.{Attach, Read, Write, Reap, Dispatch, Finish, Hold, Release, Undo, Redo, Sector, Queue, Cursor}
+use Rattle.script_line.specs.declared.line.Line.TheVariants.{Attach, Read, Write, Reap, Dispatch, Finish, Hold, Release, Undo, Redo, Group, Drop, Weight, Sector, Queue, Cursor, Vtime, Entity}
 use Rattle.script_line.specs.declared.line.Ending.{Ending}
 use Rattle.script_line.specs.declared.line.Ending.TheVariants.{Stored, Fill, Short, Fault}
 use Rattle.script_line.proofs.Cuts.{one_cut, IsTail-numbers}
@@ -28,9 +28,14 @@ word_of Hold = codes "hold"
 word_of Release = codes "release"
 word_of (Undo k) = codes "undo"
 word_of (Redo k) = codes "redo"
+word_of (Group p w) = codes "group"
+word_of (Drop g) = codes "drop"
+word_of (Weight g w) = codes "weight"
 word_of (Sector n) = codes "sector"
 word_of (Queue s) = codes "queue"
 word_of Cursor = codes "line"
+word_of (Vtime g) = codes "vtime"
+word_of (Entity n) = codes "entity"
 
 word_is : (w ns : List ℕ) (l : Line) → IsWordAndNumbers w ns l → w ≡ word_of l
 word_is w ns (Finish t i e) h = absurd h
@@ -60,12 +65,22 @@ one_plain w ns (Undo k) (Undo k') one two = let same : k ∷ [] ≡ k' ∷ [] = 
 one_plain w ns (Undo k) m one two = absurd (omega (arith, ap mark (sym one.0 ∙ word_is w ns m two)))
 one_plain w ns (Redo k) (Redo k') one two = let same : k ∷ [] ≡ k' ∷ [] = sym one.1 ∙ two.1 in cc
 one_plain w ns (Redo k) m one two = absurd (omega (arith, ap mark (sym one.0 ∙ word_is w ns m two)))
+one_plain w ns (Group p n) (Group p' n') one two = let same : p ∷ n ∷ [] ≡ p' ∷ n' ∷ [] = sym one.1 ∙ two.1 in cc
+one_plain w ns (Group p n) m one two = absurd (omega (arith, ap mark (sym one.0 ∙ word_is w ns m two)))
+one_plain w ns (Drop g) (Drop g') one two = let same : g ∷ [] ≡ g' ∷ [] = sym one.1 ∙ two.1 in cc
+one_plain w ns (Drop g) m one two = absurd (omega (arith, ap mark (sym one.0 ∙ word_is w ns m two)))
+one_plain w ns (Weight g n) (Weight g' n') one two = let same : g ∷ n ∷ [] ≡ g' ∷ n' ∷ [] = sym one.1 ∙ two.1 in cc
+one_plain w ns (Weight g n) m one two = absurd (omega (arith, ap mark (sym one.0 ∙ word_is w ns m two)))
 one_plain w ns (Sector n) (Sector n') one two = let same : n ∷ [] ≡ n' ∷ [] = sym one.1 ∙ two.1 in cc
 one_plain w ns (Sector n) m one two = absurd (omega (arith, ap mark (sym one.0 ∙ word_is w ns m two)))
 one_plain w ns (Queue s) (Queue s') one two = let same : s ∷ [] ≡ s' ∷ [] = sym one.1 ∙ two.1 in cc
 one_plain w ns (Queue s) m one two = absurd (omega (arith, ap mark (sym one.0 ∙ word_is w ns m two)))
 one_plain w ns Cursor Cursor one two = refl
 one_plain w ns Cursor m one two = absurd (omega (arith, ap mark (sym one.0 ∙ word_is w ns m two)))
+one_plain w ns (Vtime g) (Vtime g') one two = let same : g ∷ [] ≡ g' ∷ [] = sym one.1 ∙ two.1 in cc
+one_plain w ns (Vtime g) m one two = absurd (omega (arith, ap mark (sym one.0 ∙ word_is w ns m two)))
+one_plain w ns (Entity n) (Entity n') one two = let same : n ∷ [] ≡ n' ∷ [] = sym one.1 ∙ two.1 in cc
+one_plain w ns (Entity n) m one two = absurd (omega (arith, ap mark (sym one.0 ∙ word_is w ns m two)))
 
 one_ending : (d e : Ending) → EndingFits d → EndingFits e → ended d ≡ ended e → d ≡ e
 one_ending Stored Stored _ _ _ = refl

@@ -2,7 +2,7 @@
 use Rattle.std.specs.Prelude.{ℕ, ◌<◌, ◌^◌, List, [], ◌∷◌, ◌++◌, codes}
 use Rattle.script_line.specs.Words.{numbers}
 use Rattle.script_line.specs.declared.line.Line.{Line}
-use Rattle.script_line.specs.declared.line.Line.TheVariants.{Attach, Read, Write, Reap, Dispatch, Finish, Hold, Release, Undo, Redo, Sector, Queue, Cursor}
+use Rattle.script_line.specs.declared.line.Line.TheVariants.{Attach, Read, Write, Reap, Dispatch, Finish, Hold, Release, Undo, Redo, Group, Drop, Weight, Sector, Queue, Cursor, Vtime, Entity}
 use Rattle.script_line.specs.declared.line.Ending.{Ending}
 use Rattle.script_line.specs.declared.line.Ending.TheVariants.{Stored, Fill, Short, Fault}
 
@@ -25,9 +25,14 @@ spelled Hold = codes "hold"
 spelled Release = codes "release"
 spelled (Undo k) = codes "undo" ++ numbers (k ∷ [])
 spelled (Redo k) = codes "redo" ++ numbers (k ∷ [])
+spelled (Group parent weight) = codes "group" ++ numbers (parent ∷ weight ∷ [])
+spelled (Drop group) = codes "drop" ++ numbers (group ∷ [])
+spelled (Weight group weight) = codes "weight" ++ numbers (group ∷ weight ∷ [])
 spelled (Sector number) = codes "sector" ++ numbers (number ∷ [])
 spelled (Queue seat) = codes "queue" ++ numbers (seat ∷ [])
 spelled Cursor = codes "line"
+spelled (Vtime group) = codes "vtime" ++ numbers (group ∷ [])
+spelled (Entity number) = codes "entity" ++ numbers (number ∷ [])
 
 -- the byte of an ending is a byte
 abbrev pub EndingFits : Ending → Type 0
@@ -48,6 +53,11 @@ Fits Hold = Unit {0}
 Fits Release = Unit {0}
 Fits (Undo k) = k < 2 ^ 32
 Fits (Redo k) = k < 2 ^ 32
+Fits (Group parent weight) = (parent < 2 ^ 8) × (weight < 2 ^ 16)
+Fits (Drop group) = group < 2 ^ 8
+Fits (Weight group weight) = (group < 2 ^ 8) × (weight < 2 ^ 16)
 Fits (Sector number) = number < 2 ^ 64
 Fits (Queue seat) = seat < 2 ^ 8
 Fits Cursor = Unit {0}
+Fits (Vtime group) = group < 2 ^ 8
+Fits (Entity number) = number < 2 ^ 8

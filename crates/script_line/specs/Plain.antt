@@ -2,7 +2,7 @@
 use Rattle.std.specs.Prelude.{◌≡◌, ℕ, List, [], ◌∷◌, codes, Option, MatchOption}
 use Rattle.script_line.specs.Line.{Fits}
 use Rattle.script_line.specs.declared.line.Line.{Line}
-use Rattle.script_line.specs.declared.line.Line.TheVariants.{Attach, Read, Write, Reap, Dispatch, Finish, Hold, Release, Undo, Redo, Sector, Queue, Cursor}
+use Rattle.script_line.specs.declared.line.Line.TheVariants.{Attach, Read, Write, Reap, Dispatch, Finish, Hold, Release, Undo, Redo, Group, Drop, Weight, Sector, Queue, Cursor, Vtime, Entity}
 
 -- the line is this word and then these numbers
 abbrev pub IsWordAndNumbers : List ℕ → List ℕ → Line → Type 0
@@ -16,9 +16,14 @@ IsWordAndNumbers word given Hold = (word ≡ codes "hold") × (given ≡ [])
 IsWordAndNumbers word given Release = (word ≡ codes "release") × (given ≡ [])
 IsWordAndNumbers word given (Undo k) = (word ≡ codes "undo") × (given ≡ k ∷ [])
 IsWordAndNumbers word given (Redo k) = (word ≡ codes "redo") × (given ≡ k ∷ [])
+IsWordAndNumbers word given (Group parent weight) = (word ≡ codes "group") × (given ≡ parent ∷ weight ∷ [])
+IsWordAndNumbers word given (Drop group) = (word ≡ codes "drop") × (given ≡ group ∷ [])
+IsWordAndNumbers word given (Weight group weight) = (word ≡ codes "weight") × (given ≡ group ∷ weight ∷ [])
 IsWordAndNumbers word given (Sector number) = (word ≡ codes "sector") × (given ≡ number ∷ [])
 IsWordAndNumbers word given (Queue seat) = (word ≡ codes "queue") × (given ≡ seat ∷ [])
 IsWordAndNumbers word given Cursor = (word ≡ codes "line") × (given ≡ [])
+IsWordAndNumbers word given (Vtime group) = (word ≡ codes "vtime") × (given ≡ group ∷ [])
+IsWordAndNumbers word given (Entity number) = (word ≡ codes "entity") × (given ≡ number ∷ [])
 
 -- what a word and numbers are read to: the line that they are, or none where no line is
 abbrev pub Reads : List ℕ → List ℕ → Option Line → Type 0

@@ -76,3 +76,48 @@ pub fn queue(seat: u64) -> Option<Line>
         Err(_) => None,
     }
 }
+
+pub fn group(parent: u64, weight: u64) -> Option<Line>
+    ensures { FitsOrNone (Line.Group parent weight) result }
+{
+    match (u8::try_from(parent), u16::try_from(weight)) {
+        (Ok(parent), Ok(weight)) => Some(Line::Group { parent, weight }),
+        _ => None,
+    }
+}
+
+pub fn drop_group(group: u64) -> Option<Line>
+    ensures { FitsOrNone (Line.Drop group) result }
+{
+    match u8::try_from(group) {
+        Ok(group) => Some(Line::Drop { group }),
+        Err(_) => None,
+    }
+}
+
+pub fn weight(group: u64, weight: u64) -> Option<Line>
+    ensures { FitsOrNone (Line.Weight group weight) result }
+{
+    match (u8::try_from(group), u16::try_from(weight)) {
+        (Ok(group), Ok(weight)) => Some(Line::Weight { group, weight }),
+        _ => None,
+    }
+}
+
+pub fn vtime(group: u64) -> Option<Line>
+    ensures { FitsOrNone (Line.Vtime group) result }
+{
+    match u8::try_from(group) {
+        Ok(group) => Some(Line::Vtime { group }),
+        Err(_) => None,
+    }
+}
+
+pub fn entity(number: u64) -> Option<Line>
+    ensures { FitsOrNone (Line.Entity number) result }
+{
+    match u8::try_from(number) {
+        Ok(number) => Some(Line::Entity { number }),
+        Err(_) => None,
+    }
+}

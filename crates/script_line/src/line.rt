@@ -49,6 +49,20 @@ pub enum Line {
     Redo {
         k: u32,
     },
+    /// `group PARENT WEIGHT`
+    Group {
+        parent: u8,
+        weight: u16,
+    },
+    /// `drop GROUP`
+    Drop {
+        group: u8,
+    },
+    /// `weight GROUP WEIGHT`
+    Weight {
+        group: u8,
+        weight: u16,
+    },
     /// `sector N`, a query
     Sector {
         number: u64,
@@ -59,6 +73,14 @@ pub enum Line {
     },
     /// `line`, a query
     Cursor,
+    /// `vtime GROUP`, a query
+    Vtime {
+        group: u8,
+    },
+    /// `entity N`, a query
+    Entity {
+        number: u8,
+    },
 }
 
 /// How a request of a `finish` line ended.

@@ -3,7 +3,9 @@ ghost use Rattle.std.specs.Prelude.{ℕ, [], ◌∷◌};
 ghost use Rattle.script_line.specs.Words.{AreNumbers};
 ghost use Rattle.script_line.specs.Plain.{Reads};
 
-use super::fitted::{attach, queue, read, reap, redo, undo, write};
+use super::fitted::{
+    attach, drop_group, entity, group, queue, read, reap, redo, undo, vtime, weight, write,
+};
 use super::line::Line;
 
 /// The line that is this word and these numbers.
@@ -49,6 +51,12 @@ fn with_one(word: &[u8], a: u64) -> Option<Line>
         Some(Line::Sector { number: a })
     } else if word == b"queue".as_slice() {
         queue(a)
+    } else if word == b"drop".as_slice() {
+        drop_group(a)
+    } else if word == b"vtime".as_slice() {
+        vtime(a)
+    } else if word == b"entity".as_slice() {
+        entity(a)
     } else {
         None
     }
@@ -59,6 +67,10 @@ fn with_two(word: &[u8], a: u64, b: u64) -> Option<Line>
 {
     if word == b"reap".as_slice() {
         reap(a, b)
+    } else if word == b"group".as_slice() {
+        group(a, b)
+    } else if word == b"weight".as_slice() {
+        weight(a, b)
     } else {
         None
     }

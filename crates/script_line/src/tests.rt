@@ -1,7 +1,7 @@
 use super::{Ending, Line, line_of, number};
 
 // A line, as it is spelled and as it is.
-const FORMS: [(&[u8], Line); 18] = [
+const FORMS: [(&[u8], Line); 28] = [
     (
         b"attach 0 1 4",
         Line::Attach {
@@ -81,10 +81,44 @@ const FORMS: [(&[u8], Line); 18] = [
     (b"release", Line::Release),
     (b"undo 4294967295", Line::Undo { k: 4294967295 }),
     (b"redo 0", Line::Redo { k: 0 }),
+    (
+        b"group 0 100",
+        Line::Group {
+            parent: 0,
+            weight: 100,
+        },
+    ),
+    (
+        b"group 255 65535",
+        Line::Group {
+            parent: 255,
+            weight: 65535,
+        },
+    ),
+    (b"drop 0", Line::Drop { group: 0 }),
+    (b"drop 255", Line::Drop { group: 255 }),
+    (
+        b"weight 1 1000",
+        Line::Weight {
+            group: 1,
+            weight: 1000,
+        },
+    ),
+    (
+        b"weight 255 65535",
+        Line::Weight {
+            group: 255,
+            weight: 65535,
+        },
+    ),
     (b"sector 1024", Line::Sector { number: 1024 }),
     (b"queue 0", Line::Queue { seat: 0 }),
     (b"queue 255", Line::Queue { seat: 255 }),
     (b"line", Line::Cursor),
+    (b"vtime 0", Line::Vtime { group: 0 }),
+    (b"vtime 255", Line::Vtime { group: 255 }),
+    (b"entity 47", Line::Entity { number: 47 }),
+    (b"entity 255", Line::Entity { number: 255 }),
 ];
 
 #[test]
@@ -95,7 +129,7 @@ fn each_form_is_read(rt: HostRuntime) {
 }
 
 // Lines that are none.
-const BAD: [&[u8]; 51] = [
+const BAD: [&[u8]; 78] = [
     b"",
     b" ",
     b"#",
@@ -125,6 +159,33 @@ const BAD: [&[u8]; 51] = [
     b"queue 256",
     b"queue 0 0",
     b"queued 0",
+    b"group",
+    b"group 0",
+    b"group 0 1 2",
+    b"group 256 1",
+    b"group 0 65536",
+    b"group 0 01",
+    b"group 0  1",
+    b"groups 0 1",
+    b"drop",
+    b"drop 256",
+    b"drop 0 0",
+    b"dropped 0",
+    b"weight 0",
+    b"weight 256 1",
+    b"weight 0 65536",
+    b"weight 0 1 2",
+    b"weights 0 1",
+    b"vtime",
+    b"vtime 256",
+    b"vtime 0 0",
+    b"vtime +0",
+    b"vtimes 0",
+    b"entity",
+    b"entity 256",
+    b"entity 0 0",
+    b"entity 00",
+    b"Entity 0",
     b"attach 256 0 0",
     b"attach 0 256 0",
     b"attach 0 0 256",
