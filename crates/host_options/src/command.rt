@@ -11,9 +11,8 @@ fn option<'a>(alloc: Global, name: &'a str) -> Arg<'a> {
 }
 
 fn sim<'a>(alloc: Global) -> Result<Command<'a>, Error> {
-    let scheduler = option(alloc, "scheduler").required(true);
     let command = Command::new(alloc, "sim")
-        .arg(scheduler)?
+        .arg(option(alloc, "scheduler"))?
         .arg(option(alloc, "nr-requests"))?
         .arg(option(alloc, "tags"))?
         .arg(option(alloc, "first-budget"))?

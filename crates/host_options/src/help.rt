@@ -10,11 +10,11 @@ NAME
     bfqhost - a block I/O host whose every step can be undone
 
 SYNOPSIS
-    bfqhost sim --scheduler NAME [OPTION]... < SCRIPT
+    bfqhost sim [OPTION]... < SCRIPT
     bfqhost --help
 
 EXAMPLE
-    $ printf 'attach 0 0 4\\nwrite 0 1 5 1 65\\ndispatch\\nfinish 0 3 stored\\nreap 0 1\\n' | bfqhost sim --scheduler none
+    $ printf 'attach 0 0 4\\nwrite 0 1 5 1 65\\ndispatch\\nfinish 0 3 stored\\nreap 0 1\\n' | bfqhost sim
     attached 1
     queued 2
     issued 0 3 store 5 1
@@ -22,7 +22,7 @@ EXAMPLE
     completed 2 written
 
 OPTIONS
-    --scheduler NAME     the scheduler: none (must be given)
+    --scheduler NAME     the scheduler: bfq or none (bfq)
     --nr-requests N      requests queued or in flight, 1 to 256 (64)
     --tags N             tags of the device, 1 to 64 (4)
     --first-budget N     sectors of a new queue's budget, 256 to --max-budget (1024)
@@ -37,8 +37,10 @@ SCRIPT: one call a line, words joined by one space; an empty line or one that be
     attach SEAT GROUP PRIO               read SEAT SESSION START COUNT
     write SEAT SESSION START COUNT BYTE  reap SEAT SESSION
     dispatch                             finish TAG ISSUE stored|short|fault|fill BYTE
+    group PARENT WEIGHT                  drop GROUP, weight GROUP WEIGHT
     hold, release                        undo K, redo K
     sector NUMBER                        queue SEAT
+    vtime GROUP                          entity NUMBER
     line
 
 EXIT STATUS

@@ -6,11 +6,13 @@
 //! | `request_of` | help, or a configuration that is still to be checked and a number of sectors |
 //! | `help_text` | what `--help` prints |
 //!
-//! A number is in decimal and below 2^64, with no sign and no leading zero. Whether it is within its limits is
-//! not asked here: `Config::check` of `sector_core` decides that.
+//! The scheduler is `bfq` or `none`, and `bfq` where none is named. A number is in decimal and below 2^64, with no
+//! sign and no leading zero. Whether it is within its limits is not asked here: `Config::check` of `sector_core`
+//! decides that.
 //!
 //! ```text
 //! bfqhost sim --scheduler none --tags 8 --sectors=64
+//! bfqhost sim --first-budget 512
 //! ```
 
 mod command;

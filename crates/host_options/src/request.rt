@@ -60,7 +60,7 @@ fn fault(error: &Error) -> WordFault {
 fn sim(options: &ArgMatches<'_>) -> Result<Request, WordFault> {
     let usual = ConfigDraft::default();
     let draft = ConfigDraft {
-        scheduler: scheduler(options)?,
+        scheduler: scheduler_or(options, usual.scheduler)?,
         nr_requests: number_or(options, "nr-requests", usual.nr_requests)?,
         tags: number_or(options, "tags", usual.tags)?,
         first_budget: number_or(options, "first-budget", usual.first_budget)?,
@@ -73,11 +73,13 @@ fn sim(options: &ArgMatches<'_>) -> Result<Request, WordFault> {
     Ok(Request::Sim { draft, sectors })
 }
 
-// The scheduler that is named.
-fn scheduler(options: &ArgMatches<'_>) -> Result<Scheduler, WordFault> {
+// The scheduler that is named, or this one where none is named.
+fn scheduler_or(options: &ArgMatches<'_>, usual: Scheduler) -> Result<Scheduler, WordFault> {
     match options.get_str("scheduler") {
         Some("none") => Ok(Scheduler::Plain),
-        _ => Err(WordFault::Usage),
+        Some("bfq") => Ok(Scheduler::Bfq),
+        Some(_) => Err(WordFault::Usage),
+        None => Ok(usual),
     }
 }
 

@@ -13,8 +13,8 @@ fn words_of(alloc: Global, line: &str) -> Result<Vec<String>, AllocError> {
     Ok(words)
 }
 
-// A run with these numbers, in the order of the help.
-fn sim(numbers: [u64; 8]) -> Request {
+// A run of a scheduler with these numbers, in the order of the help.
+fn sim(scheduler: Scheduler, numbers: [u64; 8]) -> Request {
     let [
         nr_requests,
         tags,
@@ -26,7 +26,7 @@ fn sim(numbers: [u64; 8]) -> Request {
         sectors,
     ] = numbers;
     let draft = ConfigDraft {
-        scheduler: Scheduler::Plain,
+        scheduler,
         nr_requests,
         tags,
         first_budget,
@@ -52,22 +52,43 @@ fn words_that_ask(rt: HostRuntime) -> Result<(), Fail> {
         ("bfqhost sim -h", Request::Help),
         ("bfqhost sim --scheduler none --help", Request::Help),
         ("bfqhost sim --tags 5 -h", Request::Help),
-        ("bfqhost sim --scheduler none", sim(usual)),
-        ("bfqhost sim --scheduler=none", sim(usual)),
-        ("other sim --scheduler none", sim(usual)),
-        ("bfqhost sim --scheduler none --tags=5", sim(five_tags)),
-        ("bfqhost sim --tags 5 --scheduler none", sim(five_tags)),
+        ("bfqhost sim", sim(Scheduler::Bfq, usual)),
+        ("bfqhost sim --tags 5", sim(Scheduler::Bfq, five_tags)),
+        ("bfqhost sim --scheduler bfq", sim(Scheduler::Bfq, usual)),
+        ("bfqhost sim --scheduler=bfq", sim(Scheduler::Bfq, usual)),
+        (
+            "bfqhost sim --tags=5 --scheduler bfq",
+            sim(Scheduler::Bfq, five_tags),
+        ),
+        ("bfqhost sim --scheduler none", sim(Scheduler::Plain, usual)),
+        ("bfqhost sim --scheduler=none", sim(Scheduler::Plain, usual)),
+        ("other sim --scheduler none", sim(Scheduler::Plain, usual)),
+        (
+            "bfqhost sim --scheduler none --tags=5",
+            sim(Scheduler::Plain, five_tags),
+        ),
+        (
+            "bfqhost sim --tags 5 --scheduler none",
+            sim(Scheduler::Plain, five_tags),
+        ),
         (
             "bfqhost sim --scheduler none --nr-requests 1 --tags 2 --first-budget 3 --max-budget 4 --timeout 5 --history 6 --first-vtime 7 --sectors 8",
-            sim(each),
+            sim(Scheduler::Plain, each),
         ),
         (
             "bfqhost sim --sectors=8 --first-vtime=7 --history=6 --timeout=5 --max-budget=4 --first-budget=3 --tags=2 --nr-requests=1 --scheduler=none",
-            sim(each),
+            sim(Scheduler::Plain, each),
+        ),
+        (
+            "bfqhost sim --sectors 8 --first-vtime 7 --history 6 --timeout 5 --max-budget 4 --first-budget 3 --tags 2 --nr-requests 1",
+            sim(Scheduler::Bfq, each),
         ),
         (
             "bfqhost sim --scheduler none --nr-requests 0 --tags 18446744073709551615 --first-vtime 18446744073709551615 --sectors 18446744073709551615",
-            sim([0, most, 1024, 4096, 8, 65_536, most, most]),
+            sim(
+                Scheduler::Plain,
+                [0, most, 1024, 4096, 8, 65_536, most, most],
+            ),
         ),
     ] {
         let words = words_of(rt.alloc(), line)?;
@@ -90,18 +111,22 @@ fn words_that_do_not(rt: HostRuntime) -> Result<(), Fail> {
         "bfqhost --scheduler none",
         "bfqhost --scheduler none sim",
         "bfqhost --version",
-        "bfqhost sim",
-        "bfqhost sim --tags 4",
         "bfqhost sim --scheduler",
         "bfqhost sim --scheduler=",
         "bfqhost sim --scheduler ",
-        "bfqhost sim --scheduler bfq",
+        "bfqhost sim --scheduler Bfq",
+        "bfqhost sim --scheduler bfq2",
+        "bfqhost sim --scheduler plain",
+        "bfqhost sim --scheduler mq-deadline",
+        "bfqhost sim --tags 4 --scheduler=x",
+        "bfqhost sim bfq",
         "bfqhost sim --scheduler None",
         "bfqhost sim --scheduler none none",
         "bfqhost sim --scheduler none sim",
         "bfqhost sim --scheduler none help",
         "bfqhost sim --scheduler none ",
         "bfqhost sim --scheduler none --scheduler none",
+        "bfqhost sim --scheduler bfq --scheduler none",
         "bfqhost sim --scheduler none --tags 4 --tags 4",
         "bfqhost sim --scheduler none --tags=4 --tags=5",
         "bfqhost sim --scheduler none --sectors 1 --sectors 1",
@@ -165,4 +190,9 @@ fn help_names_each_option(rt: HostRuntime) {
     ] {
         assert!(rt; help_text().contains(option), "{option}");
     }
+}
+
+#[test]
+fn help_names_each_scheduler(rt: HostRuntime) {
+    assert!(rt; help_text().contains("the scheduler: bfq or none (bfq)"));
 }
