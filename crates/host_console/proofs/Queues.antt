@@ -2,7 +2,7 @@
 use Rattle.std.proofs.Common.{◌≡◌, ℕ, zero, suc, ◌+◌, ◌<◌, List, [], ◌∷◌, ◌++◌, codes, length, drop, refl, sym, ap, ◌∙◌, arith, add-one, append_assoc}
 use Rattle.std.specs.Prelude.{Option, None, Some}
 use Rattle.sector_core.specs.declared.range.Range.{Range}
-use Rattle.plain_machine.specs.Machine.{WholeRequest}
+use Rattle.change_record.specs.Machine.{WholeRequest}
 use Rattle.plain_machine.specs.Keeper.{State, machine_of}
 use Rattle.plain_machine.specs.Queued.{view_in, view_at}
 use Rattle.plain_machine.specs.declared.view.RequestView.TheVariants.{Free, Past, Queued}

@@ -9,17 +9,18 @@ use Rattle.sector_core.specs.declared.bio.Outcome.{Outcome}
 use Rattle.sector_core.specs.declared.bio.Outcome.TheVariants as outcome
 use Rattle.sector_text.specs.Hex.{hex_of}
 use Rattle.script_line.specs.declared.line.Line.{Line}
-use Rattle.script_line.specs.declared.line.Line.TheVariants.{Attach, Read, Write, Reap, Dispatch, Finish, Hold, Release, Undo, Redo, Sector, Queue, Cursor}
+use Rattle.script_line.specs.declared.line.Line.TheVariants.{Attach, Read, Write, Reap, Dispatch, Finish, Hold, Release, Undo, Redo, Group, Drop, Weight, Sector, Queue, Cursor, Vtime, Entity}
 use Rattle.script_line.specs.declared.line.Ending.{Ending}
 use Rattle.script_line.specs.declared.line.Ending.TheVariants.{Stored, Fill, Short, Fault}
-use Rattle.plain_machine.specs.Machine.{WholeRequest, Flight}
+use Rattle.change_record.specs.Machine.{WholeRequest, Flight}
 use Rattle.plain_machine.specs.declared.answer.Answer.{Answer}
 use Rattle.plain_machine.specs.declared.step.Step.TheVariants as step
 use Rattle.plain_machine.specs.declared.call.Call.{Call}
 use Rattle.plain_machine.specs.declared.call.Call.TheVariants as call
 use Rattle.plain_machine.specs.Step.{size_of, range_of}
 use Rattle.plain_machine.specs.Keeper.{State, MayCall, machine_of}
-use Rattle.host_console.specs.Texts.{text_of}
+use Rattle.plain_machine.specs.Entities.{vtime_view, entity_view}
+use Rattle.host_console.specs.Texts.{text_of, vtime_text, entity_text}
 use Rattle.host_console.specs.declared.content.Content.{Content}
 use Rattle.host_console.specs.declared.content.Content.TheVariants as content
 
@@ -76,6 +77,14 @@ queue_text k seat = elim ((machine_of k).seat seat) [ None ↦ codes "queue none
 abbrev pub cursor_text : State → List ℕ
 cursor_text k = codes "line " ++ (decimal k.cursor ++ 32 ∷ (decimal (length k.line) ++ 32 ∷ decimal k.last))
 
+-- the virtual time of a group of the machine (our profile)
+abbrev pub group_text : State → ℕ → List ℕ
+group_text k group = vtime_text group (vtime_view (machine_of k) group)
+
+-- what is known of an entity of the machine (our profile)
+abbrev pub known_text : State → ℕ → List ℕ
+known_text k number = entity_text number (entity_view (machine_of k) number)
+
 -- what a keeper shows of a sector
 abbrev pub IsContent : State → ℕ → Content → Type 0
 IsContent k number content.Outside = k.limits.sectors ≤ number
@@ -104,6 +113,11 @@ Prints before Hold = Answers before call.Hold
 Prints before Release = Answers before call.Release
 Prints before (Undo k) = Answers before (call.Undo k)
 Prints before (Redo k) = Answers before (call.Redo k)
+Prints before (Group parent weight) = Answers before (call.Do (step.GroupMake parent weight))
+Prints before (Drop group) = Answers before (call.Do (step.GroupDrop group))
+Prints before (Weight group weight) = Answers before (call.Do (step.SetWeight group weight))
 Prints before (Sector number) = Shows before (sector_text before number)
 Prints before (Queue seat) = Shows before (queue_text before seat)
 Prints before Cursor = Shows before (cursor_text before)
+Prints before (Vtime group) = Shows before (group_text before group)
+Prints before (Entity number) = Shows before (known_text before number)

@@ -1,5 +1,5 @@
--- What is printed for an answer. Numbers are in decimal, sectors in hexadecimal.
-use Rattle.std.specs.Prelude.{ℕ, ◌/◌, List, ◌∷◌, ◌++◌, length, codes}
+-- What is printed for an answer, and for a look at a group or an entity. Numbers are in decimal, sectors in hexadecimal.
+use Rattle.std.specs.Prelude.{ℕ, ◌/◌, List, ◌∷◌, ◌++◌, length, codes, Option, None, Some}
 use Rattle.std.specs.Fmt.{decimal}
 use Rattle.sector_core.specs.declared.range.Range.{Range}
 use Rattle.sector_core.specs.declared.bio.Op.{Op}
@@ -9,11 +9,14 @@ use Rattle.sector_core.specs.declared.bio.BioResult.TheVariants.{Read, Written, 
 use Rattle.sector_core.specs.declared.bio.FailKind.{FailKind}
 use Rattle.sector_core.specs.declared.bio.FailKind.TheVariants.{Short, Fault}
 use Rattle.sector_text.specs.Hex.{hex_words}
+use Rattle.service_tree.specs.declared.member.State.{State}
+use Rattle.service_tree.specs.declared.member.State.TheVariants.{Idle, Active, Serving}
 use Rattle.plain_machine.specs.Numbers.{code_number, cause_number}
 use Rattle.plain_machine.specs.declared.answer.Reply.{Reply}
 use Rattle.plain_machine.specs.declared.answer.Reply.TheVariants.{Attached, Queued, Completed, Left, Issued, Finished, Requeued, Group, Done, Moved, Taken}
 use Rattle.plain_machine.specs.declared.answer.Answer.{Answer}
 use Rattle.plain_machine.specs.declared.answer.Answer.TheVariants.{Accepted, Refused, NotYet}
+use Rattle.plain_machine.specs.declared.view.EntityView.{EntityView}
 
 abbrev pub op_text : Op → List ℕ
 op_text Fetch = codes "fetch"
@@ -51,3 +54,25 @@ abbrev pub text_of : Answer → List ℕ
 text_of (Accepted reply) = reply_text reply
 text_of (Refused code) = codes "refused " ++ decimal (code_number code)
 text_of (NotYet cause) = codes "notyet " ++ decimal (cause_number cause)
+
+-- the virtual time of a group, or that no such group stands (our profile)
+abbrev pub vtime_text : ℕ → Option ℕ → List ℕ
+vtime_text group None = codes "vtime " ++ (decimal group ++ codes " none")
+vtime_text group (Some vtime) = codes "vtime " ++ (decimal group ++ 32 ∷ decimal vtime)
+
+-- whether an entity waits for service, is served, or neither (our profile)
+abbrev pub state_text : State → List ℕ
+state_text Idle = codes "idle"
+state_text Active = codes "active"
+state_text Serving = codes "serving"
+
+-- what is known of an entity: its state, start and finish, its weight in effect, its budget, and the sectors sent for it (our profile)
+abbrev pub view_text : EntityView → List ℕ
+view_text view =
+    state_text view.state
+    ++ 32 ∷ (decimal view.start ++ 32 ∷ (decimal view.finish ++ 32 ∷ (decimal view.weight ++ 32 ∷ (decimal view.budget ++ 32 ∷ decimal view.service))))
+
+-- an entity, or that it is in no group (our profile)
+abbrev pub entity_text : ℕ → Option EntityView → List ℕ
+entity_text number None = codes "entity " ++ (decimal number ++ codes " none")
+entity_text number (Some view) = codes "entity " ++ (decimal number ++ 32 ∷ view_text view)

@@ -1,12 +1,14 @@
 // Keepers that never change.
 ghost use Rattle.std.specs.Prelude.{true, [], ◌∷◌};
 ghost use Rattle.sector_core.specs.declared.bio.Op.TheVariants.{Fetch};
+ghost use Rattle.sector_core.specs.declared.config.Scheduler.TheVariants.{Plain};
 ghost use Rattle.plain_machine.specs.declared.step.Step.TheVariants.{Attach, Submit};
 ghost use Rattle.plain_machine.specs.Keeper.{opened};
 
 use crate::{Content, Keeps};
-use plain_machine::{Answer, Call, Cause, Code, RequestView};
+use plain_machine::{Answer, Call, Cause, Code, EntityView, RequestView};
 use sector_core::Range;
+use service_tree::State;
 use std::alloc::Global;
 
 // It is held and its history is full, so that it accepts nothing. It counts its calls.
@@ -17,7 +19,7 @@ pub struct Full {
 }
 
 impl Keeps for Full {
-    ghost state = { λ full. record (opened (record { sectors = full.sectors; requests = 1; tags = 1 }) 0) { held = true } };
+    ghost state = { λ full. record (opened (record { sectors = full.sectors; requests = 1; tags = 1; scheduler = Plain; first_budget = 256; max_budget = 256; first_vtime = 7 }) 0) { held = true } };
 
     fn call(&mut self, _alloc: Global, call: &Call) -> Answer {
         self.calls = self.calls.wrapping_add(1);
@@ -47,6 +49,14 @@ impl Keeps for Full {
         RequestView::Free
     }
 
+    fn vtime(&self, group: u8) -> Option<u64> {
+        if group == 0 { Some(7) } else { None }
+    }
+
+    fn entity(&self, _number: u8) -> Option<EntityView> {
+        None
+    }
+
     fn cursor(&self) -> u32 {
         0
     }
@@ -61,12 +71,12 @@ impl Keeps for Full {
 }
 
 // It is held and its history is full. Seat 0 has submitted three bios; the third joined the request of the first.
-// Seat 1 has submitted none.
+// Seat 1 has submitted none. No scheduler serves them, so their entities stay idle.
 #[derive(Drop)]
 pub struct Waiting;
 
 impl Keeps for Waiting {
-    ghost state = { λ _. record (opened (record { sectors = 1024; requests = 2; tags = 1 }) 0) {
+    ghost state = { λ _. record (opened (record { sectors = 1024; requests = 2; tags = 1; scheduler = Plain; first_budget = 1024; max_budget = 4096; first_vtime = 5 }) 0) {
       held = true;
       cursor = 5;
       last = 5;
@@ -75,7 +85,7 @@ impl Keeps for Waiting {
           ∷ record { serial = 2; step = Submit 0 1 Fetch (record { start = 100; count = 8 }) [] }
           ∷ record { serial = 3; step = Submit 0 1 Fetch (record { start = 36; count = 1 }) [] }
           ∷ record { serial = 4; step = Submit 0 1 Fetch (record { start = 108; count = 4 }) [] }
-          ∷ record { serial = 5; step = Attach 1 0 4 }
+          ∷ record { serial = 5; step = Attach 1 0 0 }
           ∷ [];
     } };
 
@@ -120,6 +130,32 @@ impl Keeps for Waiting {
             },
             (0 | 1, _) => RequestView::Past,
             _ => RequestView::Free,
+        }
+    }
+
+    fn vtime(&self, group: u8) -> Option<u64> {
+        if group == 0 { Some(5) } else { None }
+    }
+
+    fn entity(&self, number: u8) -> Option<EntityView> {
+        match number {
+            0 => Some(EntityView {
+                state: State::Idle,
+                start: 5,
+                finish: 5,
+                weight: 40,
+                budget: 1024,
+                service: 0,
+            }),
+            1 => Some(EntityView {
+                state: State::Idle,
+                start: 5,
+                finish: 5,
+                weight: 80,
+                budget: 1024,
+                service: 0,
+            }),
+            _ => None,
         }
     }
 

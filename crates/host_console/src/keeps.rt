@@ -2,10 +2,11 @@
 ghost use Rattle.std.specs.Prelude.{◌≡◌, ◌<◌, ◌^◌, length};
 ghost use Rattle.plain_machine.specs.Keeper.{State, MayCall, machine_of};
 ghost use Rattle.plain_machine.specs.Queued.{request_view};
+ghost use Rattle.plain_machine.specs.Entities.{vtime_view, entity_view};
 ghost use Rattle.host_console.specs.Printed.{sectors_in_flight, IsContent};
 
 use crate::Content;
-use plain_machine::{Answer, Call, RequestView};
+use plain_machine::{Answer, Call, EntityView, RequestView};
 use std::alloc::Global;
 
 /// A keeper: it answers calls, and can be looked at.
@@ -29,6 +30,14 @@ pub trait Keeps {
     fn request(&self, seat: u8, place: usize) -> RequestView
         ensures view { result ≡ request_view (machine_of (state self.now)) seat place }
         ensures few { length ((machine_of (state self.now)).queue seat) < 2 ^ 16 };
+
+    /// The virtual time of a group, if it stands.
+    fn vtime(&self, group: u8) -> Option<u64>
+        ensures { result ≡ vtime_view (machine_of (state self.now)) group };
+
+    /// What is known of an entity, if it is in a group.
+    fn entity(&self, number: u8) -> Option<EntityView>
+        ensures { result ≡ entity_view (machine_of (state self.now)) number };
 
     /// How many steps stand.
     fn cursor(&self) -> u32

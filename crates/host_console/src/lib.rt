@@ -9,7 +9,7 @@
 //! | `Keeps` | what a keeper must offer to be run from a script |
 //!
 //! The rules stand in `specs/`: `Printed` says for each line which call it is and what it prints, and `Texts` has
-//! the texts of the answers and of the queries.
+//! the texts of the answers, of groups and of entities.
 //!
 //! ```text
 //! attach 0 0 4        // attached 1
@@ -17,11 +17,15 @@
 //! undo 1              // refused 28
 //! sector 5            // sector 5 base
 //! queue 0             // queue 5+1x1
+//! group 0 200         // group 1
+//! vtime 1             // vtime 1 0
+//! entity 17           // entity 17 idle 0 0 200 4096 0
 //! ```
 
 mod answer;
 mod content;
 mod filled;
+mod group;
 mod keeps;
 mod query;
 mod run;

@@ -1,11 +1,13 @@
 // The texts of queries.
 ghost use Rattle.std.specs.Prelude.{◌≡◌, ◌∷◌, ◌++◌, OnOk};
-ghost use Rattle.host_console.specs.Printed.{sector_text, request_text, queue_text, cursor_text};
+ghost use Rattle.host_console.specs.Printed.{sector_text, request_text, queue_text, cursor_text, group_text, known_text};
+ghost use Rattle.host_console.specs.Texts.{state_text, entity_text};
 
 use crate::{Content, Keeps};
-use plain_machine::RequestView;
+use plain_machine::{EntityView, RequestView};
 use sector_core::Range;
 use sector_text::put_hex;
+use service_tree::State;
 use std::io::{self, Write};
 
 // More requests than any queue has.
@@ -57,4 +59,56 @@ pub fn put_cursor<K: Keeps>(keeper: &K, out: &mut Vec<u8>) -> io::Result<()>
     let length = keeper.length();
     let serial = keeper.last_serial();
     write!(out, "line {cursor} {length} {serial}")
+}
+
+/// Appends the virtual time of a group. It fails only for want of memory.
+pub fn put_vtime<K: Keeps>(keeper: &K, group: u8, out: &mut Vec<u8>) -> io::Result<()>
+    ensures { OnOk result (out.new.items ≡ out.old.items ++ group_text (K.state keeper.now) group) }
+{
+    match keeper.vtime(group) {
+        Some(vtime) => write!(out, "vtime {group} {vtime}"),
+        None => write!(out, "vtime {group} none"),
+    }
+}
+
+/// Appends what is known of an entity. It fails only for want of memory.
+pub fn put_entity<K: Keeps>(keeper: &K, number: u8, out: &mut Vec<u8>) -> io::Result<()>
+    ensures { OnOk result (out.new.items ≡ out.old.items ++ known_text (K.state keeper.now) number) }
+{
+    put_known(number, keeper.entity(number), out)
+}
+
+/// Appends an entity with what is known of it. It fails only for want of memory.
+pub fn put_known(number: u8, known: Option<EntityView>, out: &mut Vec<u8>) -> io::Result<()>
+    ensures { OnOk result (out.new.items ≡ out.old.items ++ entity_text number known) }
+{
+    match known {
+        Some(view) => {
+            let EntityView {
+                state,
+                start,
+                finish,
+                weight,
+                budget,
+                service,
+            } = view;
+            let name = state_name(state);
+            write!(
+                out,
+                "entity {number} {name} {start} {finish} {weight} {budget} {service}"
+            )
+        }
+        None => write!(out, "entity {number} none"),
+    }
+}
+
+// The word for a state.
+fn state_name(state: State) -> &'static str
+    ensures { result.now ≡ state_text state }
+{
+    match state {
+        State::Idle => "idle",
+        State::Active => "active",
+        State::Serving => "serving",
+    }
 }

@@ -1,11 +1,12 @@
 // A keeper run from a script.
 ghost use Rattle.std.specs.Prelude.{◌≡◌, ℕ, List, ◌++◌, IfOk, OnOk, OnErr, ◌⊎◌};
-ghost use Rattle.host_console.specs.Printed.{Answers, Prints, outcome_of, ended, sector_text, queue_text, cursor_text};
+ghost use Rattle.host_console.specs.Printed.{Answers, Prints, outcome_of, ended, sector_text, queue_text, cursor_text, group_text, known_text};
 
 use crate::Keeps;
 use crate::answer::put_answer;
 use crate::filled::sectors_of;
-use crate::query::{put_cursor, put_queue, put_sector};
+use crate::group::{make, unmake, weigh};
+use crate::query::{put_cursor, put_entity, put_queue, put_sector, put_vtime};
 use crate::submit::{fetch, store};
 use plain_machine::{Call, Step};
 use script_line::{Ending, Line};
@@ -51,9 +52,14 @@ impl<K: Keeps> Console for Teller<K> {
             Line::Release => self.answer(alloc, &Call::Release, out),
             Line::Undo { k } => self.answer(alloc, &Call::Undo { k }, out),
             Line::Redo { k } => self.answer(alloc, &Call::Redo { k }, out),
+            Line::Group { parent, weight } => self.step(alloc, make(parent, weight), out),
+            Line::Drop { group } => self.step(alloc, unmake(group), out),
+            Line::Weight { group, weight } => self.step(alloc, weigh(group, weight), out),
             Line::Sector { number } => self.tell_sector(number, out),
             Line::Queue { seat } => self.tell_queue(seat, out),
             Line::Cursor => self.tell_cursor(out),
+            Line::Vtime { group } => self.tell_vtime(group, out),
+            Line::Entity { number } => self.tell_entity(number, out),
         }
     }
 }
@@ -148,6 +154,22 @@ impl<K: Keeps> Teller<K> {
         ensures { OnOk result (out.new.items ≡ out.old.items ++ ended (cursor_text (K.state self.now.keeper))) }
     {
         put_cursor(&self.keeper, out).map_err(|_| OutOfMemory)?;
+        out.push(b'\n')?;
+        Ok(())
+    }
+
+    fn tell_vtime(&self, group: u8, out: &mut Vec<u8>) -> Result<(), OutOfMemory>
+        ensures { OnOk result (out.new.items ≡ out.old.items ++ ended (group_text (K.state self.now.keeper) group)) }
+    {
+        put_vtime(&self.keeper, group, out).map_err(|_| OutOfMemory)?;
+        out.push(b'\n')?;
+        Ok(())
+    }
+
+    fn tell_entity(&self, number: u8, out: &mut Vec<u8>) -> Result<(), OutOfMemory>
+        ensures { OnOk result (out.new.items ≡ out.old.items ++ ended (known_text (K.state self.now.keeper) number)) }
+    {
+        put_entity(&self.keeper, number, out).map_err(|_| OutOfMemory)?;
         out.push(b'\n')?;
         Ok(())
     }

@@ -1,10 +1,12 @@
 // The printed texts, and that the calls succeed while memory is left.
 use crate::fakes::{Full, Waiting};
+use crate::query::put_known;
 use crate::{Keeps, Teller, put_answer, run_keeper};
 use bytes::Bytes;
-use plain_machine::{Answer, Call, Cause, Code, Reply, Work};
+use plain_machine::{Answer, Call, Cause, Code, EntityView, Reply, Work};
 use script_run::ScriptEnd;
 use sector_core::{BioResult, FailKind, Op, Range};
+use service_tree::State;
 use std::alloc::Global;
 use std::io;
 use std::process::Abort;
@@ -148,10 +150,18 @@ undo 0
 undo 1
 redo 0
 redo 4294967295
+group 0 200
+drop 1
+weight 1 1000
 sector 7
 sector 8
 queue 0
 queue 255
+vtime 0
+vtime 1
+vtime 255
+entity 0
+entity 255
 line
 lines
 ";
@@ -173,12 +183,20 @@ refused 30
 refused 31
 refused 30
 refused 32
+notyet 41
+notyet 41
+notyet 41
 sector 7 base
 sector 8 none
 queue none
 queue none
+vtime 0 7
+vtime 1 none
+vtime 255 none
+entity 0 none
+entity 255 none
 line 0 0 0
-bad line 23
+bad line 31
 ";
 
 #[test]
@@ -192,9 +210,9 @@ fn each_line_prints_one(rt: HostRuntime) {
     let mut written = Vec::new(rt.alloc());
     let mut script = SCRIPT;
     let end = run_keeper(rt.alloc(), &mut script, &mut written, &mut teller);
-    assert_eq!(rt; end, ScriptEnd::BadLine(23));
+    assert_eq!(rt; end, ScriptEnd::BadLine(31));
     assert_eq!(rt; written.as_slice(), TEXT);
-    assert_eq!(rt; teller.keeper.calls, 17);
+    assert_eq!(rt; teller.keeper.calls, 20);
 }
 
 #[test]
@@ -208,4 +226,65 @@ fn queued_requests_are_told(rt: HostRuntime) {
         written.as_slice(),
         b"queue 100+12x2 36+1x1\nqueue\nqueue none\nqueue none\n".as_slice()
     );
+}
+
+#[test]
+fn groups_and_entities_are_told(rt: HostRuntime) {
+    let mut teller = Teller { keeper: Waiting };
+    let mut written = Vec::new(rt.alloc());
+    let mut script = ENTITIES;
+    let end = run_keeper(rt.alloc(), &mut script, &mut written, &mut teller);
+    assert_eq!(rt; end, ScriptEnd::Done);
+    assert_eq!(rt; written.as_slice(), KNOWN);
+}
+
+const ENTITIES: &[u8] = b"vtime 0
+vtime 1
+vtime 32
+entity 0
+entity 1
+entity 2
+entity 16
+entity 48
+";
+
+const KNOWN: &[u8] = b"vtime 0 5
+vtime 1 none
+vtime 32 none
+entity 0 idle 5 5 40 1024 0
+entity 1 idle 5 5 80 1024 0
+entity 2 none
+entity 16 none
+entity 48 none
+";
+
+#[test]
+fn states_of_entities(rt: HostRuntime) -> Result<(), Fail> {
+    let view = EntityView {
+        state: State::Serving,
+        start: 1,
+        finish: 1 << 62,
+        weight: 1000,
+        budget: 65_536,
+        service: 8,
+    };
+    for (state, text) in [
+        (
+            State::Idle,
+            "> entity 47 idle 1 4611686018427387904 1000 65536 8",
+        ),
+        (
+            State::Active,
+            "> entity 47 active 1 4611686018427387904 1000 65536 8",
+        ),
+        (
+            State::Serving,
+            "> entity 47 serving 1 4611686018427387904 1000 65536 8",
+        ),
+    ] {
+        let mut out = b"> ".to_vec(rt.alloc())?;
+        put_known(47, Some(EntityView { state, ..view }), &mut out)?;
+        assert_eq!(rt; out.as_slice(), text.as_bytes());
+    }
+    Ok(())
 }

@@ -18,3 +18,21 @@ returns-in-Finish-clause-err g c = rw c.in-Finish.is c.finish.ensures.err
 
 pub returns-in-Redo-clause-err : goal.returns-in-Redo-clause-err
 returns-in-Redo-clause-err g c = rw c.in-Redo.is (on_err_weaker c.answer-in-Redo.result (λ h. inr h) c.answer-in-Redo.ensures.err)
+
+pub returns-in-Group-clause-err : goal.returns-in-Group-clause-err
+returns-in-Group-clause-err g c =
+    rw c.in-Group.is (on_err_weaker c.step-in-Group.result (λ h. inr h) (rw c.make.ensures at c.step-in-Group.ensures.err))
+
+pub returns-in-Drop-clause-err : goal.returns-in-Drop-clause-err
+returns-in-Drop-clause-err g c =
+    rw c.in-Drop.is (on_err_weaker c.step-in-Drop.result (λ h. inr h) (rw c.unmake.ensures at c.step-in-Drop.ensures.err))
+
+pub returns-in-Weight-clause-err : goal.returns-in-Weight-clause-err
+returns-in-Weight-clause-err g c =
+    rw c.in-Weight.is (on_err_weaker c.step-in-Weight.result (λ h. inr h) (rw c.weigh.ensures at c.step-in-Weight.ensures.err))
+
+pub returns-in-Attach-clause-err : goal.returns-in-Attach-clause-err
+returns-in-Attach-clause-err g c = rw c.in-Attach.is (on_err_weaker c.step.result (λ h. inr h) c.step.ensures.err)
+
+pub returns-in-Dispatch-clause-err : goal.returns-in-Dispatch-clause-err
+returns-in-Dispatch-clause-err g c = rw c.in-Dispatch.is (on_err_weaker c.step-in-Dispatch.result (λ h. inr h) c.step-in-Dispatch.ensures.err)
