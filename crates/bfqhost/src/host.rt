@@ -3,7 +3,7 @@
 use dispatch_core::SectorView;
 use history::Keeper;
 use host_console::{Content, Keeps};
-use plain_machine::{Answer, Call, RequestView};
+use plain_machine::{Answer, Call, EntityView, RequestView};
 use std::alloc::Global;
 
 /// A keeper that a script is run at.
@@ -37,6 +37,14 @@ impl Keeps for Host {
 
     fn request(&self, seat: u8, place: usize) -> RequestView {
         self.keeper.view().machine().request(seat, place)
+    }
+
+    fn vtime(&self, group: u8) -> Option<u64> {
+        self.keeper.view().machine().vtime(group)
+    }
+
+    fn entity(&self, number: u8) -> Option<EntityView> {
+        self.keeper.view().machine().entity(number)
     }
 
     fn cursor(&self) -> u32 {

@@ -1,5 +1,7 @@
 // A script run on a new host.
 ghost use Rattle.std.specs.Prelude.{◌<◌, ◌^◌};
+ghost use Rattle.plain_machine.specs.Step.{of_sizes};
+ghost use Rattle.dispatch_core.specs.Running.{sizes_of};
 ghost use Rattle.bfqhost.specs.Run.{IsRun};
 
 use crate::host::Host;
@@ -20,7 +22,7 @@ pub fn run_script<R: Read, W: Write>(
     writer: &mut W,
 ) -> ScriptEnd
     requires { sectors < 2 ^ 55 }
-    ensures { IsRun (record { sectors = sectors; requests = config.nr_requests; tags = config.tags }) config.history_max
+    ensures { IsRun (of_sizes (sizes_of config sectors)) config.history_max
         (R.remaining reader.old) (R.remaining reader.new) (W.contents writer.old) (W.contents writer.new) result }
 {
     let keeper = match Keeper::new(alloc, config, sectors) {

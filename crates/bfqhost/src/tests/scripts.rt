@@ -6,7 +6,7 @@ use std::process::Abort;
 use std::test::Fail;
 
 // Each line of the row prints its text on a new host.
-fn expect_row(
+pub fn expect_row(
     rt: &(impl Abort + AllocGlobal),
     draft: ConfigDraft,
     sectors: u32,
@@ -39,7 +39,6 @@ fn rows_of_the_usual_host(rt: HostRuntime) -> Result<(), Fail> {
         WRITE_AND_READ_BACK,
         STALE_FINISH_AFTER_UNDO,
         FAILED_READ_UNDONE_AND_REDONE,
-        ROUND_ROBIN,
         STORED_SECTORS_UNDONE_AND_REDONE,
     ] {
         expect_row(&rt, ConfigDraft::default(), 1024, row)?;
@@ -90,7 +89,7 @@ release -> done
 undo 1 -> refused 28
 ";
 
-const WRITE_AND_READ_BACK: &str = "\
+pub const WRITE_AND_READ_BACK: &str = "\
 attach 0 0 4 -> attached 1
 write 0 1 5 1 65 -> queued 2
 dispatch -> issued 0 3 store 5 1
@@ -133,17 +132,6 @@ reap 0 1 -> completed 2 error fault
 line -> line 5 5 6
 hold -> moved 5 5
 redo 1 -> refused 32
-";
-
-const ROUND_ROBIN: &str = "\
-attach 0 0 4 -> attached 1
-attach 1 0 4 -> attached 2
-read 0 1 100 8 -> queued 3
-read 0 1 0 8 -> queued 4
-read 1 2 300 8 -> queued 5
-dispatch -> issued 0 6 fetch 100 8
-dispatch -> issued 1 7 fetch 300 8
-dispatch -> issued 2 8 fetch 0 8
 ";
 
 const STORED_SECTORS_UNDONE_AND_REDONE: &str = "\
