@@ -28,3 +28,4 @@ pub mod Completing
 pub mod Recorded
 pub mod Bounds
 pub mod Places
+pub mod Grouping
