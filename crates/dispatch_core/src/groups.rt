@@ -44,14 +44,7 @@ pub fn run_group_make(
         return Ok(Answer::Refused(Code::HistoryFull));
     }
     tape.reserve(4)?;
-    enter(
-        sizes,
-        parts,
-        tape,
-        16 + group,
-        parent,
-        u32::from(weight),
-    );
+    enter(sizes, parts, tape, 16 + group, parent, u32::from(weight));
     tape.exchange(
         parts,
         Change::Vtime {

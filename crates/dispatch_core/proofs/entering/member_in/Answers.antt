@@ -1,7 +1,5 @@
-use Rattle.std.proofs.Common.{◌≡◌, List, [], Option, None, Some, unwrap_or, get_or, sym, ap, ◌∙◌, rules}
+use Rattle.std.proofs.Common.{◌≡◌, [], None, Some, unwrap_or, get_or, sym, ap, ◌∙◌, rules}
 use Rattle.std.specs.Prelude.{slice_get}
-use Rattle.service_tree.specs.declared.member.Member.{Member}
-use Rattle.change_record.specs.Exchange.{tree_at}
 use Rattle.bfq_select.specs.Rules.{absent}
 use Rattle.dispatch_core.proofs.Grouping.{get-none, get-some}
 use Rattle.dispatch_core.proofs.entering.member_in.Goals as goal

@@ -1,4 +1,4 @@
-use Rattle.std.proofs.Common.{◌≡◌, ℕ, ◌<◌, ◌≤◌, true, false, arith, rules}
+use Rattle.std.proofs.Common.{◌≡◌, false, arith, rules}
 use Rattle.change_record.specs.Machine.{bfq_of}
 use Rattle.bfq_select.specs.Rules.{stands}
 use Rattle.dispatch_core.proofs.Grouping.{free_is, free_none}

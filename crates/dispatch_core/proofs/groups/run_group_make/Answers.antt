@@ -1,0 +1,59 @@
+use Rattle.std.proofs.Common.{◌≡◌, ◌+◌, ◌<◌, List, Some, length, true, subst, sym, ap, ◌∙◌, arith, rules}
+use Rattle.change_record.specs.declared.change.Change.{Change}
+use Rattle.change_record.specs.declared.change.Change.TheVariants.{Vtime}
+use Rattle.change_record.specs.Tables.{Tables}
+use Rattle.change_record.specs.Exchange.{after}
+use Rattle.change_record.specs.Trail.{IsTrail}
+use Rattle.change_record.specs.Machine.{bfq_of, meaning}
+use Rattle.group_tree.specs.Groups.{depth}
+use Rattle.bfq_select.specs.Rules.{stands}
+use Rattle.plain_machine.specs.Step.{of_sizes, is_weight, free_group}
+use Rattle.plain_machine.specs.declared.answer.Answer.TheVariants.{Accepted}
+use Rattle.plain_machine.specs.declared.answer.Reply.TheVariants.{Group}
+use Rattle.dispatch_core.specs.WellFormed.{WellFormed}
+use Rattle.dispatch_core.specs.Changes.{entered}
+use Rattle.dispatch_core.proofs.Recorded.{one_more}
+use Rattle.dispatch_core.proofs.Decided.{stands_below}
+use Rattle.dispatch_core.proofs.Grouping.{group_make_does, made-meaning, made-well}
+use Rattle.dispatch_core.proofs.groups.run_group_make.Goals as goal
+
+pub returns-clause-answers : goal.returns-clause-answers
+returns-clause-answers c =
+    let l = of_sizes c.args.sizes in
+    let t = c.args.parts.now.tables in
+    let there : stands (bfq_of t) c.args.parent ≡ true = search rules in
+    let good : is_weight c.args.weight ≡ true = search rules in
+    let level : c.depth.result ≡ depth (bfq_of t).parent c.args.parent = search rules in
+    let high : depth (bfq_of t).parent c.args.parent < 4 = omega (arith, level, c.if-depth-ge-MOST_LEVELS.false) in
+    let free : free_group (bfq_of t) ≡ Some c.in-Some.group = sym c.free_group.ensures.value ∙ c.in-Some.is in
+    let below : c.args.parent < 32 = stands_below (bfq_of t) c.args.parent there in
+    let within : c.in-Some.group < 32 = c.in-Some.ensures.within in
+    let one : c.enter.new.parts.tables ≡ entered l t (16 + c.in-Some.group) c.args.parent c.args.weight = c.enter.ensures.tables ∙ ap (entered l t (16 + c.in-Some.group) c.args.parent) c.from.ensures in
+    let two : c.exchange.new.parts.tables ≡ after c.enter.new.parts.tables (Vtime c.in-Some.group l.first_vtime) = c.exchange.ensures.tables in
+    let now = two ∙ ap (λ u. after u (Vtime c.in-Some.group l.first_vtime)) one in
+    sym (group_make_does l (meaning t) c.args.room c.args.parent c.args.weight c.in-Some.group there good high free c.if-not-room.false
+    ∙ ap (λ m. (m, Accepted (Group c.in-Some.group))) (sym (ap meaning now ∙ made-meaning l c.args.serial t c.in-Some.group c.args.parent c.args.weight c.requires within below)))
+
+pub returns-clause-leaves : goal.returns-clause-leaves
+returns-clause-leaves c =
+    let l = of_sizes c.args.sizes in
+    let t = c.args.parts.now.tables in
+    let there : stands (bfq_of t) c.args.parent ≡ true = search rules in
+    let below : c.args.parent < 32 = stands_below (bfq_of t) c.args.parent there in
+    let within : c.in-Some.group < 32 = c.in-Some.ensures.within in
+    let one : c.enter.new.parts.tables ≡ entered l t (16 + c.in-Some.group) c.args.parent c.args.weight = c.enter.ensures.tables ∙ ap (entered l t (16 + c.in-Some.group) c.args.parent) c.from.ensures in
+    let two : c.exchange.new.parts.tables ≡ after c.enter.new.parts.tables (Vtime c.in-Some.group l.first_vtime) = c.exchange.ensures.tables in
+    let now = two ∙ ap (λ u. after u (Vtime c.in-Some.group l.first_vtime)) one in
+    let P : Tables → Type 0 = λ u. WellFormed l (c.args.serial + 1) u in
+    let last = one_more c.enter.new.tape.current c.exchange.new.self.current _ c.exchange.ensures.recorded in
+    let kept = ap length c.reserve.ensures.current in (
+      subst P (sym now) (made-well l c.args.serial t c.in-Some.group c.args.parent c.args.weight c.requires within below),
+      omega (arith, c.exchange.ensures.spare, c.enter.ensures.spare, c.in_ok-reserve.ensures.spare),
+      omega (arith, last, c.enter.ensures.count, kept),
+      omega (arith, last, c.enter.ensures.count, kept),
+    )
+
+pub returns-clause-trail : goal.returns-clause-trail
+returns-clause-trail c = λ origin h.
+    let P : List Change → Type 0 = λ changes. IsTrail changes c.args.parts.now.tables origin in
+    c.exchange.ensures.trail origin (c.enter.ensures.trail origin (subst P (sym c.reserve.ensures.current) h))
