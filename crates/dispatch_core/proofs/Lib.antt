@@ -16,7 +16,12 @@ pub mod Joins
 pub mod Merges
 pub mod Joined
 pub mod JoinedQueues
+pub mod NextFound
+pub mod NextTaken
 pub mod Ruling
+pub mod NextSent
+pub mod NextSlot
+pub mod NextServed
 pub mod Laws
 pub mod Decided
 pub mod Sectors

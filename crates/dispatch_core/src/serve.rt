@@ -8,6 +8,7 @@ ghost use Rattle.bfq_select.specs.Service.{OnlyServes};
 ghost use Rattle.plain_machine.specs.Step.{accepted_if, sent_by_bfq, sent_in, sent_next, with_budget_in, with_slot, next_size, next_request, of_sizes};
 ghost use Rattle.plain_machine.specs.Whole.{AreWhole};
 ghost use Rattle.dispatch_core.specs.Changes.{sent_next_tables};
+ghost use Rattle.dispatch_core.specs.Ranges.{HasFewSectors};
 ghost use Rattle.dispatch_core.specs.Relation.{Answers, Leaves};
 ghost use Rattle.dispatch_core.specs.WellFormed.{WellFormed};
 
@@ -112,7 +113,9 @@ fn make_room(
 
 // How many sectors the next request of a queue has.
 fn next_size(parts: &Parts, seat: u8) -> u32
-    ensures { result ≡ next_size (meaning parts.now.tables) seat }
+    requires few { HasFewSectors parts.now.tables.bios }
+    ensures size { result ≡ next_size (meaning parts.now.tables) seat }
+    ensures small { result ≤ 2048 }
 {
     let Some(slot) = parts
         .queues()

@@ -1,0 +1,115 @@
+-- Which queue is in service after a rule of bfq, and what it has been served.
+use Rattle.std.proofs.Common.{◌≡◌, ℕ, zero, suc, ◌-◌, ◌≤◌, List, [], ◌∷◌, Option, None, Some, Bool, true, false, cond, is_some, nat_le, nat_lt, All, refl, sym, ap, ◌∙◌, subst, arith}
+use Rattle.std.specs.List.{find}
+use Rattle.std.specs.Option.{option_map_or, option_and_then}
+use Rattle.std.proofs.lemmas.Option.{same_Some}
+use Rattle.std.proofs.lemmas.List.Elements.{All-head, All-tail}
+use Rattle.service_tree.specs.Members.{least_start}
+use Rattle.group_tree.specs.Groups.{path}
+use Rattle.change_record.specs.declared.change.InService.{InService}
+use Rattle.change_record.specs.Machine.{Bfq, WholeRequest, Plain}
+use Rattle.process_queue.specs.Next.{starts, wanted, has_start}
+use Rattle.bfq_select.specs.declared.expiry.Expiry.{Expiry}
+use Rattle.bfq_select.specs.Rules.{top, put_vtime, along, finish_from, stamped, stamp, picked, jumped, in_service, on_pick, taken, select_from, select, ended, is_backlogged, rested, expire_one, out_of_service, expire}
+use Rattle.plain_machine.specs.Step.{shape, size_of, next_request, next_size}
+use Rattle.plain_machine.specs.Whole.{IsWhole, AreWhole}
+
+-- a stamp leaves the slot
+stamp_slot : (start entity : ℕ) (b c : Bfq) → stamp start entity b ≡ Some c → c.slot ≡ b.slot
+stamp_slot start entity b c e =
+    elim (nat_le (finish_from start entity b) top) as (λ t. cond t (Some (stamped start entity b)) None ≡ Some c → c.slot ≡ b.slot) [
+      | true ↦ λ f. ap (λ (x : Bfq). x.slot) (sym (same_Some (stamped start entity b) c f))
+      | false ↦ λ f. cc
+    ] e
+
+-- and so does an entity that leaves the service
+expire_one_slot : (service : ℕ) (queued : Bool) (entity : ℕ) (b c : Bfq) → expire_one service queued entity b ≡ Some c → c.slot ≡ b.slot
+expire_one_slot service queued entity b c e =
+    let finish : ℕ = ended service entity b in
+    elim (nat_le finish top) as (λ t. cond t (cond (is_backlogged queued entity b) (stamp finish entity b) (Some (rested finish entity b))) None ≡ Some c → c.slot ≡ b.slot) [
+      | true ↦ λ f. elim (is_backlogged queued entity b) as (λ t. cond t (stamp finish entity b) (Some (rested finish entity b)) ≡ Some c → c.slot ≡ b.slot) [
+        | true ↦ λ g. stamp_slot finish entity b c g
+        | false ↦ λ g. ap (λ (x : Bfq). x.slot) (sym (same_Some (rested finish entity b) c g))
+      ] f
+      | false ↦ λ f. cc
+    ] e
+
+-- a rule that leaves the slot at each entity leaves it along a path
+along_slot : (rule : ℕ → Bfq → Option Bfq) → ((entity : ℕ) (b c : Bfq) → rule entity b ≡ Some c → c.slot ≡ b.slot) → (entities : List ℕ) (b c : Bfq) → along rule entities b ≡ Some c → c.slot ≡ b.slot
+along_slot rule keeps [] b c e = ap (λ (x : Bfq). x.slot) (sym (same_Some b c e))
+along_slot rule keeps (entity ∷ entities) b c e =
+    elim (rule entity b) as (λ o. rule entity b ≡ o → option_and_then (along rule entities) o ≡ Some c → c.slot ≡ b.slot) [
+      | None ↦ λ _ f. cc
+      | Some d ↦ λ first f. along_slot rule keeps entities d c f ∙ keeps entity b d first
+    ] refl e
+
+-- no queue is in service after one has expired
+pub expire_slot : (cause : Expiry) (most : ℕ) (queued : Bool) (b c : Bfq) → expire cause most queued b ≡ Some c → c.slot ≡ None
+expire_slot cause most queued b c e =
+    elim b.slot as (λ o. option_and_then (λ (slot : InService). along (expire_one slot.service queued) (path b.parent slot.seat) (out_of_service cause most slot b)) o ≡ Some c → c.slot ≡ None) [
+      | None ↦ λ f. cc
+      | Some slot ↦ λ f. along_slot (expire_one slot.service queued) (expire_one_slot slot.service queued) (path b.parent slot.seat) (out_of_service cause most slot b) c f
+    ] e
+
+-- nothing has been served in a slot
+abbrev IsFresh : Option InService → Type 0
+IsFresh o = (slot : InService) → o ≡ Some slot → slot.service ≡ 0
+
+-- a jump of the virtual time leaves the slot
+jumped_slot : (group : ℕ) (b : Bfq) → (jumped group b).slot ≡ b.slot
+jumped_slot group b =
+    elim (is_some (picked b group)) as (λ t. (let c : Bfq = cond t b (option_map_or (λ start. put_vtime group start b) (least_start (b.service group).members) b) in c.slot) ≡ b.slot) [
+      | true ↦ refl
+      | false ↦ elim (least_start (b.service group).members) as (λ o. (let c : Bfq = option_map_or (λ start. put_vtime group start b) o b in c.slot) ≡ b.slot) [
+        | None ↦ refl
+        | Some start ↦ refl
+      ]
+    ]
+
+-- what is taken is fresh, where the levels below leave it so
+taken_fresh : (choose : ℕ → Bfq → Bfq) → ((h : ℕ) (c : Bfq) → IsFresh c.slot → IsFresh (choose h c).slot) → (group : ℕ) (b : Bfq) (entity : ℕ) → IsFresh b.slot
+    → IsFresh (taken choose group b entity).slot
+taken_fresh choose keeps group b entity fresh =
+    elim (nat_lt entity 16) as (λ t. IsFresh (let c : Bfq = cond t (record (in_service group entity b) { slot = Some (record { seat = entity; service = 0; age = 0 }) }) (choose (entity - 16) (in_service group entity b)) in c.slot)) [
+      | true ↦ λ slot e. ap (λ (s : InService). s.service) (sym (same_Some _ slot e))
+      | false ↦ keeps (entity - 16) (in_service group entity b) fresh
+    ]
+
+on_pick_fresh : (found : Option ℕ) (b : Bfq) (next : ℕ → Bfq) → IsFresh b.slot → ((entity : ℕ) → IsFresh (next entity).slot) → IsFresh (on_pick found b next).slot
+on_pick_fresh None b next fresh each = fresh
+on_pick_fresh (Some entity) b next fresh each = each entity
+
+select_from_fresh : (levels group : ℕ) (b : Bfq) → IsFresh b.slot → IsFresh (select_from levels group b).slot
+unfolding select_from
+select_from_fresh zero group b fresh = fresh
+select_from_fresh (suc levels) group b fresh =
+    let c : Bfq = jumped group b in
+    let choose : ℕ → Bfq → Bfq = λ h d. select_from levels h d in
+    let still : IsFresh c.slot = λ slot e. fresh slot (sym (jumped_slot group b) ∙ e) in
+    on_pick_fresh (picked c group) c (taken choose group c) still (λ entity. taken_fresh choose (λ h d. select_from_fresh levels h d) group c entity still)
+
+-- a queue that was selected has been served nothing yet
+pub select_fresh : (b : Bfq) (slot : InService) → b.slot ≡ None → (select b).slot ≡ Some slot → slot.service ≡ 0
+select_fresh b slot none e = select_from_fresh 5 0 b (λ s f. cc) slot e
+
+-- what is found in a list is one of it
+find_all : {A : Type 0} (P : A → Type 0) (passes : A → Bool) (xs : List A) (a : A) → All P xs → find passes xs ≡ Some a → P a
+find_all P passes [] a all e = cc
+find_all P passes (x ∷ xs) a all e = elim (passes x) as (λ b. cond b (Some x) (find passes xs) ≡ Some a → P a) [
+  | true ↦ λ f. subst P (same_Some x a f) (All-head P x xs all)
+  | false ↦ λ f. find_all P passes xs a (All-tail P x xs all) f
+] e
+
+-- the next request has at most 256 sectors
+pub next_small : (m : Plain) (seat : ℕ) → AreWhole m → next_size m seat ≤ 256
+next_small m seat whole =
+    elim (next_request m seat) as (λ o. next_request m seat ≡ o → option_map_or (λ (r : WholeRequest). size_of r.bios) o 0 ≤ 256) [
+      | None ↦ λ _. omega arith
+      | Some r ↦ λ e. (next_whole r e).few_sectors
+    ] refl where
+      next_whole : (r : WholeRequest) → next_request m seat ≡ Some r → IsWhole r
+      next_whole r e = elim (wanted (m.head seat) (starts shape (m.queue seat)))
+          as (λ o. option_and_then (λ sector. find (has_start shape sector) (m.queue seat)) o ≡ Some r → IsWhole r) [
+            | None ↦ λ f. cc
+            | Some sector ↦ λ f. find_all IsWhole (has_start shape sector) (m.queue seat) r (whole.queued seat) f
+          ] e

@@ -1,0 +1,22 @@
+use Rattle.std.proofs.Common.{◌≡◌, Some, None, true}
+use Rattle.change_record.specs.Machine.{bfq_of}
+use Rattle.bfq_select.specs.declared.expiry.Expiry.TheVariants.{Exhaustion}
+use Rattle.bfq_select.specs.Rules.{expire}
+use Rattle.plain_machine.specs.Step.{of_sizes}
+use Rattle.dispatch_core.proofs.Ruling.{served-well}
+use Rattle.dispatch_core.proofs.NextSlot.{expire_slot}
+use Rattle.dispatch_core.proofs.serve.make_room.Goals as goal
+
+pub returns-in_err-expire-clause-well : goal.returns-in_err-expire-clause-well
+returns-in_err-expire-clause-well c =
+    served-well (of_sizes c.args.sizes) c.args.serial c.args.parts.now.tables c.expire.new.parts.tables c.expire.ensures.others c.requires.well c.expire.ensures.sized c.expire.ensures.bounded
+
+pub returns-in_ok-expire-clause-well : goal.returns-in_ok-expire-clause-well
+returns-in_ok-expire-clause-well c =
+    served-well (of_sizes c.args.sizes) c.args.serial c.args.parts.now.tables c.expire.new.parts.tables c.expire.ensures.others c.requires.well c.expire.ensures.sized c.expire.ensures.bounded
+
+pub returns-in_ok-expire-clause-fits : goal.returns-in_ok-expire-clause-fits
+returns-in_ok-expire-clause-fits c = λ slot e.
+    let made : expire Exhaustion c.args.sizes.max_budget true (bfq_of c.args.parts.now.tables) ≡ Some (bfq_of c.expire.new.parts.tables) = c.in_ok-expire.ensures.made in
+    let none : c.expire.new.parts.tables.slot ≡ None = expire_slot Exhaustion c.args.sizes.max_budget true (bfq_of c.args.parts.now.tables) (bfq_of c.expire.new.parts.tables) made in
+    absurd cc
