@@ -1,5 +1,5 @@
 -- Which request of a queue is served next, as the slots say it and as the plain machine says it.
-use Rattle.std.proofs.Common.{◌≡◌, ℕ, ◌+◌, ◌<◌, ◌≤◌, List, [], ◌∷◌, map, Option, Some, None, Bool, true, false, cond, ◌==◌, nat_eq, refl, sym, ap, ◌∙◌, arith}
+use Rattle.std.proofs.Common.{◌≡◌, ℕ, ◌+◌, List, [], ◌∷◌, map, Option, Some, None, Bool, true, false, ◌==◌, nat_eq, refl, sym, ap, ◌∙◌, arith}
 use Rattle.std.specs.List.{filter_map, cons_option, find}
 use Rattle.std.specs.Option.{option_map, option_map_or, option_and_then}
 use Rattle.std.proofs.lemmas.Bool.Decides.{nat_tests}
@@ -10,7 +10,7 @@ use Rattle.process_queue.specs.declared.Link.{Link}
 use Rattle.process_queue.specs.declared.merge.Shape.{Shape}
 use Rattle.process_queue.specs.Queue.{queue_slots, first_in}
 use Rattle.process_queue.specs.Merge.{bios_at, shape_of, shape_at}
-use Rattle.process_queue.specs.Next.{start_of, starts, wanted, has_start, next_of, next_slot}
+use Rattle.process_queue.specs.Next.{starts, wanted, has_start, next_of, next_slot}
 use Rattle.change_record.specs.Tables.{Tables}
 use Rattle.change_record.specs.Machine.{WholeRequest, meaning, whole_at}
 use Rattle.plain_machine.specs.Step.{shape, range_of, size_of, next_request}

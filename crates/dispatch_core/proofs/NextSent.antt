@@ -1,5 +1,5 @@
 -- The next request of a queue is sent: the machine after it.
-use Rattle.std.proofs.Common.{◌≡◌, ◌≢◌, ℕ, ◌+◌, ◌<◌, length, Option, Some, None, inl, inr, IsSome, ◌==◌, set, count_by, refl, sym, ap, ◌∙◌, subst, arith, length-set, eq-eqb, ne_eqb}
+use Rattle.std.proofs.Common.{◌≡◌, ℕ, ◌+◌, ◌<◌, length, Some, None, inl, inr, IsSome, ◌==◌, count_by, refl, sym, ap, ◌∙◌, subst, arith, length-set, eq-eqb, ne_eqb}
 use Rattle.std.specs.List.{filter_map, find}
 use Rattle.std.specs.Option.{option_map}
 use Rattle.std.proofs.lemmas.Bool.{cases_eq, cond-true, cond-false}
@@ -15,7 +15,7 @@ use Rattle.process_queue.specs.Next.{has_start}
 use Rattle.change_record.specs.Tables.{Tables}
 use Rattle.change_record.specs.Machine.{meaning, whole_at, put}
 use Rattle.plain_machine.specs.Step.{Limits, shape, range_of, without_first}
-use Rattle.dispatch_core.specs.WellFormed.{at, one, taken, bears, WellFormed, Placed}
+use Rattle.dispatch_core.specs.WellFormed.{at, one, bears, WellFormed, Placed}
 use Rattle.dispatch_core.specs.Changes.{sent_next_tables}
 use Rattle.dispatch_core.proofs.QueueLists.{within_of, freed, kept_of, queue-taken_other}
 use Rattle.dispatch_core.proofs.Counts.{taken-set}

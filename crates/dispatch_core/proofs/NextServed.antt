@@ -1,11 +1,9 @@
 -- Dispatch under bfq: what the plain machine does at each of its ends.
-use Rattle.std.proofs.Common.{◌≡◌, ℕ, ◌+◌, Option, Some, None, Bool, true, false, cond, refl, sym, ap, ◌∙◌, subst, arith, rules, List, Result, Ok, Err, IsErr, MatchResult}
+use Rattle.std.proofs.Common.{◌≡◌, ℕ, ◌+◌, Option, Some, None, true, false, cond, sym, ap, ◌∙◌, subst, arith, rules, List, Result, Ok, Err, IsErr, MatchResult}
 use Rattle.std.specs.Option.{option_map, option_and_then, is_none}
 use Rattle.sector_core.specs.declared.range.Range.{Range}
 use Rattle.sector_core.specs.Table.{IsFirstFree}
 use Rattle.request_pool.specs.declared.Request.{Request}
-use Rattle.service_tree.specs.Members.{Service}
-use Rattle.process_queue.specs.declared.Link.{Link}
 use Rattle.process_queue.specs.Queue.{queue_slots, is_empty}
 use Rattle.process_queue.specs.Merge.{bios_at}
 use Rattle.process_queue.specs.Next.{next_slot, has_start}

@@ -7,7 +7,10 @@ use Rattle.std.proofs.lemmas.List.Elements.{All-head, All-tail}
 use Rattle.service_tree.specs.Members.{least_start}
 use Rattle.group_tree.specs.Groups.{path}
 use Rattle.change_record.specs.declared.change.InService.{InService}
-use Rattle.change_record.specs.Machine.{Bfq, WholeRequest, Plain}
+use Rattle.change_record.specs.Tables.{Tables}
+use Rattle.change_record.specs.Machine.{Bfq, WholeRequest, Plain, meaning, bfq_of}
+use Rattle.bfq_select.specs.Service.{OnlyServes}
+use Rattle.dispatch_core.proofs.Ruling.{served-meaning}
 use Rattle.process_queue.specs.Next.{starts, wanted, has_start}
 use Rattle.bfq_select.specs.declared.expiry.Expiry.{Expiry}
 use Rattle.bfq_select.specs.Rules.{top, put_vtime, along, finish_from, stamped, stamp, picked, jumped, in_service, on_pick, taken, select_from, select, ended, is_backlogged, rested, expire_one, out_of_service, expire}
@@ -113,3 +116,9 @@ next_small m seat whole =
             | None ↦ λ f. cc
             | Some sector ↦ λ f. find_all IsWhole (has_start shape sector) (m.queue seat) r (whole.queued seat) f
           ] e
+
+-- requests stay whole where only bfq differs
+pub served_whole : (t u : Tables) → OnlyServes t u → AreWhole (meaning t) → AreWhole (meaning u)
+served_whole t u others whole =
+    let still : AreWhole (record (meaning t) { bfq = bfq_of u }) = record { queued = whole.queued; flying = whole.flying } in
+    subst AreWhole (sym (served-meaning t u others)) still

@@ -1,5 +1,5 @@
 -- A queue without the request that was found in it.
-use Rattle.std.proofs.Common.{◌≡◌, ◌≢◌, ℕ, List, [], ◌∷◌, map, length, Option, Some, None, Bool, true, false, cond, nat_lt, set, get_or, refl, sym, ap, ◌∙◌, arith, length-set}
+use Rattle.std.proofs.Common.{◌≡◌, ◌≢◌, ℕ, List, [], ◌∷◌, map, Option, Some, None, Bool, true, false, cond, nat_lt, set, get_or, refl, sym, ap, ◌∙◌, arith, length-set}
 use Rattle.std.specs.List.{filter_map, cons_option, find, AllByRecursion}
 use Rattle.std.specs.Option.{option_map_or}
 use Rattle.process_queue.specs.declared.Link.{Link}

@@ -81,12 +81,7 @@ fn serve(
 }
 
 // The queue in service expires where its budget has no room for its next request.
-fn make_room(
-    sizes: Sizes,
-    parts: &mut Parts,
-    tape: &mut Tape,
-    serial: u64,
-) -> Result<(), VtimeFull>
+fn make_room(sizes: Sizes, parts: &mut Parts, tape: &mut Tape, serial: u64) -> Result<(), VtimeFull>
     requires well { WellFormed (of_sizes sizes) serial parts.old.tables }
     requires whole { AreWhole (meaning parts.old.tables) }
     requires room { 7 ≤ tape.old.room }
@@ -117,10 +112,7 @@ fn next_size(parts: &Parts, seat: u8) -> u32
     ensures size { result ≡ next_size (meaning parts.now.tables) seat }
     ensures small { result ≤ 2048 }
 {
-    let Some(slot) = parts
-        .queues()
-        .next(parts.pool(), seat, parts.head(seat))
-    else {
+    let Some(slot) = parts.queues().next(parts.pool(), seat, parts.head(seat)) else {
         return 0;
     };
     let Some(request) = parts.pool().request(slot) else {
@@ -153,10 +145,7 @@ fn send_next(
     ensures most { OnOk result (length tape.new.current ≤ length tape.old.current + 16) }
 {
     let seat = slot.seat;
-    let Some(place) = parts
-        .queues()
-        .next(parts.pool(), seat, parts.head(seat))
-    else {
+    let Some(place) = parts.queues().next(parts.pool(), seat, parts.head(seat)) else {
         return Err(VtimeFull);
     };
     let Some(request) = parts.pool().request(place) else {

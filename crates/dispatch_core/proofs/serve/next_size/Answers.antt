@@ -1,10 +1,8 @@
-use Rattle.std.proofs.Common.{◌≡◌, ◌≤◌, ℕ, Some, None, sym, ap, ◌∙◌, subst, rules}
+use Rattle.std.proofs.Common.{◌≡◌, Some, None, sym, ap, ◌∙◌, subst, rules}
 use Rattle.request_pool.specs.declared.Request.{Request}
 use Rattle.process_queue.specs.Queue.{queue_slots}
-use Rattle.process_queue.specs.Merge.{bios_at}
 use Rattle.process_queue.specs.Next.{next_slot}
 use Rattle.change_record.specs.Machine.{meaning}
-use Rattle.plain_machine.specs.Step.{next_size, next_request, size_of}
 use Rattle.dispatch_core.specs.WellFormed.{at}
 use Rattle.dispatch_core.specs.Ranges.{HasFewSectors, total_count}
 use Rattle.dispatch_core.proofs.NextFound.{next_none, next_empty, next_size_is, size_read, no_size}

@@ -1,33 +1,104 @@
-use Rattle.std.proofs.Common.{rules, ◌≡◌, ◌+◌, ◌≤◌, ◌<◌, IfOk, OnOk, OnErr, MatchResult, Some, None, [], length, slice_set, ℕ, ◌-◌, ◌*◌, ◌/◌, ◌%◌, Bool, true, false, nat_eq, nat_lt, List, ◌∷◌, ◌++◌, slice_index_or, bit_and, bit_or, Fits, w8, w32, w64, Bor, MutBor}
-use Rattle.sector_core.specs.Table.{IsFirstFree}
+use Rattle.std.proofs.Common.{◌≡◌, ◌+◌, ◌≤◌, Option, Some, None, true, false, MatchResult, sym, ap, ◌∙◌, subst, arith, rules}
+use Rattle.std.specs.Option.{is_none}
 use Rattle.change_record.specs.declared.change.InService.{InService as ServiceSlot}
-use Rattle.change_record.specs.Trail.{KeepsTrail}
-use Rattle.change_record.specs.Machine.{bfq_of, meaning}
+use Rattle.change_record.specs.Tables.{Tables, Loose}
+use Rattle.change_record.specs.Trail.{IsTrail}
+use Rattle.change_record.specs.Machine.{Plain, Bfq, meaning, bfq_of}
+use Rattle.bfq_select.specs.Rules.{select}
 use Rattle.bfq_select.specs.Service.{OnlyServes}
-use Rattle.plain_machine.specs.Step.{accepted_if, sent_by_bfq, sent_in, sent_next, with_budget_in, with_slot, next_size, next_request, of_sizes}
+use Rattle.plain_machine.specs.declared.answer.Reply.{Reply}
+use Rattle.plain_machine.specs.Step.{of_sizes, next_size, with_slot, sent_by_bfq}
 use Rattle.plain_machine.specs.Whole.{AreWhole}
-use Rattle.dispatch_core.specs.Changes.{sent_next_tables}
-use Rattle.dispatch_core.specs.Ranges.{HasFewSectors}
-use Rattle.dispatch_core.specs.Relation.{Answers, Leaves}
 use Rattle.dispatch_core.specs.WellFormed.{WellFormed}
+use Rattle.dispatch_core.proofs.Ruling.{served-well, serves_then}
+use Rattle.dispatch_core.proofs.NextSlot.{select_fresh, next_small, served_whole}
+use Rattle.dispatch_core.proofs.NextServed.{same_size, bfq_sends, slot_kept, slot_chosen}
+use Rattle.dispatch_core.proofs.serve.serve.Goals.{then-is_none, else-is_none}
 use Rattle.dispatch_core.proofs.serve.serve.Goals as goal
 
--- src/serve.rt:80:5
 pub send_next-requires-clause-well : goal.send_next-requires-clause-well
-send_next-requires-clause-well c = ?
+send_next-requires-clause-well c =
+    let l = of_sizes c.args.sizes in
+    let n = c.args.serial in
+    let before = c.make_room.new.parts.tables in
+    let R : Tables → Type 0 = λ x. WellFormed l n x in
+    elim c.if-is_none.branch [
+      | then-is_none w ↦
+          subst R (sym (ap (λ (p : Loose). p.tables) w.parts-is))
+          (served-well l n before w.select.new.parts.tables w.select.ensures.others c.make_room.ensures.well w.select.ensures.sized w.select.ensures.bounded)
+      | else-is_none w ↦ subst R (sym (ap (λ (p : Loose). p.tables) w.parts-is)) c.make_room.ensures.well
+    ]
 
--- src/serve.rt:80:5
 pub send_next-requires-clause-whole : goal.send_next-requires-clause-whole
-send_next-requires-clause-whole c = ?
+send_next-requires-clause-whole c =
+    let t = c.args.parts.now.tables in
+    let before = c.make_room.new.parts.tables in
+    let whole : AreWhole (meaning before) = served_whole t before c.make_room.ensures.others c.requires.whole in
+    let R : Tables → Type 0 = λ x. AreWhole (meaning x) in
+    elim c.if-is_none.branch [
+      | then-is_none w ↦ subst R (sym (ap (λ (p : Loose). p.tables) w.parts-is)) (served_whole before w.select.new.parts.tables w.select.ensures.others whole)
+      | else-is_none w ↦ subst R (sym (ap (λ (p : Loose). p.tables) w.parts-is)) whole
+    ]
 
--- src/serve.rt:80:5
 pub send_next-requires-clause-fits : goal.send_next-requires-clause-fits
-send_next-requires-clause-fits c = ?
+send_next-requires-clause-fits c =
+    let t = c.args.parts.now.tables in
+    let before = c.make_room.new.parts.tables in
+    let slot : ServiceSlot = c.in-Some.slot in
+    let serves : c.if-is_none.parts.tables.slot ≡ Some slot = search rules in
+    let whole : AreWhole (meaning before) = served_whole t before c.make_room.ensures.others c.requires.whole in
+    let R : Tables → Type 0 = λ x. slot.service + next_size (meaning x) slot.seat ≤ (bfq_of x).budget slot.seat in
+    elim c.if-is_none.branch [
+      | then-is_none w ↦
+          let now = w.select.new.parts.tables in
+          let same : c.if-is_none.parts.tables ≡ now = ap (λ (p : Loose). p.tables) w.parts-is in
+          let none : before.slot ≡ None = search rules in
+          let here : (select (bfq_of before)).slot ≡ Some slot = sym (ap (λ (b : Bfq). b.slot) w.select.ensures.made) ∙ sym (ap (λ (x : Tables). x.slot) same) ∙ serves in
+          let fresh : slot.service ≡ 0 = select_fresh (bfq_of before) slot none here in
+          let small : next_size (meaning now) slot.seat ≤ 256 = next_small (meaning now) slot.seat (served_whole before now w.select.ensures.others whole) in
+          let least = w.select.ensures.bounded.least_budgets slot.seat in
+          subst R (sym same) (omega (arith, fresh, small, least))
+      | else-is_none w ↦
+          let same : c.if-is_none.parts.tables ≡ before = ap (λ (p : Loose). p.tables) w.parts-is in
+          let fits : slot.service + next_size (meaning t) slot.seat ≤ (bfq_of before).budget slot.seat =
+          c.in_ok-make_room.ensures.fits slot (sym (ap (λ (x : Tables). x.slot) same) ∙ serves) in
+          let size : next_size (meaning before) slot.seat ≡ next_size (meaning t) slot.seat =
+          same_size (of_sizes c.args.sizes) c.args.serial c.args.tag t before slot.seat c.make_room.ensures.others in
+          subst R (sym same) (omega (arith, fits, size))
+    ]
 
--- src/serve.rt:54:1
 pub returns-clause-made : goal.returns-clause-made
-returns-clause-made c = ?
+returns-clause-made c =
+    let l = of_sizes c.args.sizes in
+    let n = c.args.serial in
+    let tag = c.args.tag in
+    let t = c.args.parts.now.tables in
+    let before = c.make_room.new.parts.tables in
+    let now = c.if-is_none.parts.tables in
+    let P : Option (Plain × Reply) → Type 0 =
+    λ o. MatchResult c.send_next.result (λ reply. o ≡ Some (meaning c.send_next.new.parts.tables, reply)) (λ _. o ≡ None) in
+    let sends : with_slot (bfq_of before) ≡ bfq_of now → OnlyServes t now → P (sent_by_bfq l (meaning t) n tag) =
+    λ chosen others. subst P (sym (bfq_sends l n tag t (bfq_of before) (bfq_of now) c.in_ok-make_room.ensures.made chosen now others)) c.send_next.ensures.made in
+    elim c.if-is_none.branch [
+      | then-is_none w ↦
+          let same : now ≡ w.select.new.parts.tables = ap (λ (p : Loose). p.tables) w.parts-is in
+          let none : is_none before.slot ≡ true = search rules in
+          sends (slot_chosen (bfq_of before) none ∙ sym w.select.ensures.made ∙ ap bfq_of (sym same))
+          (subst (OnlyServes t) (sym same) (serves_then t before w.select.new.parts.tables c.make_room.ensures.others w.select.ensures.others))
+      | else-is_none w ↦
+          let same : now ≡ before = ap (λ (p : Loose). p.tables) w.parts-is in
+          let there : is_none before.slot ≡ false = search rules in
+          sends (slot_kept (bfq_of before) there ∙ ap bfq_of (sym same)) (subst (OnlyServes t) (sym same) c.make_room.ensures.others)
+    ]
 
--- src/serve.rt:54:1
 pub returns-clause-trail : goal.returns-clause-trail
-returns-clause-trail c = ?
+returns-clause-trail c = λ origin h.
+    let before : IsTrail c.make_room.new.tape.current c.make_room.new.parts.tables origin = c.make_room.ensures.trail origin h in
+    let now : IsTrail c.if-is_none.tape.current c.if-is_none.parts.tables origin =
+    elim c.if-is_none.branch [
+      | then-is_none w ↦
+          let chosen : IsTrail w.select.new.tape.current w.select.new.parts.tables origin = w.select.ensures.trail origin before in
+          search rules
+      | else-is_none w ↦ search rules
+    ] in
+    c.send_next.ensures.trail origin now
