@@ -62,6 +62,7 @@ module _ (l : Limits) (m : Plain) (n tag : ℕ) (b : Bfq) (slot : InService) (se
     next_uncharged none = next_goes ∙ ap (λ o. option_map (sent_to m n tag slot.seat r) (option_and_then (without_empty l rest) o)) none
 
     module _ (c : Bfq) (charged : charge (range_of r.bios).count b ≡ Some c) where
+      -- then the queue is empty, or goes on
       next_charged : sent_in l m n tag b ≡ option_map (sent_to m n tag slot.seat r) (without_empty l rest c)
       next_charged = next_goes ∙ ap (λ o. option_map (sent_to m n tag slot.seat r) (option_and_then (without_empty l rest) o)) charged
 
@@ -87,6 +88,7 @@ module _ (l : Limits) (n tag : ℕ) (t : Tables) (slot : InService) (place : ℕ
   abbrev sent_range : Range
   sent_range = range_of (bios_at t.bios request.bios.items)
 
+  -- it is the next one of the plain machine
   next_is : next_request (meaning t) slot.seat ≡ Some sent_request
   next_is = next_some t slot.seat place request found here
 
@@ -102,9 +104,11 @@ module _ (l : Limits) (n tag : ℕ) (t : Tables) (slot : InService) (place : ℕ
     abbrev known : Tables
     known = record t { trees = charged.trees; budgets = charged.budgets; slot = charged.slot }
 
+    -- they hold together
     known_well : WellFormed l n known
     known_well = subst (WellFormed l n) others (served-well l n t charged others w sized bounded)
 
+    -- the request can be sent
     can : CanSendNext l known slot.seat place tag request
     can =
         let linked = next_linked t slot.seat place request found here in
@@ -118,9 +122,11 @@ module _ (l : Limits) (n tag : ℕ) (t : Tables) (slot : InService) (place : ℕ
           tag_free = free.is_free;
         }
 
+    -- what it leaves, by those tables
     out_is : out ≡ sent_next_tables known n slot.seat place tag head
     out_is = taken ∙ ap (λ u. sent_next_tables u n slot.seat place tag head) others
 
+    -- the sending leaves bfq
     out_bfq : bfq_of charged ≡ bfq_of out
     out_bfq = sym (ap bfq_of taken)
 
@@ -149,6 +155,7 @@ module _ (l : Limits) (n tag : ℕ) (t : Tables) (slot : InService) (place : ℕ
         ∙ ap (λ m. Some (m, Issued tag n request.op sent_range)) (sym served_meaning)
 
     module _ (none : is_empty (queue_slots slot.seat out.links) ≡ true) where
+      -- where it is empty
       goes_out : (o : Option Bfq) → expire Emptying l.max_budget false (bfq_of out) ≡ o
           → sent_in l (meaning t) n tag (bfq_of t) ≡ option_map (sent_to (meaning t) n tag slot.seat sent_request) o
       goes_out o expires =
@@ -187,6 +194,7 @@ module _ (l : Limits) (n tag : ℕ) (t : Tables) where
   bfq_full none = ap (option_and_then (λ b. sent_in l (meaning t) n tag (with_slot b))) none
 
   module _ (b c : Bfq) (made : with_budget_in l (meaning t) t.slot ≡ Some b) (chosen : with_slot b ≡ c) where
+    -- room was made, and a queue chosen
     by_slot : sent_by_bfq l (meaning t) n tag ≡ sent_in l (meaning t) n tag c
     by_slot = ap (option_and_then (λ b. sent_in l (meaning t) n tag (with_slot b))) made ∙ ap (sent_in l (meaning t) n tag) chosen
 

@@ -78,10 +78,12 @@ taken_fresh choose keeps group b entity fresh =
       | false ↦ keeps (entity - 16) (in_service group entity b) fresh
     ]
 
+-- so is what follows a pick
 on_pick_fresh : (found : Option ℕ) (b : Bfq) (next : ℕ → Bfq) → IsFresh b.slot → ((entity : ℕ) → IsFresh (next entity).slot) → IsFresh (on_pick found b next).slot
 on_pick_fresh None b next fresh each = fresh
 on_pick_fresh (Some entity) b next fresh each = each entity
 
+-- and what so many levels choose
 select_from_fresh : (levels group : ℕ) (b : Bfq) → IsFresh b.slot → IsFresh (select_from levels group b).slot
 unfolding select_from
 select_from_fresh zero group b fresh = fresh
@@ -110,6 +112,7 @@ next_small m seat whole =
       | None ↦ λ _. omega arith
       | Some r ↦ λ e. (next_whole r e).few_sectors
     ] refl where
+      -- the next request is whole
       next_whole : (r : WholeRequest) → next_request m seat ≡ Some r → IsWhole r
       next_whole r e = elim (wanted (m.head seat) (starts shape (m.queue seat)))
           as (λ o. option_and_then (λ sector. find (has_start shape sector) (m.queue seat)) o ≡ Some r → IsWhole r) [
