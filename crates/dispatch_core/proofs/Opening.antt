@@ -161,18 +161,18 @@ module _ (l : Limits) (least : 256 ≤ l.first_budget) (first : l.first_budget �
   least_budgets : (k : ℕ) → 256 ≤ (opening_bfq l).budget k
   least_budgets k = elim (nat_lt k 16) as (λ b. 256 ≤ cond b l.first_budget (cond (nat_lt k 48) l.max_budget 256)) [
     | true ↦ least
-    | false ↦ elim (nat_lt k 48) as (λ b. 256 ≤ cond b l.max_budget 256) [ | true ↦ omega arith | false ↦ omega arith ]
+    | false ↦ elim (nat_lt k 48) as (λ b. 256 ≤ cond b l.max_budget 256) [ true ↦ omega arith | false ↦ omega arith ]
   ]
 
   most_budgets : (k : ℕ) → (opening_bfq l).budget k ≤ 65536
   most_budgets k = elim (nat_lt k 16) as (λ b. cond b l.first_budget (cond (nat_lt k 48) l.max_budget 256) ≤ 65536) [
     | true ↦ omega arith
-    | false ↦ elim (nat_lt k 48) as (λ b. cond b l.max_budget 256 ≤ 65536) [ | true ↦ omega arith | false ↦ omega arith ]
+    | false ↦ elim (nat_lt k 48) as (λ b. cond b l.max_budget 256 ≤ 65536) [ true ↦ omega arith | false ↦ omega arith ]
   ]
 
 -- the times of a new machine are within their limits, and there is no member
 first_times : (l : Limits) → l.first_vtime ≤ 2 ^ 62 → (k : ℕ) → ((opening_bfq l).service k).vtime ≤ 2 ^ 62
-first_times l h k = elim (nat_lt k 32) as (λ b. (let s : Service = cond b (empty_service l.first_vtime) (record { vtime = 0; members = [] }) in s.vtime) ≤ 2 ^ 62) [ | true ↦ h | false ↦ omega arith ]
+first_times l h k = elim (nat_lt k 32) as (λ b. (let s : Service = cond b (empty_service l.first_vtime) (record { vtime = 0; members = [] }) in s.vtime) ≤ 2 ^ 62) [ true ↦ h | false ↦ omega arith ]
 
 no_member : (l : Limits) (k e : ℕ) (m : Member) → get_or ((opening_bfq l).service k).members e None ≡ Some m → ⊥
 no_member l k e m = elim (nat_lt k 32) as (λ b. get_or (let s : Service = cond b (empty_service l.first_vtime) (record { vtime = 0; members = [] }) in s.members) e None ≡ Some m → ⊥) [

@@ -153,14 +153,14 @@ bounded-put_member b group entity v f is new old = (
 ) where
   vtime_same : (s : ℕ → Service) (group entity : ℕ) (v : Option Member) (g : ℕ) → (s g).vtime ≤ 2 ^ 62 → (s group).vtime ≤ 2 ^ 62
       → (put s group (with_member (s group) entity v) g).vtime ≤ 2 ^ 62
-  vtime_same s group entity v g h k = elim (g == group) as (λ c. (let x : Service = cond c (with_member (s group) entity v) (s g) in x.vtime) ≤ 2 ^ 62) [ | true ↦ k | false ↦ h ]
+  vtime_same s group entity v g h k = elim (g == group) as (λ c. (let x : Service = cond c (with_member (s group) entity v) (s g) in x.vtime) ≤ 2 ^ 62) [ true ↦ k | false ↦ h ]
 
 -- with a new entity the numbers of bfq are within their limits
 pub bounded_entity : (l : Limits) (entity group weight : ℕ) (b : Bfq) → l.first_vtime ≤ 2 ^ 62 → IsBounded b → IsBounded (with_entity l entity group weight b)
 bounded_entity l entity group weight b first old =
     let v : Option Member = Some (record { state = Idle; start = l.first_vtime; finish = l.first_vtime; weight = weight }) in
     let times = bounded-put_member b group entity v (put b.service group (with_member (b.service group) entity v)) refl
-        (λ m h. let p : Member → Type 0 = λ x. (x.start ≤ 2 ^ 62) × (x.finish ≤ 2 ^ 62) in subst p (same_Some _ m h) (first, first)) old in
+    (λ m h. let p : Member → Type 0 = λ x. (x.start ≤ 2 ^ 62) × (x.finish ≤ 2 ^ 62) in subst p (same_Some _ m h) (first, first)) old in
     record {
       vtimes = times.1;
       starts = λ g e m h. (times.0 g e m h).0;
@@ -190,15 +190,15 @@ bounded_budget seat budget b least most old = record {
   vtimes = old.vtimes;
   starts = old.starts;
   finishes = old.finishes;
-  least_budgets = λ k. let here = old.least_budgets k in elim (k == seat) as (λ c. 256 ≤ cond c budget (b.budget k)) [ | true ↦ least | false ↦ here ];
-  most_budgets = λ k. let here = old.most_budgets k in elim (k == seat) as (λ c. cond c budget (b.budget k) ≤ 65536) [ | true ↦ most | false ↦ here ];
+  least_budgets = λ k. let here = old.least_budgets k in elim (k == seat) as (λ c. 256 ≤ cond c budget (b.budget k)) [ true ↦ least | false ↦ here ];
+  most_budgets = λ k. let here = old.most_budgets k in elim (k == seat) as (λ c. cond c budget (b.budget k) ≤ 65536) [ true ↦ most | false ↦ here ];
   served = old.served;
 }
 
 -- with another virtual time
 pub bounded_vtime : (group vtime : ℕ) (b : Bfq) → vtime ≤ 2 ^ 62 → IsBounded b → IsBounded (put_vtime group vtime b)
 bounded_vtime group vtime b h old = record {
-  vtimes = λ g. let here = old.vtimes g in elim (g == group) as (λ c. (let s : Service = cond c (with_vtime (b.service group) vtime) (b.service g) in s.vtime) ≤ 2 ^ 62) [ | true ↦ h | false ↦ here ];
+  vtimes = λ g. let here = old.vtimes g in elim (g == group) as (λ c. (let s : Service = cond c (with_vtime (b.service group) vtime) (b.service g) in s.vtime) ≤ 2 ^ 62) [ true ↦ h | false ↦ here ];
   starts = λ g e m k. old.starts (cond (g == group) group g) e m (same_members g e m k);
   finishes = λ g e m k. old.finishes (cond (g == group) group g) e m (same_members g e m k);
   least_budgets = old.least_budgets;
@@ -207,7 +207,7 @@ bounded_vtime group vtime b h old = record {
 } where
   same_members : (g e : ℕ) (m : Member) → get_or (put b.service group (with_vtime (b.service group) vtime) g).members e None ≡ Some m → get_or (b.service (cond (g == group) group g)).members e None ≡ Some m
   same_members g e m = elim (g == group) as (λ c. get_or (let s : Service = cond c (with_vtime (b.service group) vtime) (b.service g) in s.members) e None ≡ Some m
-      → get_or (b.service (cond c group g)).members e None ≡ Some m) [ | true ↦ λ k. k | false ↦ λ k. k ]
+      → get_or (b.service (cond c group g)).members e None ≡ Some m) [ true ↦ λ k. k | false ↦ λ k. k ]
 
 -- with another pending weight
 pub bounded_pending : (entity weight : ℕ) (b : Bfq) → IsBounded b → IsBounded (let c : Bfq = record b { pending = put b.pending entity weight } in c)

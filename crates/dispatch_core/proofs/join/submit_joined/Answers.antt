@@ -1,5 +1,4 @@
-use Rattle.std.proofs.Common.{◌≡◌, ◌+◌, length, Some, None, false, ◌&&◌, nat_le, subst, sym, ap, ◌∙◌, arith, rules}
-use Rattle.std.specs.Option.{is_none}
+use Rattle.std.proofs.Common.{◌≡◌, ◌+◌, length, Some, None, subst, sym, ap, ◌∙◌, arith, rules}
 use Rattle.request_pool.specs.declared.Request.{Request}
 use Rattle.change_record.specs.Tables.{Tables}
 use Rattle.process_queue.specs.Merge.{bios_at}
@@ -7,7 +6,7 @@ use Rattle.change_record.specs.Machine.{Plain, meaning}
 use Rattle.plain_machine.specs.declared.answer.Answer.{Answer}
 use Rattle.plain_machine.specs.declared.answer.Answer.TheVariants.{Accepted}
 use Rattle.plain_machine.specs.declared.answer.Reply.TheVariants.{Queued}
-use Rattle.plain_machine.specs.Step.{of_sizes, accepted, submit, submitted, needs_request, queued, in_flight, MayGiveWay}
+use Rattle.plain_machine.specs.Step.{of_sizes, accepted, submit, submitted, MayGiveWay}
 use Rattle.dispatch_core.specs.WellFormed.{at, WellFormed}
 use Rattle.dispatch_core.specs.Changes.{joined_tables}
 use Rattle.dispatch_core.specs.Counts.{submit_exchanges}

@@ -1,24 +1,11 @@
-use Rattle.std.proofs.Common.{◌≡◌, ◌+◌, length, Some, None, subst, sym, ap, ◌∙◌, arith, rules}
+use Rattle.std.proofs.Common.{◌≡◌, Some, None, sym, ◌∙◌, rules}
 use Rattle.sector_core.specs.Table.{AllTaken, IsFirstFree}
-use Rattle.request_pool.specs.declared.Request.{Request}
-use Rattle.process_queue.specs.Queue.{first_slot}
 use Rattle.soft_queue.specs.Turn.{next_seat}
-use Rattle.change_record.specs.Tables.{Tables}
-use Rattle.process_queue.specs.Merge.{bios_at}
 use Rattle.change_record.specs.Machine.{meaning}
-use Rattle.plain_machine.specs.declared.answer.Answer.TheVariants.{Accepted}
-use Rattle.plain_machine.specs.declared.answer.Reply.TheVariants.{Issued}
-use Rattle.plain_machine.specs.Step.{of_sizes, dispatch, sent, accepted_if, sent_by_bfq, next_queue, lowest_free}
+use Rattle.plain_machine.specs.Step.{of_sizes, dispatch, sent, accepted_if, sent_by_bfq, next_queue}
 use Rattle.sector_core.specs.declared.config.Scheduler.TheVariants.{Plain as PlainScheduler, Bfq as BfqScheduler}
-use Rattle.dispatch_core.specs.WellFormed.{at, WellFormed}
-use Rattle.dispatch_core.specs.Changes.{sent_tables}
-use Rattle.dispatch_core.specs.Ranges.{HasFewSectors, first_start, total_count}
-use Rattle.dispatch_core.proofs.Sides.{CanSend}
-use Rattle.dispatch_core.proofs.Queues.{whole, next_queue_is, no_tag_free, tag_free, first_found, sent-queue_was}
-use Rattle.dispatch_core.proofs.Laws.{sent-well, sent-meaning}
-use Rattle.dispatch_core.proofs.Sectors.{few_sectors_of, range_is, request_taken}
+use Rattle.dispatch_core.proofs.Queues.{next_queue_is, no_tag_free, tag_free}
 use Rattle.dispatch_core.proofs.Decided.{dispatch_idle, dispatch_full, dispatch_by, Answers-by}
-use Rattle.dispatch_core.proofs.Recorded.{one_more}
 use Rattle.dispatch_core.proofs.send.run_dispatch.Goals as goal
 
 pub returns-in_default-clause-answers : goal.returns-in_default-clause-answers
@@ -40,7 +27,6 @@ returns-in_default-lowest_free-clause-answers c =
     let seat_next : next_queue (meaning t) ≡ Some c.in-Some.seat = turn ∙ next in
     let all : AllTaken t.tags = search rules in
     sym (dispatch_full l (meaning t) n c.args.room c.in-Some.seat seat_next (no_tag_free l n t c.requires.well all))
-
 
 pub returns-in-Plain-clause-answers : goal.returns-in-Plain-clause-answers
 returns-in-Plain-clause-answers c =

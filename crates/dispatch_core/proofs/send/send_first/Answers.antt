@@ -1,8 +1,6 @@
 use Rattle.std.proofs.Common.{◌≡◌, ◌+◌, length, Some, None, subst, sym, ap, ◌∙◌, arith, rules}
-use Rattle.sector_core.specs.Table.{AllTaken, IsFirstFree}
 use Rattle.request_pool.specs.declared.Request.{Request}
 use Rattle.process_queue.specs.Queue.{first_slot}
-use Rattle.soft_queue.specs.Turn.{next_seat}
 use Rattle.change_record.specs.Tables.{Tables}
 use Rattle.process_queue.specs.Merge.{bios_at}
 use Rattle.change_record.specs.Machine.{meaning}
@@ -13,7 +11,7 @@ use Rattle.dispatch_core.specs.WellFormed.{at, WellFormed}
 use Rattle.dispatch_core.specs.Changes.{sent_tables}
 use Rattle.dispatch_core.specs.Ranges.{HasFewSectors, first_start, total_count}
 use Rattle.dispatch_core.proofs.Sides.{CanSend}
-use Rattle.dispatch_core.proofs.Queues.{whole, next_queue_is, no_tag_free, tag_free, first_found, sent-queue_was}
+use Rattle.dispatch_core.proofs.Queues.{whole, first_found, sent-queue_was}
 use Rattle.dispatch_core.proofs.Laws.{sent-well, sent-meaning}
 use Rattle.dispatch_core.proofs.Sectors.{few_sectors_of, range_is, request_taken}
 use Rattle.dispatch_core.proofs.Decided.{sent_does, sent_late, sent_accepts, Answers-err}

@@ -5,7 +5,7 @@ use Rattle.change_record.specs.Machine.{Plain, meaning}
 use Rattle.plain_machine.specs.declared.answer.Answer.{Answer}
 use Rattle.plain_machine.specs.declared.answer.Answer.TheVariants.{Accepted, Refused}
 use Rattle.plain_machine.specs.declared.answer.Reply.TheVariants.{Queued}
-use Rattle.plain_machine.specs.Step.{of_sizes, accepted, submit, submitted, needs_request, MayGiveWay}
+use Rattle.plain_machine.specs.Step.{of_sizes, submit, submitted, needs_request, MayGiveWay}
 use Rattle.dispatch_core.specs.WellFormed.{at, WellFormed}
 use Rattle.dispatch_core.specs.Changes.{submitted_tables}
 use Rattle.dispatch_core.specs.Counts.{submit_exchanges}

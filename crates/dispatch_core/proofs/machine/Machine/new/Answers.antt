@@ -1,9 +1,9 @@
 use Rattle.std.proofs.Common.{◌≡◌, ap, ◌∙◌, sym, subst, arith}
 use Rattle.change_record.specs.Tables.{Loose, empty_tables}
 use Rattle.change_record.specs.Machine.{meaning}
-use Rattle.plain_machine.specs.Step.{of_sizes, opening}
+use Rattle.plain_machine.specs.Step.{of_sizes}
 use Rattle.plain_machine.specs.Whole.{AreWhole}
-use Rattle.dispatch_core.specs.Running.{sizes_of, making_of}
+use Rattle.dispatch_core.specs.Running.{sizes_of}
 use Rattle.dispatch_core.specs.WellFormed.{WellFormed}
 use Rattle.dispatch_core.proofs.Opening.{opening_is, opening-well, for_limits}
 use Rattle.dispatch_core.proofs.Bounds.{opening-whole}
@@ -19,8 +19,7 @@ returns-clause-well c =
     let config = c.args.config in
     let P : Loose → Type 0 = λ p. WellFormed l 1 p.tables in
     let made : c.in_ok-new.field-0 ≡ record { tables = empty_tables (for_limits l); turns = 0 } =
-    c.in_ok-new.ensures ∙ ap (λ k. let p : Loose = record { tables = empty_tables k; turns = 0 } in p) c.making_of.ensures in
-    (
+    c.in_ok-new.ensures ∙ ap (λ k. let p : Loose = record { tables = empty_tables k; turns = 0 } in p) c.making_of.ensures in (
       subst P (sym made) (opening-well l c.requires (omega (arith, config.few_tags)) (omega (arith, config.few_requests)) config.small_vtime config.first_budget_at_least config.first_budget_at_most config.small_max_budget),
       subst AreWhole (sym (ap (λ p. meaning p.tables) made ∙ opening_is l)) (opening-whole l),
     )

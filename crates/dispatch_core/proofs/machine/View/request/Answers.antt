@@ -1,4 +1,4 @@
-use Rattle.std.proofs.Common.{◌≡◌, ◌<◌, ◌^◌, None, Some, ◌∙◌, ap, sym, subst, rules, arith}
+use Rattle.std.proofs.Common.{◌≡◌, None, Some, ◌∙◌, ap, sym, subst, rules}
 use Rattle.change_record.specs.declared.change.Seat.{Seat}
 use Rattle.change_record.specs.Tables.{Tables}
 use Rattle.request_pool.specs.declared.Request.{Request}
