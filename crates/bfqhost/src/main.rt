@@ -6,7 +6,7 @@
 //! | `run_script` | what is written is the text of the lines read, with answers that the keeper's rules allow |
 //!
 //! ```text
-//! bfqhost sim --scheduler none < SCRIPT
+//! bfqhost sim < SCRIPT
 //! ```
 //!
 //! | status | |
