@@ -1,17 +1,17 @@
 -- The bounds of the numbers, after each exchange.
-use Rattle.std.proofs.Common.{◌≡◌, ℕ, zero, suc, ◌+◌, ◌≤◌, ◌^◌, ◌==◌, List, [], ◌∷◌, Option, Some, None, Bool, true, false, cond, if◌then◌else◌, slice_index_or, slice_set, refl, sym, subst, ap, ◌∙◌, arith}
+use Rattle.std.proofs.Common.{◌≡◌, ℕ, zero, suc, ◌≤◌, ◌^◌, ◌==◌, List, [], ◌∷◌, Option, Some, None, true, false, if◌then◌else◌, slice_index_or, slice_set, sym, subst}
 use Rattle.service_tree.specs.declared.member.Member.{Member}
 use Rattle.service_tree.specs.Members.{Service}
 use Rattle.change_record.specs.declared.change.InService.{InService}
-use Rattle.change_record.specs.Exchange.{with_member, with_vtime}
+use Rattle.change_record.specs.Exchange.{with_member}
 use Rattle.change_record.specs.Machine.{Bfq, put}
-use Rattle.bfq_select.specs.Rules.{put_member, put_vtime}
+use Rattle.bfq_select.specs.Rules.{put_member}
 use Rattle.bfq_select.specs.Service.{IsBounded}
 
 -- what holds of each member and of the new one holds of each after it is put
-pub each_set : (P : Member → Type 0) (xs : List (Option Member)) (i : ℕ) (new : Member)
-    → ((j : ℕ) (m : Member) → slice_index_or xs j None ≡ Some m → P m) → P new
-    → (j : ℕ) (m : Member) → slice_index_or (slice_set xs i (Some new)) j None ≡ Some m → P m
+pub each_set : {A : Type 0} (P : A → Type 0) (xs : List (Option A)) (i : ℕ) (new : A)
+    → ((j : ℕ) (m : A) → slice_index_or xs j None ≡ Some m → P m) → P new
+    → (j : ℕ) (m : A) → slice_index_or (slice_set xs i (Some new)) j None ≡ Some m → P m
 each_set P [] i new all here j m e = all j m e
 each_set P (x ∷ xs) zero new all here zero m e = let same : new ≡ m = cc in subst P same here
 each_set P (x ∷ xs) zero new all here (suc j) m e = all (suc j) m e

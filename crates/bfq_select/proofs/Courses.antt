@@ -1,5 +1,5 @@
 -- Parts of a step, one after the other.
-use Rattle.std.proofs.Common.{◌≡◌, ℕ, ◌+◌, ◌≤◌, length, refl, ap, ◌∙◌, arith}
+use Rattle.std.proofs.Common.{ℕ, ◌+◌, ◌≤◌, refl, ap, ◌∙◌, arith}
 use Rattle.change_record.specs.Tables.{Tables}
 use Rattle.change_record.specs.Tape.{Record}
 use Rattle.bfq_select.specs.Service.{OnlyServes}

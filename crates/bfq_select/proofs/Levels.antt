@@ -1,5 +1,5 @@
 -- The choice, level by level.
-use Rattle.std.proofs.Common.{◌≡◌, ℕ, suc, ◌-◌, ◌<◌, ◌≤◌, Option, Some, None, Bool, true, false, if◌then◌else◌, nat_lt, sym, ap, ◌∙◌, arith}
+use Rattle.std.proofs.Common.{◌≡◌, ℕ, suc, ◌-◌, Option, Some, None, true, false, if◌then◌else◌, nat_lt, sym, ap, ◌∙◌}
 use Rattle.change_record.specs.Machine.{Bfq}
 use Rattle.bfq_select.specs.Rules.{select_from, jumped, picked, in_service, on_pick, taken}
 

@@ -4,3 +4,4 @@ pub mod Bounds
 pub mod Paths
 pub mod Levels
 pub mod Slots
+pub mod Opening

@@ -1,5 +1,5 @@
 -- A rule at each entity of a path: one entity more, and a refusal.
-use Rattle.std.proofs.Common.{◌≡◌, ℕ, suc, ◌+◌, ◌<◌, List, [], ◌∷◌, Option, Some, None, true, get_or, drop, length, if◌then◌else◌, refl, sym, ap, ◌∙◌, add-one, drop-cons}
+use Rattle.std.proofs.Common.{◌≡◌, ℕ, ◌+◌, ◌<◌, List, ◌∷◌, Option, Some, None, true, get_or, drop, length, if◌then◌else◌, sym, ap, ◌∙◌, add-one, drop-cons}
 use Rattle.std.specs.Option.{option_and_then}
 use Rattle.change_record.specs.Machine.{Bfq}
 use Rattle.bfq_select.specs.Rules.{along, activate_path, is_idle, member_of, start_from, stamp}

@@ -1,10 +1,9 @@
 -- Tables on which the rules of BFQ run: their lengths, and the bounds of their numbers (our profile).
-use Rattle.std.specs.Prelude.{◌≡◌, ℕ, ◌+◌, ◌<◌, ◌≤◌, ◌^◌, length, Option, None, Some, slice_index_or}
+use Rattle.std.specs.Prelude.{◌≡◌, ℕ, ◌<◌, ◌≤◌, ◌^◌, length, None, Some, slice_index_or}
 use Rattle.service_tree.specs.declared.member.Member.{Member}
 use Rattle.change_record.specs.declared.change.InService.{InService}
 use Rattle.change_record.specs.Tables.{Tables}
 use Rattle.change_record.specs.Machine.{Bfq, bfq_of}
-use Rattle.bfq_select.specs.Rules.{top}
 
 -- the lengths of the tables; groups are below 32, and a seat below 16 is in service
 pub record IsSized (t : Tables) : Type 0 where

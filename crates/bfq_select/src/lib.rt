@@ -1,5 +1,16 @@
 #![tactic(auto)]
 //! The four rules of BFQ: who is served next, for how long, and what a service costs in virtual time.
+//!
+//! | call | rule that it meets |
+//! |---|---|
+//! | [`activate`] | a session waits to be served, and so does each group above it that was idle |
+//! | [`select`] | at each level from the root down the pick is taken into service |
+//! | [`charge`] | the virtual times on the path of the queue in service rise by what it was sent |
+//! | [`expire`] | the queue in service leaves it with a new budget, and its path at the finish of what it was served |
+//!
+//! The rules stand in `specs/Rules.antt`, on the plain machine: a call makes the exchanges that lead there, through the
+//! tape. An exchange on one place is made by its setter alone, whose clauses speak of the plain machine already.
+//! A time never passes 2^62: a rule that would make a greater one is refused, and what it has exchanged leads back.
 
 mod activating;
 mod charging;
@@ -13,3 +24,6 @@ mod stamping;
 
 pub use expiry::{Expiry, VtimeFull};
 pub use rules::{activate, charge, expire, select};
+
+#[cfg(test)]
+mod tests;

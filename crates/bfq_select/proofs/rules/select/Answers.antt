@@ -1,4 +1,4 @@
-use Rattle.std.proofs.Common.{◌≡◌, ◌+◌, ◌-◌, ◌*◌, ◌<◌, ℕ, suc, nat_lt, true, false, sym, ◌∙◌, arith, rules}
+use Rattle.std.proofs.Common.{◌≡◌, ◌+◌, ◌-◌, ◌*◌, ℕ, suc, nat_lt, true, false, sym, ◌∙◌, arith, rules}
 use Rattle.change_record.specs.Machine.{bfq_of}
 use Rattle.bfq_select.specs.Course.{Exchanges}
 use Rattle.bfq_select.proofs.Courses.{course_more}
