@@ -55,7 +55,8 @@ fn is_stored(machine: &Machine) -> bool {
     }
 }
 
-// A block is stored, step by step; the lists have 1, 4, 3, 5 and 3 exchanges.
+// A block is stored, step by step. The lists have 6, 5, 10, 5 and 3 exchanges: the submit activates one entity, and the
+// dispatch selects it (2), charges it (2) and lets it expire for emptying (3).
 #[test]
 fn store_of_a_block(rt: HostRuntime) -> Result<(), Fail> {
     let alloc = rt.alloc();
@@ -83,7 +84,7 @@ fn store_of_a_block(rt: HostRuntime) -> Result<(), Fail> {
     );
     assert!(rt; machine.view().in_flight(0).is_some());
     assert!(rt; !is_stored(&machine));
-    assert_eq!(rt; machine.turns(), 8);
+    assert_eq!(rt; machine.turns(), 21);
 
     let finish = Step::Finish {
         tag: 0,
@@ -100,7 +101,7 @@ fn store_of_a_block(rt: HostRuntime) -> Result<(), Fail> {
     assert_eq!(rt; applied(alloc, &mut machine, &mut tape, 5, &reap), 2);
     assert_eq!(rt; machine.view().outbox_len(0), 0);
     assert_eq!(rt; tape.len(), 5);
-    assert_eq!(rt; machine.turns(), 16);
+    assert_eq!(rt; machine.turns(), 29);
     Ok(())
 }
 
@@ -120,7 +121,7 @@ fn refused_step(rt: HostRuntime) -> Result<(), Fail> {
     Ok(())
 }
 
-// A step is turned back, and forth again; each makes its one exchange.
+// A step is turned back, and forth again; each makes its six exchanges.
 #[test]
 fn attach_back_and_forth(rt: HostRuntime) -> Result<(), Fail> {
     let alloc = rt.alloc();
@@ -136,13 +137,48 @@ fn attach_back_and_forth(rt: HostRuntime) -> Result<(), Fail> {
         Answer::Refused(_) => return Err(Fail::from("the seat is free")),
         Answer::NotYet(_) => return Err(Fail::from("no attach waits")),
     }
-    assert_eq!(rt; tape.size(0), 1);
-    assert_eq!(rt; machine.turns(), 1);
+    assert_eq!(rt; tape.size(0), 6);
+    assert_eq!(rt; machine.turns(), 6);
     machine.back(&mut tape, 0);
-    assert_eq!(rt; machine.turns(), 2);
+    assert_eq!(rt; machine.turns(), 12);
     machine.forth(&mut tape, 0)?;
-    assert_eq!(rt; machine.turns(), 3);
-    assert_eq!(rt; machine.view().turns(), 3);
+    assert_eq!(rt; machine.turns(), 18);
+    assert_eq!(rt; machine.view().turns(), 18);
+    Ok(())
+}
+
+// A group is made, gets another weight, which is pending, and goes: 4, 1 and 2 exchanges.
+#[test]
+fn group_made_and_dropped(rt: HostRuntime) -> Result<(), Fail> {
+    let alloc = rt.alloc();
+    let mut machine = Machine::new(alloc, Config::check(ConfigDraft::default())?, 8)?;
+    let mut tape = Tape::new(alloc);
+    let make = Step::GroupMake {
+        parent: 0,
+        weight: 100,
+    };
+    let weigh = Step::SetWeight {
+        group: 1,
+        weight: 200,
+    };
+    assert_eq!(rt; machine.view().vtime(1), None);
+    assert_eq!(rt; applied(alloc, &mut machine, &mut tape, 1, &make), 0);
+    assert_eq!(rt; machine.turns(), 4);
+    assert_eq!(rt; machine.view().vtime(1), Some(0));
+    assert_eq!(rt; applied(alloc, &mut machine, &mut tape, 2, &weigh), 0);
+    assert_eq!(rt; machine.turns(), 5);
+    let Some(entity) = machine.view().entity(17) else {
+        return Err(Fail::from("the group is an entity"));
+    };
+    assert_eq!(rt;
+        (entity.weight, entity.budget, entity.service),
+        (100, 4096, 0)
+    );
+
+    let drop = Step::GroupDrop { group: 1 };
+    assert_eq!(rt; applied(alloc, &mut machine, &mut tape, 3, &drop), 0);
+    assert_eq!(rt; machine.turns(), 7);
+    assert_eq!(rt; machine.view().entity(17), None);
     Ok(())
 }
 

@@ -111,8 +111,8 @@ fn undone_and_redone(rt: HostRuntime) -> Result<(), Fail> {
     assert!(rt; keeper.view().machine().in_flight(0).is_some());
     assert_eq!(rt; keeper.view().machine().outbox_len(0), 0);
 
-    // The steps make 1, 4, 3 and 5 exchanges, the Undo and the Redo of one step 5 each, the Undo of two 8, the Dispatch 3.
-    assert_eq!(rt; keeper.view().machine().turns(), 34);
+    // The steps make 6, 5, 10 and 5 exchanges, the Undo and the Redo of one step 5 each, the Undo of two 15, the Dispatch 10.
+    assert_eq!(rt; keeper.view().machine().turns(), 61);
 
     // Four steps, a hold, an undo, a redo, an undo, a release and a step.
     assert_eq!(rt; keeper.journal_len(), 10);

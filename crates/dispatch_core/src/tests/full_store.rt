@@ -83,14 +83,14 @@ fn attached(
         group: 0,
         prio: 4,
     };
-    let Reply::Attached { session } = turned(rt, machine, tape, 1, &attach, 1)? else {
+    let Reply::Attached { session } = turned(rt, machine, tape, 1, &attach, 6)? else {
         return Err(Fail::from("the seat is not taken"));
     };
     assert_eq!(rt; session, 1);
     Ok(())
 }
 
-// The stores, each with its own serial: the first begins a request, and the others join it.
+// The stores, each with its own serial: the first begins a request and activates an entity, and the others join it.
 fn submitted(
     rt: &(impl Abort + AllocGlobal),
     machine: &mut Machine,
@@ -113,7 +113,7 @@ fn submitted(
             },
             payload: payload.clone()?,
         };
-        let exchanges = if serial == 2 { 4 } else { 3 };
+        let exchanges = if serial == 2 { 5 } else { 3 };
         let Reply::Queued { bio } = turned(rt, machine, tape, serial, &store, exchanges)? else {
             return Err(Fail::from("the store is not queued"));
         };
@@ -123,7 +123,7 @@ fn submitted(
     Ok(())
 }
 
-// The stores are one request, and it is sent to the device.
+// The stores are one request, and it is sent to the device: its entity is selected (2), charged (2), and expires (3).
 fn sent(rt: &(impl Abort + AllocGlobal), machine: &mut Machine, tape: &mut Tape) -> Result<(), Fail>
     requires well { IsFor 34 machine.old }
     requires idle { tape.old.current ≡ [] }
@@ -140,7 +140,7 @@ fn sent(rt: &(impl Abort + AllocGlobal), machine: &mut Machine, tape: &mut Tape)
         issue,
         op,
         range,
-    } = turned(rt, machine, tape, 34, &Step::Dispatch, 3)?
+    } = turned(rt, machine, tape, 34, &Step::Dispatch, 10)?
     else {
         return Err(Fail::from("the request is not issued"));
     };
@@ -188,8 +188,8 @@ fn all_steps(
     finished(rt, machine, tape)?;
     assert_eq!(rt; tape.len(), 35);
 
-    // 1, 4, 31 times 3, 3 and 291 exchanges, each made three times.
-    assert_eq!(rt; machine.turns(), 1176);
+    // 6, 5, 31 times 3, 10 and 291 exchanges, each made three times.
+    assert_eq!(rt; machine.turns(), 1215);
     Ok(())
 }
 
