@@ -13,17 +13,22 @@
 //! | [`ServiceTree::pick`] | of the eligible members the one with the least finish, on a tie the lower number |
 //! | [`ServiceTree::least_start`] | the least start of the active members |
 //! | [`ServiceTree::weight_sum`] | the sum of the weights that count at a virtual time |
+//! | [`plain_pick`] | what `pick` answers, by the definition run as it stands: slow, to compare with |
+//! | [`plain_least_start`] | likewise what `least_start` answers |
+//! | [`plain_weight_sum`] | likewise what `weight_sum` answers |
 //!
 //! It knows nothing of groups: whose members these are, and what follows a pick, is the business of its owner.
 //! Its contracts see the virtual time and a list of 48 places, one for each entity number.
 
-ghost use Rattle.std.specs.Prelude.{◌≡◌, None, Some, MatchOption, replicate, slice_index_or, slice_set};
+ghost use Rattle.std.specs.Prelude.{◌≡◌, None, Some, MatchOption, length, replicate, slice_index_or, slice_set};
 ghost use Rattle.service_tree.specs.Members.{IsLeastStart, IsPicked, NoneActive, NoneEligible, WeighsAtMost, least_start, pick, weight_sum};
 
 mod member;
+mod plain;
 
 pub use member::{Member, State};
 use member::{is_active, is_eligible, lesser, sooner, weight_in_sum};
+pub use plain::{plain_least_start, plain_pick, plain_weight_sum};
 use sector_core::Entity;
 use std::marker::Model;
 use std::mem;
@@ -74,6 +79,15 @@ impl ServiceTree {
         ensures old { result ≡ self.old.vtime }
     {
         mem::replace(&mut self.vtime, vtime)
+    }
+
+    // How many entities have a place.
+    fn places(&self) -> u8
+        ensures value { result ≡ 48 }
+        ensures length { length self.now.members ≡ 48 }
+    {
+        let _ = &self.members;
+        ENTITIES
     }
 
     /// What is known of an entity, if it is a member.
