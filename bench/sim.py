@@ -1,11 +1,17 @@
 #!/usr/bin/env python3
-"""Time and memory of `bfqhost sim --scheduler none`, for each accepted call.
+"""Time and memory of `bfqhost sim`, for each accepted call.
 
     python3 bench/sim.py [WORKLOAD]...
 
-There are two workloads over 1,024 sectors, each of cycles after one attach. A cycle of `writes` is one write of one
-sector, its dispatch, its finish and its reap. A cycle of `merging reads` is 32 reads of 8 sectors in a row, which
-become one request, its dispatch, its finish with all bytes 0, and 32 reaps. With no workload named both are run.
+There are three workloads over 1,024 sectors, each of cycles after an opening. With no workload named all are run.
+
+`writes` and `merging reads` run with the scheduler none, and open with one attach. A cycle of `writes` is one write of
+one sector, its dispatch, its finish and its reap. A cycle of `merging reads` is 32 reads of 8 sectors in a row, which
+become one request, its dispatch, its finish with all bytes 0, and 32 reaps.
+
+`reads in groups` runs with the scheduler bfq. It opens with 31 groups in four levels, and with 16 sessions in the 16
+groups of the fourth. A cycle is two reads of one sector by each session, which do not merge, 32 dispatches, each with
+its finish with all bytes 0, and 32 reaps. The same calls run with the scheduler none beside it.
 
 Each figure is the median of 25 rounds, in user plus system time of the process, with that of an empty script of the
 same round taken off. Peak memory is that of the process, by getrusage, with that of an empty script taken off. Beside
@@ -22,12 +28,12 @@ from collections import namedtuple
 
 TOP = os.path.dirname(os.path.dirname(os.path.abspath(__file__)))
 PROGRAM = os.path.join(TOP, "crates", "bfqhost", "out", "bfqhost")
-WORDS = ["sim", "--scheduler", "none", "--history", "300000"]
+WORDS = ["sim", "--history", "300000", "--scheduler"]
 
 RUNS = 25
 SECTORS = 1024
 SECTOR_BYTES = 512
-# How many calls the scripts have after the attach, and how many steps are undone: of a workload whose cycle does not
+# How many calls the scripts have after the opening, and how many steps are undone: of a workload whose cycle does not
 # divide these, as many whole cycles as they hold.
 FEW = 6_000
 MANY = 60_000
@@ -36,6 +42,12 @@ BACK = 30_000
 MOST_GROWTH = 1.3
 MOST_UNDO = 0.5
 MOST_BYTES_PER_CALL = 1024
+MOST_AGAINST_NONE = 3
+
+SEATS = 16
+GROUPS = 31
+# The number of the first group of the fourth level: 2 + 4 + 8 groups are above it.
+FIRST_OF_FOURTH = 15
 
 # The number of prctl's option that makes this process the parent of processes whose own parent has ended.
 PR_SET_CHILD_SUBREAPER = 36
@@ -62,24 +74,54 @@ def merging_read_cycle(cycle, first):
         yield "reap 0 1", f"completed {bio} read" + " 00" * 8
 
 
-class Workload(namedtuple("Workload", "name cycle calls payload_sectors most_bytes")):
-    """A cycle, the calls that it has, the sectors that it writes or reads, and the bound on a call's bytes, if any."""
+ONE_ATTACH = [("attach 0 0 4", "attached 1")]
+
+
+def groups_and_seats():
+    """31 groups and 16 sessions: groups 2g + 1 and 2g + 2 stand in group g, as far as the fourth level, each of whose
+    groups has one seat. The path of a seat has five entities. The last group has none, and stands in the root."""
+    for group in range(1, GROUPS):
+        yield f"group {(group - 1) // 2} {100 * (1 + group % 3)}", f"group {group}"
+    yield "group 0 100", f"group {GROUPS}"
+    for seat in range(SEATS):
+        yield f"attach {seat} {FIRST_OF_FOURTH + seat} {seat % 8}", f"attached {GROUPS + 1 + seat}"
+
+
+def grouped_read_cycle(cycle, first):
+    """Likewise. Each session reads two sectors with one between them, and goes upwards from cycle to cycle, so that either
+    scheduler serves a session's reads in order. Whose read a dispatch takes is the scheduler's choice; here they stand in
+    order of the seats."""
+    reads = [(seat, 64 * seat + 4 * (cycle % 16) + 2 * half) for half in range(2) for seat in range(SEATS)]
+    for place, (seat, sector) in enumerate(reads):
+        yield f"read {seat} {GROUPS + 1 + seat} {sector} 1", f"queued {first + place}"
+    for place, (_, sector) in enumerate(reads):
+        issue = first + len(reads) + 2 * place
+        yield "dispatch", f"issued 0 {issue} fetch {sector} 1"
+        yield f"finish 0 {issue} fill 0", "finished 1"
+    for place, (seat, _) in enumerate(reads):
+        yield f"reap {seat} {GROUPS + 1 + seat}", f"completed {first + place} read 00"
+
+
+class Workload(namedtuple("Workload", "name scheduler opening cycle calls payload_sectors most_bytes most_against_none")):
+    """The lines before the cycles and what they print, a cycle, the calls that it has, the sectors that it writes or
+    reads, and the bounds on a call's bytes and on its time against that with the scheduler none, if any."""
 
     def whole(self, calls):
         """The greatest number of calls up to `calls` that whole cycles have."""
         return calls // self.calls * self.calls
 
     def script(self, calls):
-        """An attach and `calls` calls after it: the lines and what they print. No call is refused."""
-        pairs = [("attach 0 0 4", "attached 1")]
+        """The opening and `calls` calls after it: the lines and what they print. No call is refused."""
+        pairs = list(self.opening)
+        first = len(pairs) + 1
         for cycle in range(calls // self.calls):
-            pairs.extend(self.cycle(cycle, self.calls * cycle + 2))
+            pairs.extend(self.cycle(cycle, self.calls * cycle + first))
         return pairs
 
     def scripts(self):
-        """The scripts to be timed, by name."""
+        """The scripts to be timed with the workload's scheduler, by name."""
         many, back = self.whole(MANY), self.whole(BACK)
-        length = many + 1
+        length = len(self.opening) + many
         all_calls = self.script(many)
         held = all_calls + [("hold", f"moved {length} {length}")]
         undone = held + [(f"undo {back}", f"moved {length - back} {length}")]
@@ -93,15 +135,25 @@ class Workload(namedtuple("Workload", "name cycle calls payload_sectors most_byt
             "redone": undone + [(f"redo {back}", f"moved {length} {length}")],
         }
 
+    def runs(self):
+        """The scheduler and the script of each run to be timed, by name."""
+        scripts = self.scripts()
+        runs = {name: (self.scheduler, pairs) for name, pairs in scripts.items()}
+        if self.most_against_none is not None:
+            runs["empty, none"] = ("none", scripts["empty"])
+            runs["many, none"] = ("none", scripts["many"])
+        return runs
+
 
 WORKLOADS = [
-    Workload("writes", write_cycle, 4, 1, MOST_BYTES_PER_CALL),
+    Workload("writes", "none", ONE_ATTACH, write_cycle, 4, 1, MOST_BYTES_PER_CALL, None),
     # The bytes of a read stay for as long as its reap can be undone, so what a call leaves is mostly payload.
-    Workload("merging reads", merging_read_cycle, 66, 256, None),
+    Workload("merging reads", "none", ONE_ATTACH, merging_read_cycle, 66, 256, None, None),
+    Workload("reads in groups", "bfq", list(groups_and_seats()), grouped_read_cycle, 128, 32, None, MOST_AGAINST_NONE),
 ]
 
 
-def spent(path):
+def spent(scheduler, path):
     """Seconds of user plus system time and KiB of peak memory of one run on a script.
 
     A process that Python starts counts Python's own memory in its peak. So a shell starts the program and ends, and
@@ -110,7 +162,7 @@ def spent(path):
     """
     shell = 'exec 3<&0; { read -r go <&3; exec 3<&-; exec "$@" <"$script"; } >/dev/null & echo $!'
     started = subprocess.Popen(
-        ["/bin/sh", "-c", shell, "sh", PROGRAM, *WORDS],
+        ["/bin/sh", "-c", shell, "sh", PROGRAM, *WORDS, scheduler],
         env={**os.environ, "script": path}, stdin=subprocess.PIPE, stdout=subprocess.PIPE)
     pid = int(started.stdout.read())
     if started.wait() != 0:
@@ -124,30 +176,50 @@ def spent(path):
     return usage.ru_utime + usage.ru_stime, usage.ru_maxrss
 
 
-def check(path, wanted):
+def in_any_order(lines):
+    """The lines, with the ranges issued between two other calls than dispatches and finishes in order: whom a dispatch
+    serves is the scheduler's choice. Tags and issues stay where they are."""
+    ordered, places = list(lines), []
+    for place, line in enumerate([*lines, "end"]):
+        word = line.split(" ")[0]
+        if word == "issued":
+            places.append(place)
+        elif word != "finished":
+            words = [ordered[issued].split(" ") for issued in places]
+            ranges = sorted(issued[3:] for issued in words)
+            for issued, old, new in zip(places, words, ranges):
+                ordered[issued] = " ".join(old[:3] + new)
+            places = []
+    return ordered
+
+
+def check(scheduler, path, wanted):
     """Stops unless the script's output is as wanted: a call that is refused would cost less."""
     with open(path, "rb") as script:
-        printed = subprocess.run([PROGRAM, *WORDS], stdin=script, stdout=subprocess.PIPE, check=True).stdout
-    if printed.decode() != "".join(line + "\n" for line in wanted):
+        run = subprocess.run([PROGRAM, *WORDS, scheduler], stdin=script, stdout=subprocess.PIPE)
+    if run.returncode != 0:
+        sys.exit(f"bench: the program did not end well with the scheduler {scheduler}")
+    # The last line has its end too, so nothing stands behind it.
+    if in_any_order(run.stdout.decode().split("\n")) != in_any_order([*wanted, ""]):
         sys.exit("bench: the program's answers are not those of accepted calls")
 
 
 class Rounds:
-    """What each script took in each round."""
+    """What each run took in each round."""
 
-    def __init__(self, scripts):
-        self.seconds = {name: [] for name in scripts}
-        self.peaks = {name: [] for name in scripts}
+    def __init__(self, runs):
+        self.seconds = {name: [] for name in runs}
+        self.peaks = {name: [] for name in runs}
         with tempfile.TemporaryDirectory() as folder:
-            for name, pairs in scripts.items():
+            for name, (scheduler, pairs) in runs.items():
                 path = os.path.join(folder, name)
                 with open(path, "w") as script:
                     script.writelines(line + "\n" for line, _ in pairs)
-                check(path, [printed for _, printed in pairs])
+                check(scheduler, path, [printed for _, printed in pairs])
             # One round after the other, so that a slow moment of the machine meets all scripts alike.
             for _ in range(RUNS):
-                for name in scripts:
-                    time, peak = spent(os.path.join(folder, name))
+                for name, (scheduler, _) in runs.items():
+                    time, peak = spent(scheduler, os.path.join(folder, name))
                     self.seconds[name].append(time)
                     self.peaks[name].append(peak)
 
@@ -173,28 +245,33 @@ def show(what, measured, bound, is_kept):
 def run(workload):
     """Measures one workload and prints its figures. Gives whether each bound is kept."""
     few, many, back = workload.whole(FEW), workload.whole(MANY), workload.whole(BACK)
+    opening = len(workload.opening)
     payload = workload.payload_sectors * SECTOR_BYTES / workload.calls
-    rounds = Rounds(workload.scripts())
+    rounds = Rounds(workload.runs())
 
     start = statistics.median(rounds.seconds["empty"])
     print(f"{workload.name}: medians of {RUNS} runs; start of the process: {start * 1e3:.2f} ms, {rounds.peak('empty'):.0f} KiB")
     for name, calls in (("few", few), ("many", many)):
-        size = rounds.bytes_per_call(name, calls)
-        print(f"{calls:>7,} calls: {rounds.per_call(name, calls) * 1e6:6.3f} us and {size:6.0f} bytes per call, "
+        size = rounds.bytes_per_call(name, opening + calls)
+        print(f"{calls:>7,} calls: {rounds.per_call(name, opening + calls) * 1e6:6.3f} us and {size:6.0f} bytes per call, "
               f"{size - payload:6.0f} bytes beyond payload")
     steps = rounds.between("many", "half")
     undo = rounds.between("undone", "held")
     redo = rounds.between("redone", "undone")
     print(f"{back:>7,} steps: {steps * 1e3:.2f} ms; undone in {undo * 1e3:.2f} ms, redone in {redo * 1e3:.2f} ms")
 
-    growth = rounds.per_call("many", many) / rounds.per_call("few", few)
+    growth = rounds.per_call("many", opening + many) / rounds.per_call("few", opening + few)
     kept = [
         show(f"time per call at {many:,} against {few:,}", f"{growth:.2f}", f"at most {MOST_GROWTH}", growth <= MOST_GROWTH),
         show(f"undo {back:,} against its steps", f"{undo / steps:.2f}", f"at most {MOST_UNDO}", undo <= MOST_UNDO * steps),
         show(f"redo {back:,} against its steps", f"{redo / steps:.2f}", f"at most {MOST_UNDO}", redo <= MOST_UNDO * steps),
     ]
+    if workload.most_against_none is not None:
+        against = rounds.between("many", "empty") / rounds.between("many, none", "empty, none")
+        kept.append(show("time per call against the scheduler none", f"{against:.2f}", f"at most {workload.most_against_none}",
+                         against <= workload.most_against_none))
     if workload.most_bytes is not None:
-        beyond = rounds.bytes_per_call("many", many) - payload
+        beyond = rounds.bytes_per_call("many", opening + many) - payload
         kept.append(show("peak memory per call beyond payload", f"{beyond:.0f} bytes", f"at most {workload.most_bytes}",
                          beyond <= workload.most_bytes))
     return all(kept)
