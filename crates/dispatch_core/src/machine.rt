@@ -25,7 +25,7 @@ use crate::submit::run_submit;
 use crate::{Answer, Code, EntityView, RequestView, Sizes, Step, Work};
 use change_record::{Making, Parts, Tape};
 use plain_machine::requests_stay_whole;
-use sector_core::{Block, Config, OutOfMemory};
+use sector_core::{Block, Config, OutOfMemory, Scheduler};
 use std::alloc::Global;
 use std::marker::Model;
 
@@ -305,6 +305,14 @@ impl<'a> View<'a> {
             range: range_of_request(machine.parts.pool(), request),
             bios: request.bios.len() as u32,
         }
+    }
+
+    /// The scheduler.
+    pub fn scheduler(&self) -> Scheduler
+        ensures { result ≡ (plain_of self.now).scheduler }
+    {
+        let machine = self.machine;
+        machine.parts.scheduler()
     }
 
     /// The virtual time of a group; none where there is no such group.

@@ -5,7 +5,7 @@ ghost use Rattle.dispatch_core.specs.Running.{IsFor};
 use super::*;
 use bytes::Bytes;
 use change_record::Tape;
-use sector_core::{Config, ConfigDraft, Op, Outcome, Range};
+use sector_core::{Config, ConfigDraft, Op, Outcome, Range, Scheduler};
 use std::alloc::Global;
 use std::test::Fail;
 
@@ -161,6 +161,7 @@ fn group_made_and_dropped(rt: HostRuntime) -> Result<(), Fail> {
         group: 1,
         weight: 200,
     };
+    assert_eq!(rt; machine.view().scheduler(), Scheduler::Bfq);
     assert_eq!(rt; machine.view().vtime(1), None);
     assert_eq!(rt; applied(alloc, &mut machine, &mut tape, 1, &make), 0);
     assert_eq!(rt; machine.turns(), 4);
