@@ -9,6 +9,10 @@ from dataclasses import dataclass
 from typing import Optional
 
 SIM = ["sim", "--scheduler", "none"]
+# Under bfq a request in an empty queue activates its session: 1,024 sectors at weight 40 take 1,024 * 2^22 / 40.
+BFQ_SCRIPT = b"group 0 100\nattach 0 1 4\nread 0 2 0 8\nentity 0\nvtime 1\nvtime 2\nentity 18\ndrop 1\nweight 1 7\n"
+BFQ_TEXT = (b"group 1\nattached 2\nqueued 3\nentity 0 active 0 107374182 40 1024 0\nvtime 1 0\nvtime 2 none\nentity 18 none\n"
+            b"refused 11\ndone\n")
 
 # Statuses of `bfqhost sim`.
 DONE = 0
@@ -51,7 +55,7 @@ BAD_LINES = [
     bad_line(name, line)
     for name, line in [
         ("unknown word", b"submit 0 1 0 1"),
-        ("a line that is not there yet", b"vtime 0"),
+        ("a line that is not there yet", b"freeze"),
         ("capital letter", b"Dispatch"),
         ("part of a word", b"dispatc"),
         ("a word and more", b"dispatched"),
@@ -143,6 +147,10 @@ GOOD_LINES = [
     Case("good: last line without newline", SIM, b"hold\nline", b"moved 0 0\nline 0 0 0\n"),
     Case("good: last comment without newline", SIM, b"line\n#", b"line 0 0 0\n"),
     Case("good: attach", SIM, b"attach 0 0 4\n", b"attached 1\n"),
+    Case("good: no scheduler is bfq", ["sim"], BFQ_SCRIPT, BFQ_TEXT),
+    Case("good: scheduler bfq", ["sim", "--scheduler", "bfq"], BFQ_SCRIPT, BFQ_TEXT),
+    Case("good: scheduler none knows entities and activates none", SIM, BFQ_SCRIPT,
+         b"group 1\nattached 2\nqueued 3\nentity 0 idle 0 0 40 1024 0\nvtime 1 0\nvtime 2 none\nentity 18 none\nrefused 11\ndone\n"),
     Case("good: queue", SIM, b"queue 0\nattach 0 0 4\nqueue 0\nread 0 1 100 8\nread 0 1 36 4\nqueue 0\nqueue 1\nqueue 16\n",
          b"queue none\nattached 1\nqueue\nqueued 2\nqueued 3\nqueue 100+8x1 36+4x1\nqueue none\nqueue none\n"),
     Case("good: greatest numbers of each type", SIM,
@@ -160,8 +168,6 @@ BAD_WORDS_CASES = [
     refused("none", []),
     refused("options with no command", SIM[1:]),
     refused("unknown command", ["run"] + SIM[1:]),
-    refused("no scheduler", ["sim"]),
-    refused("scheduler bfq", ["sim", "--scheduler", "bfq"]),
     refused("unknown scheduler", ["sim", "--scheduler", "kyber"]),
     refused("scheduler in capitals", ["sim", "--scheduler", "NONE"]),
     refused("scheduler with no value", ["sim", "--scheduler"]),

@@ -27,7 +27,7 @@ OPTIONS
     --tags N             tags of the device, 1 to 64 (4)
     --first-budget N     sectors of a new queue's budget, 256 to --max-budget (1024)
     --max-budget N       sectors of the greatest budget, 256 to 65536 (4096)
-    --timeout N          ticks until a queue in service expires, 1 to 1000 (8)
+    --timeout N          no effect yet, 1 to 1000 (8)
     --history N          accepted calls at most, 1 to 16777216 (65536)
     --first-vtime N      virtual time at the start, 0 to 2^62 (0)
     --sectors N          sectors of the device in memory, 0 to 65536 (1024)
