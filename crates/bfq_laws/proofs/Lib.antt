@@ -1,0 +1,4 @@
+pub mod Puts
+pub mod Quiet
+pub mod Walk
+pub mod Enough

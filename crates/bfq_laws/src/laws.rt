@@ -1,0 +1,15 @@
+// Laws of BFQ on the machine of every keeper.
+ghost use Rattle.bfq_laws.specs.Budgets.{BudgetsAreEnough};
+ghost use Rattle.plain_machine.specs.Step.{Limits};
+ghost use Rattle.plain_machine.specs.declared.call.Call.{Call};
+ghost use Rattle.std.specs.Prelude.{ℕ, List};
+
+use plain_machine::requests_stay_whole;
+
+/// On the machine of every keeper that a journal makes, each entity has a budget of 256 sectors or more, where the first
+/// budget and the greatest one are so. The contract is the law.
+pub fn budgets_are_enough()
+    ensures { (l : Limits) (most : ℕ) (journal : List Call) → BudgetsAreEnough l most journal }
+{
+    requests_stay_whole();
+}

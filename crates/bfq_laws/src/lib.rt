@@ -1,0 +1,12 @@
+#![tactic(auto)]
+//! Laws of the machine under BFQ: what holds after every run, whatever its calls were.
+//!
+//! `specs/` has what the laws say: `Budgets` has budgets, and the service that is within them.
+//!
+//! | call | rule that it meets |
+//! |---|---|
+//! | [`budgets_are_enough`] | no entity's budget is under 256 sectors, the most that a request has |
+
+mod laws;
+
+pub use laws::budgets_are_enough;
