@@ -19,7 +19,7 @@ use Rattle.bfq_laws.proofs.Quiet.{activate-quiet, select-budgets, charge-slot, e
 use Rattle.bfq_laws.proofs.Walk.{Keeps, machine-keeps}
 
 -- budgets that are the same
-same-enough : (b c : Bfq) → c.budget ≡ b.budget → AreEnough b → AreEnough c
+pub same-enough : (b c : Bfq) → c.budget ≡ b.budget → AreEnough b → AreEnough c
 same-enough b c e h = let P : (ℕ → ℕ) → Type 0 = λ budget. (entity : ℕ) → 256 ≤ budget entity in subst P (sym e) h
 
 -- one budget is another one, and enough
@@ -42,7 +42,7 @@ expire-enough cause most queued b c le e h =
     same-enough (record b { budget = put b.budget x.0.seat v }) c x.2 now
 
 -- Submit
-woken-enough : (m : Plain) (seat : ℕ) (next o : Plain) → next.bfq ≡ m.bfq → woken m seat next ≡ Some o → AreEnough m.bfq → AreEnough o.bfq
+pub woken-enough : (m : Plain) (seat : ℕ) (next o : Plain) → next.bfq ≡ m.bfq → woken m seat next ≡ Some o → AreEnough m.bfq → AreEnough o.bfq
 woken-enough m seat next o same e h =
     elim (is_bfq m.scheduler && is_empty (m.queue seat)) as (λ t. cond t (option_map (λ b. record next { bfq = b }) (activate seat m.bfq)) (Some next) ≡ Some o → AreEnough o.bfq) [
       | true ↦ λ is.

@@ -2,3 +2,5 @@ pub mod Puts
 pub mod Quiet
 pub mod Walk
 pub mod Enough
+pub mod Known
+pub mod Within

@@ -1,6 +1,7 @@
 -- What budgets are on every machine of a keeper.
-use Rattle.std.specs.Prelude.{ℕ, ◌≤◌, List}
-use Rattle.change_record.specs.Machine.{Bfq}
+use Rattle.std.specs.Prelude.{◌≡◌, ℕ, ◌≤◌, true, List, Some, is_some}
+use Rattle.change_record.specs.declared.change.InService.{InService}
+use Rattle.change_record.specs.Machine.{Bfq, Plain}
 use Rattle.plain_machine.specs.declared.call.Call.{Call}
 use Rattle.plain_machine.specs.Step.{Limits}
 use Rattle.plain_machine.specs.Keeper.{machine_of, replay}
@@ -12,3 +13,12 @@ AreEnough b = (entity : ℕ) → 256 ≤ b.budget entity
 -- so it is on the machine of every keeper that a journal makes, where a new queue's budget is so, and the greatest one is no lesser
 abbrev pub BudgetsAreEnough : Limits → ℕ → List Call → Type 0
 BudgetsAreEnough l most journal = 256 ≤ l.first_budget → l.first_budget ≤ l.max_budget → AreEnough (machine_of (replay l most journal)).bfq
+
+-- the queue in service is that of a seat that is taken, and it has been sent no more sectors than its budget (bfq: a queue is served within
+-- its budget)
+abbrev pub ServiceIsWithin : Plain → Type 0
+ServiceIsWithin m = (slot : InService) → m.bfq.slot ≡ Some slot → (is_some (m.seat slot.seat) ≡ true) × (slot.service ≤ m.bfq.budget slot.seat)
+
+-- so it is on the machine of every such keeper
+abbrev pub ServiceIsWithinBudget : Limits → ℕ → List Call → Type 0
+ServiceIsWithinBudget l most journal = 256 ≤ l.first_budget → l.first_budget ≤ l.max_budget → ServiceIsWithin (machine_of (replay l most journal))

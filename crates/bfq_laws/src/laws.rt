@@ -1,5 +1,5 @@
 // Laws of BFQ on the machine of every keeper.
-ghost use Rattle.bfq_laws.specs.Budgets.{BudgetsAreEnough};
+ghost use Rattle.bfq_laws.specs.Budgets.{BudgetsAreEnough, ServiceIsWithinBudget};
 ghost use Rattle.plain_machine.specs.Step.{Limits};
 ghost use Rattle.plain_machine.specs.declared.call.Call.{Call};
 ghost use Rattle.std.specs.Prelude.{ℕ, List};
@@ -10,6 +10,14 @@ use plain_machine::requests_stay_whole;
 /// budget and the greatest one are so. The contract is the law.
 pub fn budgets_are_enough()
     ensures { (l : Limits) (most : ℕ) (journal : List Call) → BudgetsAreEnough l most journal }
+{
+    requests_stay_whole();
+}
+
+/// There the queue in service, if one is, is that of a seat that is taken, and it has been sent no more sectors than its
+/// budget. The contract is the law.
+pub fn service_is_within_budget()
+    ensures { (l : Limits) (most : ℕ) (journal : List Call) → ServiceIsWithinBudget l most journal }
 {
     requests_stay_whole();
 }

@@ -6,7 +6,8 @@
 //! | call | rule that it meets |
 //! |---|---|
 //! | [`budgets_are_enough`] | no entity's budget is under 256 sectors, the most that a request has |
+//! | [`service_is_within_budget`] | the queue in service has been sent no more sectors than its budget |
 
 mod laws;
 
-pub use laws::budgets_are_enough;
+pub use laws::{budgets_are_enough, service_is_within_budget};

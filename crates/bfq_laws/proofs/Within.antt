@@ -1,0 +1,273 @@
+-- The queue in service has been sent no more sectors than its budget.
+use Rattle.std.proofs.Common.{true, false, Bool, ◌≡◌, ◌≢◌, inl, inr, ℕ, zero, suc, ◌+◌, ◌≤◌, nat_lt, ◌&&◌, List, [], ◌∷◌, Option, Some, None, All, is_some, cond, slice_index_or, replicate, refl, sym, ap, ◌∙◌, subst, arith}
+use Rattle.std.specs.List.{find}
+use Rattle.std.specs.Option.{is_none, option_map, option_map_or, option_and_then}
+use Rattle.std.proofs.lemmas.Bool.{cases_eq, ltb-false}
+use Rattle.std.proofs.lemmas.List.Elements.{All-head, All-tail}
+use Rattle.service_tree.specs.declared.member.Member.{Member}
+use Rattle.sector_core.specs.declared.bio.Bio.{Bio}
+use Rattle.process_queue.specs.Queue.{is_empty}
+use Rattle.process_queue.specs.Next.{has_start, wanted, starts}
+use Rattle.group_tree.specs.Groups.{entity_of}
+use Rattle.change_record.specs.declared.change.Seat.{Seat}
+use Rattle.change_record.specs.declared.change.InService.{InService}
+use Rattle.change_record.specs.Tables.{empty_service}
+use Rattle.change_record.specs.Machine.{WholeRequest, Bfq, Plain, put}
+use Rattle.bfq_select.specs.declared.expiry.Expiry.TheVariants.{Exhaustion, Emptying}
+use Rattle.bfq_select.specs.Rules.{group_of, activate, select, charge, expire}
+use Rattle.plain_machine.specs.declared.answer.Reply.{Reply}
+use Rattle.plain_machine.specs.declared.call.Call.{Call}
+use Rattle.plain_machine.specs.Step.{Limits, opening, is_bfq, with_entity, attached, submitted, woken, size_of, range_of, next_request, next_size, with_budget_in, with_slot, without_first, without_empty, sent_next, sent_in, sent_by_bfq, shape}
+use Rattle.plain_machine.specs.Keeper.{machine_of, replay}
+use Rattle.plain_machine.specs.Whole.{IsWhole, AreWhole, KeepsWhole}
+use Rattle.bfq_laws.specs.Budgets.{AreEnough, ServiceIsWithinBudget}
+use Rattle.bfq_laws.proofs.Puts.{put_here, put_other, some_is, and_then_is, map_is}
+use Rattle.bfq_laws.proofs.Quiet.{activate-quiet, select-budgets, charge-slot, expire-slot}
+use Rattle.bfq_laws.proofs.Walk.{Keeps, machine-keeps}
+use Rattle.bfq_laws.proofs.Enough.{put-enough, same-enough, expire-enough, opening-enough}
+use Rattle.bfq_laws.proofs.Known.{Known, AreFit, Sits, Begins, member-known, vtime-known, activate-known, select-begins, charge-known, expire-known}
+
+-- the queue in service is that of a seat that is taken, and has been sent no more than its budget
+abbrev pub Served : (ℕ → Option Seat) → Bfq → Type 0
+Served seats b = (slot : InService) → b.slot ≡ Some slot → (is_some (seats slot.seat) ≡ true) × (slot.service ≤ b.budget slot.seat)
+
+-- with what is known of the members of groups
+pub record Within (m : Plain) : Type 0 where
+  pub enough : AreEnough m.bfq
+  pub known : Known m.seat m.bfq
+  pub served : Served m.seat m.bfq
+
+-- more seats are taken
+abbrev Grows : (ℕ → Option Seat) → (ℕ → Option Seat) → Type 0
+Grows before after = (seat : ℕ) → is_some (before seat) ≡ true → is_some (after seat) ≡ true
+
+grown-known : (before after : ℕ → Option Seat) (b : Bfq) → Grows before after → Known before b → Known after b
+grown-known before after b grows h group entity there small = grows entity (h group entity there small)
+
+grown-served : (before after : ℕ → Option Seat) (b : Bfq) → Grows before after → Served before b → Served after b
+grown-served before after b grows h slot e = let s = h slot e in (grows slot.seat s.0, s.1)
+
+-- a seat that is taken again, or whose count changes, is taken
+put-grows : (seats : ℕ → Option Seat) (seat : ℕ) (entry : Option Seat) → (is_some (seats seat) ≡ true → is_some entry ≡ true) → Grows seats (put seats seat entry)
+put-grows seats seat entry stays e sits = elim (cases_eq e seat) [
+  | inl same ↦ ap is_some (put_here seats seat entry e same) ∙ stays (sym (ap (λ k. is_some (seats k)) same) ∙ sits)
+  | inr other ↦ ap is_some (put_other seats seat entry e other) ∙ sits
+]
+
+mapped-some : (f : Seat → Seat) (o : Option Seat) → is_some o ≡ true → is_some (option_map f o) ≡ true
+mapped-some f None e = e
+mapped-some f (Some s) e = refl
+
+-- Attach: a free seat is not that of the queue in service.
+attached-within : (l : Limits) → 256 ≤ l.first_budget → (m : Plain) (n seat group prio : ℕ) → m.seat seat ≡ None → Within m → Within (attached l m n seat group prio)
+attached-within l first m n seat group prio free h =
+    let next : Plain = attached l m n seat group prio in
+    let grows : Grows m.seat next.seat = put-grows m.seat seat _ (λ _. refl) in
+    record {
+      enough = put-enough m.bfq.budget seat l.first_budget first h.enough;
+      known = member-known next.seat m.bfq.service group seat _ (λ _. ap is_some (put_here m.seat seat _ seat refl)) (grown-known m.seat next.seat m.bfq grows h.known);
+      served = λ slot e.
+          let s = h.served slot e in
+          let other : slot.seat ≢ seat = λ same. let none : is_some (m.seat slot.seat) ≡ false = ap (λ k. is_some (m.seat k)) same ∙ ap is_some free in cc in
+          let budget : put m.bfq.budget seat l.first_budget slot.seat ≡ m.bfq.budget slot.seat = put_other m.bfq.budget seat l.first_budget slot.seat other in
+          let le : slot.service ≤ m.bfq.budget slot.seat = s.1 in
+          (grows slot.seat s.0, omega (arith, le, budget));
+    }
+
+-- Submit
+woken-within : (m : Plain) (seat : ℕ) (next o : Plain) → next.bfq ≡ m.bfq → Grows m.seat next.seat → is_some (m.seat seat) ≡ true → woken m seat next ≡ Some o → Within m → Within o
+woken-within m seat next o same grows sits e h =
+    elim (is_bfq m.scheduler && is_empty (m.queue seat)) as (λ t. cond t (option_map (λ b. record next { bfq = b }) (activate seat m.bfq)) (Some next) ≡ Some o → Within o) [
+      | true ↦ λ is.
+          let a = map_is (λ b. record next { bfq = b }) (activate seat m.bfq) o is in
+          let b : Bfq = a.0 in
+          let quiet = activate-quiet seat m.bfq b a.1 in
+          subst Within a.2 (record {
+            enough = same-enough m.bfq b quiet.0 h.enough;
+            known = grown-known m.seat next.seat b grows (activate-known m.seat seat m.bfq b sits a.1 h.known);
+            served = λ slot at.
+                let s = h.served slot (sym quiet.1 ∙ at) in
+                let budget : b.budget slot.seat ≡ m.bfq.budget slot.seat = ap (λ (f : ℕ → ℕ). f slot.seat) quiet.0 in
+                let le : slot.service ≤ m.bfq.budget slot.seat = s.1 in
+                (grows slot.seat s.0, omega (arith, le, budget));
+          })
+      | false ↦ λ is.
+          let P : Bfq → Type 0 = λ b. AreEnough b × Known next.seat b × Served next.seat b in
+          let all : P next.bfq = subst P (sym same) (h.enough, grown-known m.seat next.seat m.bfq grows h.known, grown-served m.seat next.seat m.bfq grows h.served) in
+          subst Within (some_is next o is) (record { enough = all.0; known = all.1; served = all.2 })
+    ] e
+
+-- the next request of a queue has 256 sectors at most
+All-find : {A : Type 0} (P : A → Type 0) (passes : A → Bool) (xs : List A) (x : A) → find passes xs ≡ Some x → All P xs → P x
+All-find P passes [] x e h = cc
+All-find P passes (y ∷ ys) x e h = elim (passes y) as (λ b. cond b (Some y) (find passes ys) ≡ Some x → P x) [
+  | true ↦ λ here. subst P (some_is y x here) (All-head P y ys h)
+  | false ↦ λ later. All-find P passes ys x later (All-tail P y ys h)
+] e
+
+next-whole : (m : Plain) (seat : ℕ) (r : WholeRequest) → AreWhole m → next_request m seat ≡ Some r → IsWhole r
+next-whole m seat r whole e =
+    let w = and_then_is (λ sector. find (has_start shape sector) (m.queue seat)) (wanted (m.head seat) (starts shape (m.queue seat))) r e in
+    All-find IsWhole (has_start shape w.0) (m.queue seat) r w.2 (whole.queued seat)
+
+next_size-few : (m : Plain) (seat : ℕ) → AreWhole m → next_size m seat ≤ 256
+next_size-few m seat whole =
+    elim (next_request m seat) as (λ o. next_request m seat ≡ o → option_map_or (λ (r : WholeRequest). size_of r.bios) o 0 ≤ 256) [
+      | None ↦ λ _. omega arith
+      | Some r ↦ λ e. (next-whole m seat r whole e).few_sectors
+    ] refl
+
+count_of_range : (bios : List Bio) → (range_of bios).count ≡ size_of bios
+count_of_range [] = refl
+count_of_range (bio ∷ bios) = refl
+
+-- Dispatch: the budget of the queue in service has room for its next request
+record HasRoom (m : Plain) (b : Bfq) : Type 0 where
+  enough : AreEnough b
+  known : Known m.seat b
+  room : (slot : InService) → b.slot ≡ Some slot → (is_some (m.seat slot.seat) ≡ true) × (slot.service + next_size m slot.seat ≤ b.budget slot.seat)
+
+sits-within : (m : Plain) → Within m → Sits m.seat m.bfq
+sits-within m h slot e = (h.served slot e).0
+
+with_budget_in-room : (l : Limits) → 256 ≤ l.max_budget → (m : Plain) (o : Option InService) (b : Bfq) → m.bfq.slot ≡ o → with_budget_in l m o ≡ Some b → Within m → HasRoom m b
+with_budget_in-room l most m None b at e h =
+    subst (HasRoom m) (some_is m.bfq b e) (record { enough = h.enough; known = h.known; room = λ slot is. let none : Some slot ≡ None = sym is ∙ at in cc })
+with_budget_in-room l most m (Some slot) b at e h =
+    elim (nat_lt (m.bfq.budget slot.seat) (slot.service + next_size m slot.seat)) as (λ t. nat_lt (m.bfq.budget slot.seat) (slot.service + next_size m slot.seat) ≡ t
+    → cond t (expire Exhaustion l.max_budget true m.bfq) (Some m.bfq) ≡ Some b → HasRoom m b) [
+      | true ↦ λ _ f.
+          let x = expire-slot Exhaustion l.max_budget true m.bfq b f in
+          record {
+            enough = expire-enough Exhaustion l.max_budget true m.bfq b most f h.enough;
+            known = expire-known m.seat Exhaustion l.max_budget true m.bfq b (sits-within m h) f h.known;
+            room = λ other is. let none : Some other ≡ None = sym is ∙ x.3 in cc;
+          }
+      | false ↦ λ fits f.
+          let le : slot.service + next_size m slot.seat ≤ m.bfq.budget slot.seat = ltb-false (m.bfq.budget slot.seat) (slot.service + next_size m slot.seat) fits in
+          let P : InService → Type 0 = λ s. (is_some (m.seat s.seat) ≡ true) × (s.service + next_size m s.seat ≤ m.bfq.budget s.seat) in
+          subst (HasRoom m) (some_is m.bfq b f) (record {
+            enough = h.enough;
+            known = h.known;
+            room = λ other is. subst P (some_is slot other (sym at ∙ is)) (sits-within m h slot at, le);
+          })
+    ] refl e
+
+no_slot : (o : Option InService) → is_none o ≡ true → o ≡ None
+no_slot None e = refl
+no_slot (Some slot) e = cc
+
+with_slot-room : (m : Plain) (b : Bfq) → AreWhole m → HasRoom m b → HasRoom m (with_slot b)
+with_slot-room m b whole h =
+    elim (is_none b.slot) as (λ t. is_none b.slot ≡ t → HasRoom m (cond t (select b) b)) [
+      | true ↦ λ free.
+          let begins : Begins m.seat (select b) =
+          select-begins m.seat b (record { known = h.known; fresh = λ slot is. let none : Some slot ≡ None = sym is ∙ no_slot b.slot free in cc }) in
+          let enough : AreEnough (select b) = same-enough b (select b) (select-budgets b) h.enough in
+          record {
+            enough = enough;
+            known = begins.known;
+            room = λ slot is.
+                let s = begins.fresh slot is in
+                let none : slot.service ≡ 0 = s.1 in
+                (s.0, omega (arith, none, next_size-few m slot.seat whole, enough slot.seat));
+          }
+      | false ↦ λ _. h
+    ] refl
+
+without_empty-within : (l : Limits) → 256 ≤ l.max_budget → (seats : ℕ → Option Seat) (queue : List WholeRequest) (b c : Bfq) → without_empty l queue b ≡ Some c
+    → AreEnough b → Known seats b → Served seats b → AreEnough c × Known seats c × Served seats c
+without_empty-within l most seats queue b c e enough known served =
+    let P : Bfq → Type 0 = λ c. AreEnough c × Known seats c × Served seats c in
+    elim (is_empty queue) as (λ t. cond t (expire Emptying l.max_budget false b) (Some b) ≡ Some c → P c) [
+      | true ↦ λ f.
+          let x = expire-slot Emptying l.max_budget false b c f in (
+            expire-enough Emptying l.max_budget false b c most f enough,
+            expire-known seats Emptying l.max_budget false b c (λ slot at. (served slot at).0) f known,
+            λ slot is. let none : Some slot ≡ None = sym is ∙ x.3 in cc,
+          )
+      | false ↦ λ f. subst P (some_is b c f) (enough, known, served)
+    ] e
+
+sent_by_bfq-within : (l : Limits) → 256 ≤ l.max_budget → (m : Plain) (n tag : ℕ) (o : Plain × Reply) → AreWhole m → sent_by_bfq l m n tag ≡ Some o → Within m → Within o.0
+sent_by_bfq-within l most m n tag o whole e h =
+    let within = and_then_is (λ b. sent_in l m n tag (with_slot b)) (with_budget_in l m m.bfq.slot) o e in
+    let b : Bfq = with_slot within.0 in
+    let has : HasRoom m b = with_slot-room m within.0 whole (with_budget_in-room l most m m.bfq.slot within.0 refl within.1 h) in
+    let slot = and_then_is (λ slot. option_and_then (sent_next l m n tag b slot.seat) (next_request m slot.seat)) b.slot o within.2 in
+    let seat : ℕ = slot.0.seat in
+    let next = and_then_is (sent_next l m n tag b seat) (next_request m seat) o slot.2 in
+    let r : WholeRequest = next.0 in
+    let size : ℕ = (range_of r.bios).count in
+    let rest : List WholeRequest = without_first (has_start shape (range_of r.bios).start) (m.queue seat) in
+    let done = map_is _ (option_and_then (without_empty l rest) (charge size b)) o next.2 in
+    let charged = and_then_is (without_empty l rest) (charge size b) done.0 done.1 in
+    let c : Bfq = charged.0 in
+    let x = charge-slot size b c charged.1 in
+    let served : Served m.seat c = λ other is.
+    let now : InService = record x.0 { service = x.0.service + size } in
+    let same : now ≡ other = some_is now other (sym x.3 ∙ is) in
+    let one : slot.0 ≡ x.0 = some_is slot.0 x.0 (sym slot.1 ∙ x.1) in
+    let room = has.room x.0 x.1 in
+    let fits : x.0.service + next_size m x.0.seat ≤ b.budget x.0.seat = room.1 in
+    let asked : next_size m seat ≡ size_of r.bios = ap (λ o. option_map_or (λ (q : WholeRequest). size_of q.bios) o 0) next.1 in
+    let seats : next_size m x.0.seat ≡ next_size m seat = ap (λ (s : InService). next_size m s.seat) (sym one) in
+    let budget : c.budget x.0.seat ≡ b.budget x.0.seat = ap (λ (f : ℕ → ℕ). f x.0.seat) x.2 in
+    let P : InService → Type 0 = λ s. (is_some (m.seat s.seat) ≡ true) × (s.service ≤ c.budget s.seat) in
+    let count : size ≡ size_of r.bios = count_of_range r.bios in
+    let le : x.0.service + size ≤ c.budget x.0.seat = omega (arith, fits, asked, seats, budget, count) in
+    subst P same (room.0, le) in
+    let sits : Sits m.seat b = λ other is. (has.room other is).0 in
+    let all = without_empty-within l most m.seat rest c done.0 charged.2 (same-enough b c x.2 has.enough) (charge-known m.seat size b c sits charged.1 has.known) served in
+    let Q : Plain × Reply → Type 0 = λ y. Within y.0 in
+    subst Q done.2 (record { enough = all.0; known = all.1; served = all.2 })
+
+-- before the first step no tree has a member
+free_place : (none : Option Member) (n k : ℕ) → slice_index_or (replicate n none) k none ≡ none
+free_place none zero k = refl
+free_place none (suc n) zero = refl
+free_place none (suc n) (suc k) = free_place none n k
+
+opening-within : (l : Limits) → 256 ≤ l.first_budget → 256 ≤ l.max_budget → Within (opening l)
+opening-within l first most = record {
+  enough = opening-enough l first most;
+  known = λ group. elim (nat_lt group 32) as (λ t. AreFit (λ _. None) (cond t (empty_service l.first_vtime) (record { vtime = 0; members = [] }))) [
+    | true ↦ λ entity there small. let none : is_some (slice_index_or (empty_service l.first_vtime).members entity None) ≡ false = ap is_some (free_place None 48 entity) in cc
+    | false ↦ λ entity there small. cc
+  ];
+  served = λ slot e. cc;
+}
+
+-- every step
+keeps-within : (l : Limits) → 256 ≤ l.first_budget → 256 ≤ l.max_budget → Keeps l Within
+keeps-within l first most = record {
+  attaches = λ m n seat group prio free h. attached-within l first m n seat group prio free h;
+  submits = λ m n seat session op range payload next taken e h.
+      woken-within m seat (submitted m n seat session op range payload) next refl (put-grows m.seat seat _ (λ sits. mapped-some _ (m.seat seat) sits)) taken e h;
+  reaps = λ m seat bios h.
+      let grows : Grows m.seat (put m.seat seat _) = put-grows m.seat seat _ (λ sits. mapped-some _ (m.seat seat) sits) in
+      record { enough = h.enough; known = grown-known m.seat _ m.bfq grows h.known; served = grown-served m.seat _ m.bfq grows h.served };
+  takes_turns = λ m n seat tag request requests h. record { enough = h.enough; known = h.known; served = h.served };
+  sends = λ m n tag o whole e h. sent_by_bfq-within l most m n tag o whole e h;
+  finishes = λ m tag outcome request h. record { enough = h.enough; known = h.known; served = h.served };
+  makes = λ m group parent weight h. record {
+    enough = h.enough;
+    known =
+        vtime-known m.seat (with_entity l (entity_of group) parent weight m.bfq).service group l.first_vtime
+        (member-known m.seat m.bfq.service parent (entity_of group) _ (λ small. absurd (omega (arith, small))) h.known);
+    served = h.served;
+  };
+  drops = λ m group h. record {
+    enough = h.enough;
+    known = member-known m.seat m.bfq.service (group_of m.bfq (entity_of group)) (entity_of group) None (λ small. absurd (omega (arith, small))) h.known;
+    served = h.served;
+  };
+  weighs = λ m group weight h. record { enough = h.enough; known = h.known; served = h.served };
+}
+
+-- the law
+pub service-within : ((l : Limits) (m : Plain) → KeepsWhole l m) → (l : Limits) (most : ℕ) (journal : List Call) → ServiceIsWithinBudget l most journal
+service-within stay l most journal first greatest =
+    let le : 256 ≤ l.max_budget = omega (arith, first, greatest) in
+    let made : Within (machine_of (replay l most journal)) = machine-keeps l most journal Within (stay l) (keeps-within l first le) (opening-within l first le) in
+    λ slot e. made.served slot e
