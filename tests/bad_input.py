@@ -256,7 +256,7 @@ GOOD_WORDS = [
          b"refused 20\nrefused 19\n"),
     Case("good words: the number of requests holds", SIM + ["--nr-requests=1"], b"attach 0 0 4\nread 0 1 0 8\nread 0 1 100 8\n",
          b"attached 1\nqueued 2\nnotyet 43\n"),
-    Case("help", ["--help"], has=[b"sim --scheduler none"]),
+    Case("help", ["--help"], has=[b"bfqhost sim [OPTION]", b"bfq or none (bfq)"]),
 ]
 
 # More lines than a buffer holds, so that a write fails before the end; and one, that fails at the end.
