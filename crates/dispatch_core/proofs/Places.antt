@@ -11,8 +11,7 @@ use Rattle.change_record.specs.Tables.{Tables}
 use Rattle.process_queue.specs.Merge.{bios_at}
 use Rattle.change_record.specs.Machine.{WholeRequest, meaning, whole_at}
 use Rattle.change_record.specs.declared.change.Seat.{Seat}
-use Rattle.plain_machine.specs.declared.sizes.Sizes.{Sizes}
-use Rattle.plain_machine.specs.Step.{Limits, of_sizes, range_of}
+use Rattle.plain_machine.specs.Step.{Limits, range_of}
 use Rattle.plain_machine.specs.Queued.{view_in, view_at, request_view}
 use Rattle.plain_machine.specs.declared.view.RequestView.{RequestView}
 use Rattle.plain_machine.specs.declared.view.RequestView.TheVariants.{Past, Queued}

@@ -1,5 +1,5 @@
 -- What steps leave of the tables of bfq.
-use Rattle.std.proofs.Common.{◌≡◌, ◌⊎◌, inl, inr, ℕ, zero, suc, ◌+◌, ◌<◌, ◌≤◌, ◌^◌, ◌==◌, List, [], ◌∷◌, Option, None, Some, Bool, true, false, cond, length, get_or, set, refl, sym, ap, ◌∙◌, subst, arith, length-set, eqb-true}
+use Rattle.std.proofs.Common.{◌≡◌, ◌⊎◌, inl, inr, ℕ, zero, suc, ◌<◌, ◌≤◌, ◌^◌, ◌==◌, List, [], ◌∷◌, Option, None, Some, Bool, true, false, cond, length, get_or, set, refl, sym, ap, ◌∙◌, subst, arith, length-set, eqb-true}
 use Rattle.std.proofs.Math.Path.{fun_ext}
 use Rattle.std.proofs.lemmas.Bool.{cases_eq, eq-eqb, ne_eqb}
 use Rattle.std.proofs.lemmas.List.{get_or-set_same, get_or-set_other}
@@ -11,7 +11,7 @@ use Rattle.change_record.specs.declared.change.InService.{InService}
 use Rattle.change_record.specs.Tables.{Tables}
 use Rattle.change_record.specs.Exchange.{with_member, with_vtime, tree_at}
 use Rattle.change_record.specs.Machine.{Bfq, Plain, bfq_of, meaning, put}
-use Rattle.bfq_select.specs.Rules.{put_member, put_vtime, group_of}
+use Rattle.bfq_select.specs.Rules.{put_vtime, group_of}
 use Rattle.bfq_select.specs.Service.{IsSized, IsBounded, OnlyServes}
 use Rattle.plain_machine.specs.Step.{Limits, with_entity, without_entity, prio_weight}
 use Rattle.dispatch_core.specs.WellFormed.{WellFormed, Ruled}

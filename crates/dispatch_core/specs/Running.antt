@@ -1,5 +1,5 @@
 -- A machine as its callers see it: its sizes, its tables, and how many exchanges were made.
-use Rattle.std.specs.Prelude.{◌≡◌, ◌≤◌, ℕ, List, [], ◌∷◌, ◌++◌, length}
+use Rattle.std.specs.Prelude.{◌≡◌, ℕ, List, [], ◌∷◌, ◌++◌, length}
 use Rattle.change_record.specs.declared.change.Change.{Change}
 use Rattle.sector_core.specs.declared.config.Config.{Config}
 use Rattle.change_record.specs.declared.change.Making.{Making}

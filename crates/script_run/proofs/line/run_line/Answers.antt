@@ -1,4 +1,4 @@
-use Rattle.std.proofs.Common.{◌≡◌, ◌<◌, ◌⊎◌, inl, inr, List, length, rules, arith}
+use Rattle.std.proofs.Common.{◌<◌, inl, inr, length, rules}
 use Rattle.script_run.specs.Script.{MayHaveRun, Step}
 use Rattle.script_run.proofs.line.run_line.Goals as goal
 
