@@ -4,3 +4,5 @@ pub mod Walk
 pub mod Enough
 pub mod Known
 pub mod Within
+pub mod Tree
+pub mod Busy

@@ -1,6 +1,7 @@
 -- What each kind of change keeps, every step keeps, and so it holds of the machine of every keeper.
-use Rattle.std.proofs.Common.{true, false, Bool, ◌≡◌, ℕ, ◌+◌, ◌-◌, nat_le, List, [], ◌∷◌, length, take, Option, Some, None, is_some, cond, refl, sym, ◌∙◌, subst, unwrap_or}
+use Rattle.std.proofs.Common.{true, false, Bool, ◌≡◌, ℕ, ◌+◌, ◌-◌, ◌<◌, nat_le, not, List, [], ◌∷◌, length, take, Option, Some, None, is_some, cond, refl, sym, ◌∙◌, subst, unwrap_or}
 use Rattle.std.specs.Option.{is_none, option_map}
+use Rattle.std.proofs.lemmas.Bool.{not-false, leb-false}
 use Rattle.std.proofs.lemmas.List.Elements.{All-nil}
 use Rattle.sector_core.specs.declared.bio.Bio.{Bio}
 use Rattle.sector_core.specs.declared.bio.BioResult.TheVariants.{Written}
@@ -10,7 +11,7 @@ use Rattle.sector_core.specs.declared.range.Range.{Range}
 use Rattle.sector_core.specs.declared.config.Scheduler.{Scheduler}
 use Rattle.sector_core.specs.declared.config.Scheduler.TheVariants.{Plain as PlainScheduler, Bfq as BfqScheduler}
 use Rattle.group_tree.specs.Groups.{entity_of}
-use Rattle.bfq_select.specs.Rules.{put_vtime}
+use Rattle.bfq_select.specs.Rules.{put_vtime, stands}
 use Rattle.change_record.specs.Machine.{WholeRequest, Flight, Bfq, Plain, put}
 use Rattle.plain_machine.specs.declared.answer.Answer.{Answer}
 use Rattle.plain_machine.specs.declared.answer.Answer.TheVariants.{Accepted, Refused, NotYet}
@@ -56,11 +57,11 @@ made l group parent weight b = put_vtime group l.first_vtime (with_entity l (ent
 
 -- each change of a step keeps this
 pub record Keeps (l : Limits) (P : Plain → Type 0) : Type 0 where
-  pub attaches : (m : Plain) (n seat group prio : ℕ) → m.seat seat ≡ None → P m → P (attached l m n seat group prio)
-  pub submits : (m : Plain) (n seat session : ℕ) (op : Op) (range : Range) (payload : List ℕ) (next : Plain) → is_some (m.seat seat) ≡ true
+  pub attaches : (m : Plain) (n seat group prio : ℕ) → seat < 16 → m.seat seat ≡ None → stands m.bfq group ≡ true → P m → P (attached l m n seat group prio)
+  pub submits : (m : Plain) (n seat session : ℕ) (op : Op) (range : Range) (payload : List ℕ) (next : Plain) → seat < 16 → is_some (m.seat seat) ≡ true
       → woken m seat (submitted m n seat session op range payload) ≡ Some next → P m → P next
   pub reaps : (m : Plain) (seat : ℕ) (bios : List Bio) → P m → P (reaped_from m seat bios)
-  pub takes_turns : (m : Plain) (n seat tag : ℕ) (request : WholeRequest) (requests : List WholeRequest) → P m → P (sent_in_turn m n seat tag request requests)
+  pub takes_turns : (m : Plain) (n seat tag : ℕ) (request : WholeRequest) (requests : List WholeRequest) → m.scheduler ≡ PlainScheduler → P m → P (sent_in_turn m n seat tag request requests)
   pub sends : (m : Plain) (n tag : ℕ) (o : Plain × Reply) → AreWhole m → sent_by_bfq l m n tag ≡ Some o → P m → P o.0
   pub finishes : (m : Plain) (tag : ℕ) (outcome : Outcome) (request : WholeRequest) → P m → P (done_with m tag outcome request)
   pub makes : (m : Plain) (group parent weight : ℕ) → P m → P (record m { bfq = made l group parent weight m.bfq })
@@ -82,7 +83,8 @@ attach-keeps l P keeps m n room seat group prio h =
     (λ e.
     let within = first_fails (nat_le 16 seat) _ _ e in
     let free = first_fails (is_some (m.seat seat)) _ _ within.1 in
-    accepted-keeps P room m next (Attached n) h (keeps.attaches m n seat group prio (not_some (m.seat seat) free.0) h))
+    let known = first_fails (not (stands m.bfq group)) _ _ free.1 in
+    accepted-keeps P room m next (Attached n) h (keeps.attaches m n seat group prio (leb-false 16 seat within.0) (not_some (m.seat seat) free.0) (not-false (stands m.bfq group) known.0) h))
 
 submit-keeps : (l : Limits) (P : Plain → Type 0) → Keeps l P → (m : Plain) (n : ℕ) (room : Bool) (seat session : ℕ) (op : Op) (range : Range) (payload : List ℕ)
     → P m → P (submit l m n room seat session op range payload).0
@@ -97,7 +99,7 @@ submit-keeps l P keeps m n room seat session op range payload h =
     (λ o f.
     let w = map_is (λ (next : Plain). (next, Queued n)) (woken m seat next) o f in
     let Q : Plain × Reply → Type 0 = λ x. P x.0 in
-    subst Q w.2 (keeps.submits m n seat session op range payload w.0 (not_none (m.seat seat) taken.0) w.1 h)))
+    subst Q w.2 (keeps.submits m n seat session op range payload w.0 (leb-false 16 seat within.0) (not_none (m.seat seat) taken.0) w.1 h)))
 
 reaped-keeps : (l : Limits) (P : Plain → Type 0) → Keeps l P → (m : Plain) (room : Bool) (seat : ℕ) (bios : List Bio) → P m → P (reaped room m seat bios).0
 reaped-keeps l P keeps m room seat [] h = h
@@ -107,19 +109,19 @@ reaped-keeps l P keeps m room seat (bio ∷ bios) h =
 reap-keeps : (l : Limits) (P : Plain → Type 0) → Keeps l P → (m : Plain) (room : Bool) (seat session : ℕ) → P m → P (reap m room seat session).0
 reap-keeps l P keeps m room seat session h = unless-keeps P _ m (reaped room m seat (m.outbox seat)) h (λ _. reaped-keeps l P keeps m room seat (m.outbox seat) h)
 
-sent-keeps : (l : Limits) (P : Plain → Type 0) → Keeps l P → (m : Plain) (n : ℕ) (room : Bool) (seat tag : ℕ) (requests : List WholeRequest) → P m → P (sent m n room seat tag requests).0
-sent-keeps l P keeps m n room seat tag [] h = h
-sent-keeps l P keeps m n room seat tag (r ∷ rest) h =
-    accepted-keeps P room m (sent_in_turn m n seat tag r rest) (Issued tag n r.op (range_of r.bios)) h (keeps.takes_turns m n seat tag r rest h)
+sent-keeps : (l : Limits) (P : Plain → Type 0) → Keeps l P → (m : Plain) (n : ℕ) (room : Bool) (seat tag : ℕ) (requests : List WholeRequest) → m.scheduler ≡ PlainScheduler → P m → P (sent m n room seat tag requests).0
+sent-keeps l P keeps m n room seat tag [] is h = h
+sent-keeps l P keeps m n room seat tag (r ∷ rest) is h =
+    accepted-keeps P room m (sent_in_turn m n seat tag r rest) (Issued tag n r.op (range_of r.bios)) h (keeps.takes_turns m n seat tag r rest is h)
 
-sent_by-keeps : (l : Limits) (P : Plain → Type 0) → Keeps l P → (m : Plain) (n : ℕ) (room : Bool) (seat tag : ℕ) (scheduler : Scheduler) → AreWhole m → P m → P (sent_by l m n room seat tag scheduler).0
-sent_by-keeps l P keeps m n room seat tag PlainScheduler whole h = sent-keeps l P keeps m n room seat tag (m.queue seat) h
-sent_by-keeps l P keeps m n room seat tag BfqScheduler whole h = accepted_if-keeps P room m (sent_by_bfq l m n tag) h (λ o e. keeps.sends m n tag o whole e h)
+sent_by-keeps : (l : Limits) (P : Plain → Type 0) → Keeps l P → (m : Plain) (n : ℕ) (room : Bool) (seat tag : ℕ) (scheduler : Scheduler) → m.scheduler ≡ scheduler → AreWhole m → P m → P (sent_by l m n room seat tag scheduler).0
+sent_by-keeps l P keeps m n room seat tag PlainScheduler is whole h = sent-keeps l P keeps m n room seat tag (m.queue seat) is h
+sent_by-keeps l P keeps m n room seat tag BfqScheduler is whole h = accepted_if-keeps P room m (sent_by_bfq l m n tag) h (λ o e. keeps.sends m n tag o whole e h)
 
 dispatch_to-keeps : (l : Limits) (P : Plain → Type 0) → Keeps l P → (m : Plain) (n : ℕ) (room : Bool) (seat tag : Option ℕ) → AreWhole m → P m → P (dispatch_to l m n room seat tag).0
 dispatch_to-keeps l P keeps m n room None tag whole h = h
 dispatch_to-keeps l P keeps m n room (Some seat) None whole h = h
-dispatch_to-keeps l P keeps m n room (Some seat) (Some tag) whole h = sent_by-keeps l P keeps m n room seat tag m.scheduler whole h
+dispatch_to-keeps l P keeps m n room (Some seat) (Some tag) whole h = sent_by-keeps l P keeps m n room seat tag m.scheduler refl whole h
 
 finish_of-keeps : (l : Limits) (P : Plain → Type 0) → Keeps l P → (m : Plain) (room : Bool) (tag issue : ℕ) (outcome : Outcome) (o : Option Flight) → P m → P (finish_of m room tag issue outcome o).0
 finish_of-keeps l P keeps m room tag issue outcome None h = h

@@ -223,10 +223,10 @@ sent_by_bfq-within l most m n tag o whole e h =
     subst Q done.2 (record { enough = all.0; known = all.1; served = all.2 })
 
 -- before the first step no tree has a member
-free_place : (none : Option Member) (n k : ℕ) → slice_index_or (replicate n none) k none ≡ none
-free_place none zero k = refl
-free_place none (suc n) zero = refl
-free_place none (suc n) (suc k) = free_place none n k
+free_place : (place : Option Member) (n k : ℕ) → slice_index_or (replicate n place) k place ≡ place
+free_place place zero k = refl
+free_place place (suc n) zero = refl
+free_place place (suc n) (suc k) = free_place place n k
 
 opening-within : (l : Limits) → 256 ≤ l.first_budget → 256 ≤ l.max_budget → Within (opening l)
 opening-within l first most = record {
@@ -241,13 +241,13 @@ opening-within l first most = record {
 -- every step
 keeps-within : (l : Limits) → 256 ≤ l.first_budget → 256 ≤ l.max_budget → Keeps l Within
 keeps-within l first most = record {
-  attaches = λ m n seat group prio free h. attached-within l first m n seat group prio free h;
-  submits = λ m n seat session op range payload next taken e h.
+  attaches = λ m n seat group prio _ free _ h. attached-within l first m n seat group prio free h;
+  submits = λ m n seat session op range payload next _ taken e h.
       woken-within m seat (submitted m n seat session op range payload) next refl (put-grows m.seat seat _ (λ sits. mapped-some _ (m.seat seat) sits)) taken e h;
   reaps = λ m seat bios h.
       let grows : Grows m.seat (put m.seat seat _) = put-grows m.seat seat _ (λ sits. mapped-some _ (m.seat seat) sits) in
       record { enough = h.enough; known = grown-known m.seat _ m.bfq grows h.known; served = grown-served m.seat _ m.bfq grows h.served };
-  takes_turns = λ m n seat tag request requests h. record { enough = h.enough; known = h.known; served = h.served };
+  takes_turns = λ m n seat tag request requests _ h. record { enough = h.enough; known = h.known; served = h.served };
   sends = λ m n tag o whole e h. sent_by_bfq-within l most m n tag o whole e h;
   finishes = λ m tag outcome request h. record { enough = h.enough; known = h.known; served = h.served };
   makes = λ m group parent weight h. record {

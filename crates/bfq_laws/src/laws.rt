@@ -1,4 +1,5 @@
 // Laws of BFQ on the machine of every keeper.
+ghost use Rattle.bfq_laws.specs.Busy.{BusySessionsWaitOrAreServed};
 ghost use Rattle.bfq_laws.specs.Budgets.{BudgetsAreEnough, ServiceIsWithinBudget};
 ghost use Rattle.plain_machine.specs.Step.{Limits};
 ghost use Rattle.plain_machine.specs.declared.call.Call.{Call};
@@ -18,6 +19,14 @@ pub fn budgets_are_enough()
 /// budget. The contract is the law.
 pub fn service_is_within_budget()
     ensures { (l : Limits) (most : ℕ) (journal : List Call) → ServiceIsWithinBudget l most journal }
+{
+    requests_stay_whole();
+}
+
+/// B-WF2Q+: under BFQ the entity of a session is idle exactly where its queue is empty, on the machine of every keeper that
+/// a journal makes. The contract is the law.
+pub fn busy_sessions_wait_or_are_served()
+    ensures { (l : Limits) (most : ℕ) (journal : List Call) → BusySessionsWaitOrAreServed l most journal }
 {
     requests_stay_whole();
 }

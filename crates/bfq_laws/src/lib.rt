@@ -1,13 +1,14 @@
 #![tactic(auto)]
 //! Laws of the machine under BFQ: what holds after every run, whatever its calls were.
 //!
-//! `specs/` has what the laws say: `Budgets` has budgets, and the service that is within them.
+//! `specs/` has what the laws say: `Budgets` has budgets, and the service that is within them; `Busy` who waits or is served.
 //!
 //! | call | rule that it meets |
 //! |---|---|
 //! | [`budgets_are_enough`] | no entity's budget is under 256 sectors, the most that a request has |
 //! | [`service_is_within_budget`] | the queue in service has been sent no more sectors than its budget |
+//! | [`busy_sessions_wait_or_are_served`] | a session's entity is idle exactly where its queue is empty |
 
 mod laws;
 
-pub use laws::{budgets_are_enough, service_is_within_budget};
+pub use laws::{budgets_are_enough, busy_sessions_wait_or_are_served, service_is_within_budget};

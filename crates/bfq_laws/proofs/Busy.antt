@@ -1,0 +1,415 @@
+-- Under BFQ a session's entity is idle exactly where its queue is empty.
+use Rattle.std.proofs.Common.{true, false, Bool, ◌≡◌, ◌≢◌, inl, inr, ℕ, zero, suc, ◌+◌, ◌<◌, ◌≤◌, nat_lt, not, ◌&&◌, List, [], ◌∷◌, length, Option, Some, None, is_some, unwrap_or, ◌==◌, eqb-true, cond, slice_index_or, replicate, refl, sym, ap, ◌∙◌, subst, arith}
+use Rattle.std.specs.Option.{is_none, option_map, option_and_then}
+use Rattle.std.proofs.lemmas.Bool.{cases_eq, ltb-true, ltb-false}
+use Rattle.service_tree.specs.declared.member.Member.{Member}
+use Rattle.sector_core.specs.declared.bio.Bio.{Bio}
+use Rattle.sector_core.specs.declared.bio.Op.{Op}
+use Rattle.sector_core.specs.declared.range.Range.{Range}
+use Rattle.sector_core.specs.declared.config.Scheduler.{Scheduler}
+use Rattle.sector_core.specs.declared.config.Scheduler.TheVariants.{Plain as PlainScheduler, Bfq as BfqScheduler}
+use Rattle.process_queue.specs.Queue.{is_empty}
+use Rattle.process_queue.specs.Merge.{joins_at, merge_of}
+use Rattle.process_queue.specs.Next.{has_start}
+use Rattle.group_tree.specs.Groups.{has_entity, entity_of}
+use Rattle.change_record.specs.declared.change.Seat.{Seat}
+use Rattle.change_record.specs.declared.change.InService.{InService}
+use Rattle.change_record.specs.Tables.{empty_service}
+use Rattle.change_record.specs.Machine.{WholeRequest, Bfq, Plain, put}
+use Rattle.bfq_select.specs.declared.expiry.Expiry.{Expiry}
+use Rattle.bfq_select.specs.declared.expiry.Expiry.TheVariants.{Exhaustion, Emptying}
+use Rattle.bfq_select.specs.Rules.{absent, is_idle, group_of, activate, select, charge, expire, stands}
+use Rattle.plain_machine.specs.declared.answer.Reply.{Reply}
+use Rattle.plain_machine.specs.declared.call.Call.{Call}
+use Rattle.plain_machine.specs.Step.{Limits, opening, is_bfq, with_entity, attached, new_bio, with_bio, change_first, queue_with, submitted, woken, range_of, next_request, next_size, with_budget_in, with_slot, without_first, without_empty, without_entity, sent_next, sent_in, sent_by_bfq, shape}
+use Rattle.plain_machine.specs.Whole.{KeepsWhole}
+use Rattle.bfq_laws.specs.Busy.{BusySessionsWaitOrAreServed}
+use Rattle.bfq_laws.proofs.Puts.{put_here, put_other, some_is, and_then_is, map_is}
+use Rattle.bfq_laws.proofs.Quiet.{activate-quiet, charge-slot, expire-slot}
+use Rattle.bfq_laws.proofs.Walk.{Keeps, made, machine-keeps}
+use Rattle.bfq_laws.proofs.Tree.{placed, placed-here, placed-elsewhere, placed-other, length-member, Over, Over-same, Over-trans, Over-vtime, idle, idle-over, Tree, Tree-over, Sets, activate-sets, charge-over, expire-sets, Choice, select-choice}
+
+-- each taken seat's entity is idle exactly where its queue is empty; and the queue in service, if one is, is not empty
+pub record Busy (seats : ℕ → Option Seat) (queue : ℕ → List WholeRequest) (b : Bfq) : Type 0 where
+  pub tree : Tree seats b
+  pub rests : (e : ℕ) → e < 16 → is_some (seats e) ≡ true → idle b e ≡ is_empty (queue e)
+  pub serves : (slot : InService) → b.slot ≡ Some slot → (slot.seat < 16) × (is_some (seats slot.seat) ≡ true) × (is_empty (queue slot.seat) ≡ false)
+
+-- and a free seat has nothing queued
+pub record Tidy (m : Plain) : Type 0 where
+  pub busy : Busy m.seat m.queue m.bfq
+  pub free : (e : ℕ) → is_some (m.seat e) ≡ false → is_empty (m.queue e) ≡ true
+
+Busy-over : (seats : ℕ → Option Seat) (queue : ℕ → List WholeRequest) (b c : Bfq) → Over b c → c.slot ≡ b.slot → Busy seats queue b → Busy seats queue c
+Busy-over seats queue b c over slots h = record {
+  tree = Tree-over seats b c over h.tree;
+  rests = λ e lt sits. idle-over b c e lt over ∙ h.rests e lt sits;
+  serves = λ slot at. h.serves slot (sym slots ∙ at);
+}
+
+-- the same seats are taken
+abbrev Alike : (ℕ → Option Seat) → (ℕ → Option Seat) → Type 0
+Alike before after = (seat : ℕ) → is_some (after seat) ≡ is_some (before seat)
+
+mapped : (f : Seat → Seat) (o : Option Seat) → is_some (option_map f o) ≡ is_some o
+mapped f None = refl
+mapped f (Some s) = refl
+
+put-alike : (seats : ℕ → Option Seat) (seat : ℕ) (f : Seat → Seat) → Alike seats (put seats seat (option_map f (seats seat)))
+put-alike seats seat f e = elim (cases_eq e seat) [
+  | inl same ↦ ap is_some (put_here seats seat (option_map f (seats seat)) e same) ∙ mapped f (seats seat) ∙ ap (λ k. is_some (seats k)) (sym same)
+  | inr other ↦ ap is_some (put_other seats seat (option_map f (seats seat)) e other)
+]
+
+Tree-alike : (before after : ℕ → Option Seat) (b : Bfq) → Alike before after → Tree before b → Tree after b
+Tree-alike before after b alike h = record {
+  above = λ e lt sits. h.above e lt (sym (alike e) ∙ sits);
+  known = λ g e lt there. let k = h.known g e lt there in (alike e ∙ k.0, k.1);
+  lengths = h.lengths;
+}
+
+-- a queue with one more bio is not empty
+changed-some : (passes : WholeRequest → Bool) (f : WholeRequest → WholeRequest) (x : WholeRequest) (xs : List WholeRequest) → is_empty (change_first passes f (x ∷ xs)) ≡ false
+changed-some passes f x xs = elim (passes x) as (λ t. is_empty (cond t (f x ∷ xs) (x ∷ change_first passes f xs)) ≡ false) [ true ↦ refl | false ↦ refl ]
+
+joined-some : (session : ℕ) (op : Op) (bio : Bio) (found : Option (WholeRequest × Bool)) (x : WholeRequest) (xs : List WholeRequest) → is_empty (queue_with session op bio found (x ∷ xs)) ≡ false
+joined-some session op bio None x xs = refl
+joined-some session op bio (Some found) x xs = changed-some (joins_at shape found.1 session op bio.range) (with_bio found.1 bio) x xs
+
+queued-some : (session : ℕ) (op : Op) (bio : Bio) (queue : List WholeRequest) → is_empty (queue_with session op bio (merge_of shape queue session op bio.range) queue) ≡ false
+queued-some session op bio [] = refl
+queued-some session op bio (x ∷ xs) = joined-some session op bio (merge_of shape (x ∷ xs) session op bio.range) x xs
+
+outside : (a x : Bool) → cond (a && false) x false ≡ true → ⊥
+outside true x e = cc
+outside false x e = cc
+
+second_true : (a b : Bool) → (a && b) ≡ true → b ≡ true
+second_true true b e = e
+second_true false b e = cc
+
+second_false : (a b : Bool) → a ≡ true → (a && b) ≡ false → b ≡ false
+second_false true b t e = e
+second_false false b t e = cc
+
+stood : (b : Bfq) (group : ℕ) → stands b group ≡ true → group < 32
+stood b group e = elim (group == 0) as (λ t. (group == 0) ≡ t → cond t true (cond (has_entity group) (is_some (b.parent (16 + group))) false) ≡ true → group < 32) [
+  | true ↦ λ z _. let is : group ≡ 0 = eqb-true group 0 z in omega (arith, is)
+  | false ↦ λ _ f.
+      elim (nat_lt group 32) as (λ t. nat_lt group 32 ≡ t → cond (nat_lt 0 group && t) (is_some (b.parent (16 + group))) false ≡ true → group < 32) [
+        | true ↦ λ lt _. ltb-true group 32 lt
+        | false ↦ λ _ g. absurd (outside (nat_lt 0 group) (is_some (b.parent (16 + group))) g)
+      ] refl f
+] refl e
+
+-- Attach: a free seat is not that of the queue in service, and its queue is empty.
+attached-tidy : (l : Limits) (m : Plain) (n seat group prio : ℕ) → seat < 16 → m.seat seat ≡ None → stands m.bfq group ≡ true → Tidy m → Tidy (attached l m n seat group prio)
+attached-tidy l m n seat group prio small free is h =
+    let next : Plain = attached l m n seat group prio in
+    let b : Bfq = m.bfq in
+    let c : Bfq = next.bfq in
+    let low : group < 32 = stood b group is in
+    let empty : is_empty (m.queue seat) ≡ true = h.free seat (ap is_some free) in
+    let len : length (b.service group).members ≡ 48 = h.busy.tree.lengths group low in
+    let room : seat < length (b.service group).members = omega (arith, small, len) in
+    let apart : (e : ℕ) → is_some (m.seat e) ≡ true → e ≢ seat = λ e sits same. let no : is_some (m.seat e) ≡ false = ap (λ k. is_some (m.seat k)) same ∙ ap is_some free in cc in
+    let before : (e : ℕ) → e ≢ seat → is_some (next.seat e) ≡ is_some (m.seat e) = λ e other. ap is_some (put_other m.seat seat _ e other) in
+    let sits_now : (e : ℕ) → e ≡ seat → is_some (next.seat e) ≡ true = λ e same. ap is_some (put_here m.seat seat _ e same) in
+    let rests_now : idle c seat ≡ true =
+    ap (λ o. is_idle (unwrap_or (placed c.service (unwrap_or o 0) seat) absent).state) (put_here b.parent seat (Some group) seat refl)
+    ∙ ap (λ o. is_idle (unwrap_or o absent).state) (placed-here b.service group seat _ room) in
+    record {
+      busy = record {
+        tree = record {
+          above = λ e lt sits. elim (cases_eq e seat) [
+            | inl same ↦ (group, put_here b.parent seat (Some group) e same, low)
+            | inr other ↦ let a = h.busy.tree.above e lt (sym (before e other) ∙ sits) in (a.0, put_other b.parent seat (Some group) e other ∙ a.1, a.2)
+          ];
+          known = λ g e lt there. elim (cases_eq e seat) [
+            | inl same ↦ elim (cases_eq g group) [
+              | inl its ↦ (sits_now e same, put_here b.parent seat (Some group) e same ∙ ap (λ j. Some j) (sym its))
+              | inr away ↦ absurd (apart e (h.busy.tree.known g e lt (ap is_some (sym (placed-elsewhere b.service group _ g e away)) ∙ there)).0 same)
+            ]
+            | inr other ↦
+                let k = h.busy.tree.known g e lt (ap is_some (sym (placed-other b.service group seat _ g e other)) ∙ there) in
+                (before e other ∙ k.0, put_other b.parent seat (Some group) e other ∙ k.1)
+          ];
+          lengths = λ g lt. length-member b.service group seat _ g ∙ h.busy.tree.lengths g lt;
+        };
+        rests = λ e lt sits. elim (cases_eq e seat) [
+          | inl same ↦ ap (idle c) same ∙ rests_now ∙ sym empty ∙ ap (λ k. is_empty (m.queue k)) (sym same)
+          | inr other ↦
+              ap (λ o. is_idle (unwrap_or (placed c.service (unwrap_or o 0) e) absent).state) (put_other b.parent seat (Some group) e other)
+              ∙ ap (λ o. is_idle (unwrap_or o absent).state) (placed-other b.service group seat _ (group_of b e) e other)
+              ∙ h.busy.rests e lt (sym (before e other) ∙ sits)
+        ];
+        serves = λ slot at. let s = h.busy.serves slot at in (s.0, before slot.seat (apart slot.seat s.1) ∙ s.1, s.2);
+      };
+      free = λ e no. elim (cases_eq e seat) [
+        | inl same ↦ let yes : is_some (next.seat e) ≡ true = sits_now e same in cc
+        | inr other ↦ h.free e (sym (before e other) ∙ no)
+      ];
+    }
+
+-- Submit
+submitted-tidy : (m : Plain) (n seat session : ℕ) (op : Op) (range : Range) (payload : List ℕ) (b : Bfq) → is_some (m.seat seat) ≡ true → Sets m.seat seat false m.bfq b → b.slot ≡ m.bfq.slot
+    → Tidy m → Tidy (record (submitted m n seat session op range payload) { bfq = b })
+submitted-tidy m n seat session op range payload b taken sets slots h =
+    let next : Plain = submitted m n seat session op range payload in
+    let bio : Bio = new_bio n range payload in
+    let alike : Alike m.seat next.seat = put-alike m.seat seat _ in
+    let full : is_empty (next.queue seat) ≡ false = ap is_empty (put_here m.queue seat _ seat refl) ∙ queued-some session op bio (m.queue seat) in
+    record {
+      busy = record {
+        tree = Tree-alike m.seat next.seat b alike sets.tree;
+        rests = λ e lt sits. elim (cases_eq e seat) [
+          | inl same ↦ ap (idle b) same ∙ sets.here ∙ sym full ∙ ap (λ k. is_empty (next.queue k)) (sym same)
+          | inr other ↦ sets.there e lt other ∙ h.busy.rests e lt (sym (alike e) ∙ sits) ∙ sym (ap is_empty (put_other m.queue seat _ e other))
+        ];
+        serves = λ slot at.
+            let s = h.busy.serves slot (sym slots ∙ at) in
+            let still : is_empty (next.queue slot.seat) ≡ false = elim (cases_eq slot.seat seat) [
+              | inl same ↦ ap (λ k. is_empty (next.queue k)) same ∙ full
+              | inr other ↦ ap is_empty (put_other m.queue seat _ slot.seat other) ∙ s.2
+            ] in
+            (s.0, alike slot.seat ∙ s.1, still);
+      };
+      free = λ e no. elim (cases_eq e seat) [
+        | inl same ↦ let yes : is_some (next.seat e) ≡ true = alike e ∙ ap (λ k. is_some (m.seat k)) same ∙ taken in cc
+        | inr other ↦ ap is_empty (put_other m.queue seat _ e other) ∙ h.free e (sym (alike e) ∙ no)
+      ];
+    }
+
+woken-tidy : (m : Plain) (n seat session : ℕ) (op : Op) (range : Range) (payload : List ℕ) (o : Plain) → seat < 16 → is_some (m.seat seat) ≡ true
+    → woken m seat (submitted m n seat session op range payload) ≡ Some o → (is_bfq m.scheduler ≡ true → Tidy m) → is_bfq o.scheduler ≡ true → Tidy o
+woken-tidy m n seat session op range payload o small taken e had =
+    let next : Plain = submitted m n seat session op range payload in
+    let Q : Plain → Type 0 = λ x. is_bfq x.scheduler ≡ true → Tidy x in
+    elim (is_bfq m.scheduler && is_empty (m.queue seat)) as (λ t. (is_bfq m.scheduler && is_empty (m.queue seat)) ≡ t
+    → cond t (option_map (λ b. record next { bfq = b }) (activate seat m.bfq)) (Some next) ≡ Some o → Q o) [
+      | true ↦ λ both is.
+          let a = map_is (λ b. record next { bfq = b }) (activate seat m.bfq) o is in
+          let quiet = activate-quiet seat m.bfq a.0 a.1 in
+          let now : Q (record next { bfq = a.0 }) = λ under.
+          let h : Tidy m = had under in
+          let rests : idle m.bfq seat ≡ true = h.busy.rests seat small taken ∙ second_true (is_bfq m.scheduler) (is_empty (m.queue seat)) both in
+          submitted-tidy m n seat session op range payload a.0 taken (activate-sets m.seat seat m.bfq a.0 small taken h.busy.tree rests a.1) quiet.1 h in
+          subst Q a.2 now
+      | false ↦ λ both is.
+          let now : Q next = λ under.
+          let h : Tidy m = had under in
+          let awake : idle m.bfq seat ≡ false = h.busy.rests seat small taken ∙ second_false (is_bfq m.scheduler) (is_empty (m.queue seat)) under both in
+          let kept = submitted-tidy m n seat session op range payload m.bfq taken (record { tree = h.busy.tree; here = awake; there = λ e lt ne. refl }) refl h in
+          record { busy = kept.busy; free = kept.free } in
+          subst Q (some_is next o is) now
+    ] refl e
+
+-- Dispatch
+sits-busy : (seats : ℕ → Option Seat) (queue : ℕ → List WholeRequest) (b : Bfq) → Busy seats queue b → (slot : InService) → b.slot ≡ Some slot → (slot.seat < 16) × (is_some (seats slot.seat) ≡ true)
+sits-busy seats queue b h slot at = let s = h.serves slot at in (s.0, s.1)
+
+-- where the queue in service expires, with this queued then
+expired-busy : (l : Limits) (cause : Expiry) (queued : Bool) (seats : ℕ → Option Seat) (queue : ℕ → List WholeRequest) (b c : Bfq)
+    → ((slot : InService) → b.slot ≡ Some slot → (slot.seat < 16) × (is_some (seats slot.seat) ≡ true) × (is_empty (queue slot.seat) ≡ not queued)) → Tree seats b
+    → ((e : ℕ) → e < 16 → is_some (seats e) ≡ true → ((slot : InService) → b.slot ≡ Some slot → e ≢ slot.seat) → idle b e ≡ is_empty (queue e))
+    → expire cause l.max_budget queued b ≡ Some c → Busy seats queue c
+expired-busy l cause queued seats queue b c sits tree rests e =
+    let x = expire-slot cause l.max_budget queued b c e in
+    let s = expire-sets seats cause l.max_budget queued b c (λ slot at. let y = sits slot at in (y.0, y.1)) tree e in
+    let k : ℕ = s.0.seat in
+    let sets : Sets seats k (not queued) b c = s.2 in
+    record {
+      tree = sets.tree;
+      rests = λ i lt taken. elim (cases_eq i k) [
+        | inl same ↦ ap (idle c) same ∙ sets.here ∙ sym (sits s.0 s.1).2 ∙ ap (λ j. is_empty (queue j)) (sym same)
+        | inr other ↦ sets.there i lt other ∙ rests i lt taken (λ slot at same. other (same ∙ ap (λ (z : InService). z.seat) (some_is slot s.0 (sym at ∙ s.1))))
+      ];
+      serves = λ slot at. let none : Some slot ≡ None = sym at ∙ x.3 in cc;
+    }
+
+with_budget_in-busy : (l : Limits) (m : Plain) (o : Option InService) (b : Bfq) → with_budget_in l m o ≡ Some b → Busy m.seat m.queue m.bfq → Busy m.seat m.queue b
+with_budget_in-busy l m None b e h = subst (Busy m.seat m.queue) (some_is m.bfq b e) h
+with_budget_in-busy l m (Some slot) b e h =
+    elim (nat_lt (m.bfq.budget slot.seat) (slot.service + next_size m slot.seat)) as (λ t. cond t (expire Exhaustion l.max_budget true m.bfq) (Some m.bfq) ≡ Some b → Busy m.seat m.queue b) [
+      | true ↦ λ f. expired-busy l Exhaustion true m.seat m.queue m.bfq b h.serves h.tree (λ e lt taken _. h.rests e lt taken) f
+      | false ↦ λ f. subst (Busy m.seat m.queue) (some_is m.bfq b f) h
+    ] e
+
+no_slot : (o : Option InService) → is_none o ≡ true → o ≡ None
+no_slot None e = refl
+no_slot (Some slot) e = cc
+
+with_slot-busy : (seats : ℕ → Option Seat) (queue : ℕ → List WholeRequest) (b : Bfq) → Busy seats queue b → Busy seats queue (with_slot b)
+with_slot-busy seats queue b h = elim (is_none b.slot) as (λ t. is_none b.slot ≡ t → Busy seats queue (cond t (select b) b)) [
+  | true ↦ λ none.
+      let choice : Choice seats (idle b) (select b) =
+      select-choice seats (idle b) b (record { tree = h.tree; same = λ e lt. refl; chosen = λ slot at. let no : Some slot ≡ None = sym at ∙ no_slot b.slot none in cc }) in
+      record {
+        tree = choice.tree;
+        rests = λ e lt taken. choice.same e lt ∙ h.rests e lt taken;
+        serves = λ slot at. let s = choice.chosen slot at in (s.0, s.1, sym (h.rests slot.seat s.0 s.1) ∙ s.2);
+      }
+  | false ↦ λ _. h
+] refl
+
+-- the queue in service has lost a request
+without_empty-busy : (l : Limits) (seats : ℕ → Option Seat) (queue : ℕ → List WholeRequest) (k : ℕ) (rest : List WholeRequest) (b c : Bfq)
+    → ((slot : InService) → b.slot ≡ Some slot → slot.seat ≡ k) → (slot : InService) → b.slot ≡ Some slot → Busy seats queue b → without_empty l rest b ≡ Some c → Busy seats (put queue k rest) c
+without_empty-busy l seats queue k rest b c its slot at h e =
+    elim (is_empty rest) as (λ t. is_empty rest ≡ t → cond t (expire Emptying l.max_budget false b) (Some b) ≡ Some c → Busy seats (put queue k rest) c) [
+      | true ↦ λ empty f.
+          let x = expire-slot Emptying l.max_budget false b c f in
+          expired-busy l Emptying false seats (put queue k rest) b c
+          (λ slot at. let s = h.serves slot at in (s.0, s.1, ap is_empty (put_here queue k rest slot.seat (its slot at)) ∙ empty)) h.tree
+          (λ e lt taken apart.
+          let other : e ≢ k = λ same. apart x.0 x.1 (same ∙ sym (its x.0 x.1)) in
+          h.rests e lt taken ∙ sym (ap is_empty (put_other queue k rest e other))) f
+      | false ↦ λ full f. subst (Busy seats (put queue k rest)) (some_is b c f) (record {
+        tree = h.tree;
+        rests = λ e lt taken. elim (cases_eq e k) [
+          | inl same ↦ h.rests e lt taken ∙ ap (λ j. is_empty (queue j)) (same ∙ sym (its slot at)) ∙ (h.serves slot at).2 ∙ sym (ap is_empty (put_here queue k rest e same) ∙ full)
+          | inr other ↦ h.rests e lt taken ∙ sym (ap is_empty (put_other queue k rest e other))
+        ];
+        serves = λ slot at. let s = h.serves slot at in (s.0, s.1, ap is_empty (put_here queue k rest slot.seat (its slot at)) ∙ full);
+      })
+    ] refl e
+
+sent_by_bfq-tidy : (l : Limits) (m : Plain) (n tag : ℕ) (o : Plain × Reply) → sent_by_bfq l m n tag ≡ Some o → Tidy m → Tidy o.0
+sent_by_bfq-tidy l m n tag o e h =
+    let within = and_then_is (λ b. sent_in l m n tag (with_slot b)) (with_budget_in l m m.bfq.slot) o e in
+    let b : Bfq = with_slot within.0 in
+    let ready : Busy m.seat m.queue b = with_slot-busy m.seat m.queue within.0 (with_budget_in-busy l m m.bfq.slot within.0 within.1 h.busy) in
+    let slot = and_then_is (λ slot. option_and_then (sent_next l m n tag b slot.seat) (next_request m slot.seat)) b.slot o within.2 in
+    let k : ℕ = slot.0.seat in
+    let next = and_then_is (sent_next l m n tag b k) (next_request m k) o slot.2 in
+    let r : WholeRequest = next.0 in
+    let size : ℕ = (range_of r.bios).count in
+    let rest : List WholeRequest = without_first (has_start shape (range_of r.bios).start) (m.queue k) in
+    let done = map_is _ (option_and_then (without_empty l rest) (charge size b)) o next.2 in
+    let charged = and_then_is (without_empty l rest) (charge size b) done.0 done.1 in
+    let c : Bfq = charged.0 in
+    let x = charge-slot size b c charged.1 in
+    let over : Over b c = charge-over size b c charged.1 in
+    let now : InService = record x.0 { service = x.0.service + size } in
+    let one : x.0.seat ≡ k = ap (λ (s : InService). s.seat) (some_is x.0 slot.0 (sym x.1 ∙ slot.1)) in
+    let its : (other : InService) → c.slot ≡ Some other → other.seat ≡ k = λ other at. ap (λ (s : InService). s.seat) (some_is other now (sym at ∙ x.3)) ∙ one in
+    let before = ready.serves x.0 x.1 in
+    let P : ℕ → Type 0 = λ j. (j < 16) × (is_some (m.seat j) ≡ true) × (is_empty (m.queue j) ≡ false) in
+    let at_k : P k = subst P one before in
+    let after : Busy m.seat m.queue c = record {
+      tree = Tree-over m.seat b c over ready.tree;
+      rests = λ e lt sits. idle-over b c e lt over ∙ ready.rests e lt sits;
+      serves = λ other at. subst P (sym (its other at)) at_k;
+    } in
+    let ended : Busy m.seat (put m.queue k rest) done.0 = without_empty-busy l m.seat m.queue k rest c done.0 its now x.3 after charged.2 in
+    let Q : Plain × Reply → Type 0 = λ y. Tidy y.0 in
+    subst Q done.2 (record {
+      busy = record { tree = ended.tree; rests = ended.rests; serves = ended.serves };
+      free = λ e no. elim (cases_eq e k) [
+        | inl same ↦ let sits : is_some (m.seat e) ≡ true = ap (λ j. is_some (m.seat j)) same ∙ at_k.1 in cc
+        | inr other ↦ ap is_empty (put_other m.queue k rest e other) ∙ h.free e no
+      ];
+    })
+
+-- the scheduler is as it was
+sent_by_bfq-under : (l : Limits) (m : Plain) (n tag : ℕ) (o : Plain × Reply) → sent_by_bfq l m n tag ≡ Some o → (is_bfq m.scheduler ≡ true → Tidy m) → is_bfq o.0.scheduler ≡ true → Tidy o.0
+sent_by_bfq-under l m n tag o e had under =
+    let within = and_then_is (λ b. sent_in l m n tag (with_slot b)) (with_budget_in l m m.bfq.slot) o e in
+    let b : Bfq = with_slot within.0 in
+    let slot = and_then_is (λ slot. option_and_then (sent_next l m n tag b slot.seat) (next_request m slot.seat)) b.slot o within.2 in
+    let next = and_then_is (sent_next l m n tag b slot.0.seat) (next_request m slot.0.seat) o slot.2 in
+    let done = map_is _ (option_and_then (without_empty l (without_first (has_start shape (range_of next.0.bios).start) (m.queue slot.0.seat))) (charge (range_of next.0.bios).count b)) o next.2 in
+    let same : m.scheduler ≡ o.0.scheduler = ap (λ (y : Plain × Reply). y.0.scheduler) done.2 in
+    sent_by_bfq-tidy l m n tag o e (had (ap is_bfq same ∙ under))
+
+-- what BFQ knows of sessions' queues is as it was
+over-tidy : (m : Plain) (c : Bfq) → Over m.bfq c → c.slot ≡ m.bfq.slot → Tidy m → Tidy (record m { bfq = c })
+over-tidy m c over slots h =
+    let kept : Busy m.seat m.queue c = Busy-over m.seat m.queue m.bfq c over slots h.busy in
+    record { busy = kept; free = h.free }
+
+-- a group is made under its parent, or goes
+made-over : (l : Limits) (b : Bfq) (group parent weight : ℕ) → Over b (made l group parent weight b)
+made-over l b group parent weight =
+    let k : ℕ = entity_of group in
+    let high : 16 ≤ k = omega arith in
+    let with_it : Bfq = with_entity l k parent weight b in
+    let over : Over b with_it = record {
+      parents = λ e lt. put_other b.parent k (Some parent) e (λ same. absurd (omega (arith, same, lt, high)));
+      places = λ g e lt. placed-other b.service parent k _ g e (λ same. absurd (omega (arith, same, lt, high)));
+      lengths = λ g. length-member b.service parent k _ g;
+    } in
+    Over-trans b with_it (made l group parent weight b) over (Over-vtime with_it group l.first_vtime)
+
+dropped-over : (b : Bfq) (group : ℕ) → Over b (without_entity (entity_of group) b)
+dropped-over b group =
+    let k : ℕ = entity_of group in
+    let high : 16 ≤ k = omega arith in
+    record {
+      parents = λ e lt. put_other b.parent k None e (λ same. absurd (omega (arith, same, lt, high)));
+      places = λ g e lt. placed-other b.service (group_of b k) k None g e (λ same. absurd (omega (arith, same, lt, high)));
+      lengths = λ g. length-member b.service (group_of b k) k None g;
+    }
+
+-- before the first step
+free_place : (place : Option Member) (n k : ℕ) → slice_index_or (replicate n place) k place ≡ place
+free_place place zero k = refl
+free_place place (suc n) zero = refl
+free_place place (suc n) (suc k) = free_place place n k
+
+opening-tidy : (l : Limits) → Tidy (opening l)
+opening-tidy l = record {
+  busy = record {
+    tree = record {
+      above = λ e lt sits. cc;
+      known = λ g e lt there.
+          let none : is_some (placed (opening l).bfq.service g e) ≡ false = elim (nat_lt g 32) as (λ t. is_some (slice_index_or (cond t (empty_service l.first_vtime) (record { vtime = 0; members = [] })).members e None) ≡ false) [
+            | true ↦ ap is_some (free_place None 48 e)
+            | false ↦ refl
+          ] in cc;
+      lengths = λ g lt. elim (nat_lt g 32) as (λ t. nat_lt g 32 ≡ t → length (cond t (empty_service l.first_vtime) (record { vtime = 0; members = [] })).members ≡ 48) [
+        | true ↦ λ _. refl
+        | false ↦ λ no. let far : 32 ≤ g = ltb-false g 32 no in absurd (omega (arith, far, lt))
+      ] refl;
+    };
+    rests = λ e lt sits. cc;
+    serves = λ slot at. cc;
+  };
+  free = λ e no. refl;
+}
+
+not_both : (s : Scheduler) → s ≡ PlainScheduler → is_bfq s ≡ true → ⊥
+not_both PlainScheduler e under = cc
+not_both BfqScheduler e under = cc
+
+-- every step
+keeps-tidy : (l : Limits) → Keeps l (λ m. is_bfq m.scheduler ≡ true → Tidy m)
+keeps-tidy l = record {
+  attaches = λ m n seat group prio small free stand had under. attached-tidy l m n seat group prio small free stand (had under);
+  submits = λ m n seat session op range payload next small taken e had under. woken-tidy m n seat session op range payload next small taken e had under;
+  reaps = λ m seat bios had under.
+      let h : Tidy m = had under in
+      let alike : Alike m.seat (put m.seat seat _) = put-alike m.seat seat _ in
+      record {
+        busy = record {
+          tree = Tree-alike m.seat _ m.bfq alike h.busy.tree;
+          rests = λ e lt sits. h.busy.rests e lt (sym (alike e) ∙ sits);
+          serves = λ slot at. let s = h.busy.serves slot at in (s.0, alike slot.seat ∙ s.1, s.2);
+        };
+        free = λ e no. h.free e (sym (alike e) ∙ no);
+      };
+  takes_turns = λ m n seat tag request requests plain had under. absurd (not_both m.scheduler plain under);
+  sends = λ m n tag o whole e had. sent_by_bfq-under l m n tag o e had;
+  finishes = λ m tag outcome request had under. let h : Tidy m = had under in record { busy = h.busy; free = h.free };
+  makes = λ m group parent weight had under. over-tidy m (made l group parent weight m.bfq) (made-over l m.bfq group parent weight) refl (had under);
+  drops = λ m group had under. over-tidy m (without_entity (entity_of group) m.bfq) (dropped-over m.bfq group) refl (had under);
+  weighs = λ m group weight had under.
+      let next : Bfq = record m.bfq { pending = put m.bfq.pending (entity_of group) weight } in
+      over-tidy m next (Over-same m.bfq next refl refl) refl (had under);
+}
+
+-- the law
+pub busy-not-idle : ((l : Limits) (m : Plain) → KeepsWhole l m) → (l : Limits) (most : ℕ) (journal : List Call) → BusySessionsWaitOrAreServed l most journal
+busy-not-idle stay l most journal under seat lt sits =
+    let tidy = machine-keeps l most journal (λ m. is_bfq m.scheduler ≡ true → Tidy m) (stay l) (keeps-tidy l) (λ _. opening-tidy l) in
+    (tidy under).busy.rests seat lt sits
