@@ -92,7 +92,7 @@ second_false : (a b : Bool) → a ≡ true → (a && b) ≡ false → b ≡ fals
 second_false true b t e = e
 second_false false b t e = cc
 
-stood : (b : Bfq) (group : ℕ) → stands b group ≡ true → group < 32
+pub stood : (b : Bfq) (group : ℕ) → stands b group ≡ true → group < 32
 stood b group e = elim (group == 0) as (λ t. (group == 0) ≡ t → cond t true (cond (has_entity group) (is_some (b.parent (16 + group))) false) ≡ true → group < 32) [
   | true ↦ λ z _. let is : group ≡ 0 = eqb-true group 0 z in omega (arith, is)
   | false ↦ λ _ f.
@@ -227,7 +227,7 @@ expired-busy l cause queued seats queue b c sits tree rests e =
       serves = λ slot at. let none : Some slot ≡ None = sym at ∙ x.3 in cc;
     }
 
-with_budget_in-busy : (l : Limits) (m : Plain) (o : Option InService) (b : Bfq) → with_budget_in l m o ≡ Some b → Busy m.seat m.queue m.bfq → Busy m.seat m.queue b
+pub with_budget_in-busy : (l : Limits) (m : Plain) (o : Option InService) (b : Bfq) → with_budget_in l m o ≡ Some b → Busy m.seat m.queue m.bfq → Busy m.seat m.queue b
 with_budget_in-busy l m None b e h = subst (Busy m.seat m.queue) (some_is m.bfq b e) h
 with_budget_in-busy l m (Some slot) b e h =
     elim (nat_lt (m.bfq.budget slot.seat) (slot.service + next_size m slot.seat)) as (λ t. cond t (expire Exhaustion l.max_budget true m.bfq) (Some m.bfq) ≡ Some b → Busy m.seat m.queue b) [
@@ -235,11 +235,11 @@ with_budget_in-busy l m (Some slot) b e h =
       | false ↦ λ f. subst (Busy m.seat m.queue) (some_is m.bfq b f) h
     ] e
 
-no_slot : (o : Option InService) → is_none o ≡ true → o ≡ None
+pub no_slot : (o : Option InService) → is_none o ≡ true → o ≡ None
 no_slot None e = refl
 no_slot (Some slot) e = cc
 
-with_slot-busy : (seats : ℕ → Option Seat) (queue : ℕ → List WholeRequest) (b : Bfq) → Busy seats queue b → Busy seats queue (with_slot b)
+pub with_slot-busy : (seats : ℕ → Option Seat) (queue : ℕ → List WholeRequest) (b : Bfq) → Busy seats queue b → Busy seats queue (with_slot b)
 with_slot-busy seats queue b h = elim (is_none b.slot) as (λ t. is_none b.slot ≡ t → Busy seats queue (cond t (select b) b)) [
   | true ↦ λ none.
       let choice : Choice seats (idle b) (select b) =
@@ -357,7 +357,7 @@ free_place place zero k = refl
 free_place place (suc n) zero = refl
 free_place place (suc n) (suc k) = free_place place n k
 
-opening-tidy : (l : Limits) → Tidy (opening l)
+pub opening-tidy : (l : Limits) → Tidy (opening l)
 opening-tidy l = record {
   busy = record {
     tree = record {
@@ -383,7 +383,7 @@ not_both PlainScheduler e under = cc
 not_both BfqScheduler e under = cc
 
 -- every step
-keeps-tidy : (l : Limits) → Keeps l (λ m. is_bfq m.scheduler ≡ true → Tidy m)
+pub keeps-tidy : (l : Limits) → Keeps l (λ m. is_bfq m.scheduler ≡ true → Tidy m)
 keeps-tidy l = record {
   attaches = λ m n seat group prio small free stand had under. attached-tidy l m n seat group prio small free stand (had under);
   submits = λ m n seat session op range payload next small taken e had under. woken-tidy m n seat session op range payload next small taken e had under;
@@ -401,8 +401,8 @@ keeps-tidy l = record {
   takes_turns = λ m n seat tag request requests plain had under. absurd (not_both m.scheduler plain under);
   sends = λ m n tag o whole e had. sent_by_bfq-under l m n tag o e had;
   finishes = λ m tag outcome request had under. let h : Tidy m = had under in record { busy = h.busy; free = h.free };
-  makes = λ m group parent weight had under. over-tidy m (made l group parent weight m.bfq) (made-over l m.bfq group parent weight) refl (had under);
-  drops = λ m group had under. over-tidy m (without_entity (entity_of group) m.bfq) (dropped-over m.bfq group) refl (had under);
+  makes = λ m group parent weight _ _ _ had under. over-tidy m (made l group parent weight m.bfq) (made-over l m.bfq group parent weight) refl (had under);
+  drops = λ m group _ _ _ had under. over-tidy m (without_entity (entity_of group) m.bfq) (dropped-over m.bfq group) refl (had under);
   weighs = λ m group weight had under.
       let next : Bfq = record m.bfq { pending = put m.bfq.pending (entity_of group) weight } in
       over-tidy m next (Over-same m.bfq next refl refl) refl (had under);

@@ -105,8 +105,8 @@ keeps-enough l first most = record {
   takes_turns = λ m n seat tag request requests _ h. h;
   sends = λ m n tag o whole e h. sent_by_bfq-enough l m n tag o most e h;
   finishes = λ m tag outcome request h. h;
-  makes = λ m group parent weight h. h;
-  drops = λ m group h. h;
+  makes = λ m group parent weight _ _ _ h. h;
+  drops = λ m group _ _ _ h. h;
   weighs = λ m group weight h. h;
 }
 

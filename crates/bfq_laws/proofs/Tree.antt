@@ -42,7 +42,7 @@ placed-here service group k new lt =
     let tree : Service = with_member (service group) k new in
     ap (λ (t : Service). slice_index_or t.members k None) (put_here service group tree group refl) ∙ get_or-set_same (service group).members k new None lt
 
-placed-vtime : (service : ℕ → Service) (group vtime g e : ℕ) → placed (put service group (with_vtime (service group) vtime)) g e ≡ placed service g e
+pub placed-vtime : (service : ℕ → Service) (group vtime g e : ℕ) → placed (put service group (with_vtime (service group) vtime)) g e ≡ placed service g e
 placed-vtime service group vtime g e = elim (cases_eq g group) [
   | inl same ↦ ap (λ (t : Service). slice_index_or t.members e None) (put_here service group (with_vtime (service group) vtime) g same) ∙ ap (λ j. placed service j e) (sym same)
   | inr other ↦ placed-elsewhere service group (with_vtime (service group) vtime) g e other
@@ -57,7 +57,7 @@ length-member service group k new g =
       | inr other ↦ ap (λ (t : Service). length t.members) (put_other service group tree g other)
     ]
 
-length-vtime : (service : ℕ → Service) (group vtime g : ℕ) → length (put service group (with_vtime (service group) vtime) g).members ≡ length (service g).members
+pub length-vtime : (service : ℕ → Service) (group vtime g : ℕ) → length (put service group (with_vtime (service group) vtime) g).members ≡ length (service g).members
 length-vtime service group vtime g =
     let tree : Service = with_vtime (service group) vtime in
     elim (cases_eq g group) [
@@ -290,10 +290,10 @@ expire-sets seats cause most queued b c sits tree e =
     (slot.0, slot.1, record { tree = after.tree; here = after.here; there = λ e lt ne. after.there e lt ne ∙ idle-over b out e lt (Over-same b out refl refl) })
 
 -- Select: who is picked is an active member.
-abbrev IsPlaced : List (Option Member) → ℕ × Member → Type 0
+abbrev pub IsPlaced : List (Option Member) → ℕ × Member → Type 0
 IsPlaced full e = slice_index_or full e.0 None ≡ Some e.1
 
-numbered-placed : (full : List (Option Member)) (base : ℕ) (members : List (Option Member)) → ((k : ℕ) → slice_index_or full (base + k) None ≡ slice_index_or members k None)
+pub numbered-placed : (full : List (Option Member)) (base : ℕ) (members : List (Option Member)) → ((k : ℕ) → slice_index_or full (base + k) None ≡ slice_index_or members k None)
     → All (IsPlaced full) (numbered base members)
 numbered-placed full base [] same = All-nil (IsPlaced full)
 numbered-placed full base (None ∷ members) same = numbered-placed full (base + 1) members (λ k.
@@ -309,12 +309,12 @@ sooner-is : (P : ℕ × Member → Type 0) (e : ℕ × Member) (o : Option (ℕ 
 sooner-is P e None this others = this
 sooner-is P e (Some other) this others = elim (is_sooner other e) as (λ t. P (cond t other e)) [ true ↦ others other refl | false ↦ this ]
 
-soonest-is : (P : ℕ × Member → Type 0) (es : List (ℕ × Member)) → All P es → (x : ℕ × Member) → soonest es ≡ Some x → P x
+pub soonest-is : (P : ℕ × Member → Type 0) (es : List (ℕ × Member)) → All P es → (x : ℕ × Member) → soonest es ≡ Some x → P x
 soonest-is P [] all x e = cc
 soonest-is P (first ∷ es) all x e =
     subst P (some_is (sooner first (soonest es)) x e) (sooner-is P first (soonest es) (All-head P first es all) (soonest-is P es (All-tail P first es all)))
 
-first_of_some : (o : Option (ℕ × Member)) (n : ℕ) → option_map (λ (e : ℕ × Member). e.0) o ≡ Some n → (x : ℕ × Member) × (o ≡ Some x) × (x.0 ≡ n)
+pub first_of_some : (o : Option (ℕ × Member)) (n : ℕ) → option_map (λ (e : ℕ × Member). e.0) o ≡ Some n → (x : ℕ × Member) × (o ≡ Some x) × (x.0 ≡ n)
 first_of_some None n e = cc
 first_of_some (Some x) n e = (x, refl, cc)
 

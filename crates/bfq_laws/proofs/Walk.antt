@@ -1,5 +1,5 @@
 -- What each kind of change keeps, every step keeps, and so it holds of the machine of every keeper.
-use Rattle.std.proofs.Common.{true, false, Bool, ◌≡◌, ℕ, ◌+◌, ◌-◌, ◌<◌, nat_le, not, List, [], ◌∷◌, length, take, Option, Some, None, is_some, cond, refl, sym, ◌∙◌, subst, unwrap_or}
+use Rattle.std.proofs.Common.{true, false, Bool, ◌≡◌, ℕ, ◌+◌, ◌-◌, ◌<◌, nat_le, ◌==◌, not, List, [], ◌∷◌, length, take, Option, Some, None, is_some, cond, refl, sym, ◌∙◌, subst, unwrap_or}
 use Rattle.std.specs.Option.{is_none, option_map}
 use Rattle.std.proofs.lemmas.Bool.{not-false, leb-false}
 use Rattle.std.proofs.lemmas.List.Elements.{All-nil}
@@ -10,7 +10,7 @@ use Rattle.sector_core.specs.declared.bio.Outcome.{Outcome}
 use Rattle.sector_core.specs.declared.range.Range.{Range}
 use Rattle.sector_core.specs.declared.config.Scheduler.{Scheduler}
 use Rattle.sector_core.specs.declared.config.Scheduler.TheVariants.{Plain as PlainScheduler, Bfq as BfqScheduler}
-use Rattle.group_tree.specs.Groups.{entity_of}
+use Rattle.group_tree.specs.Groups.{entity_of, depth, most_levels}
 use Rattle.bfq_select.specs.Rules.{put_vtime, stands}
 use Rattle.change_record.specs.Machine.{WholeRequest, Flight, Bfq, Plain, put}
 use Rattle.plain_machine.specs.declared.answer.Answer.{Answer}
@@ -23,7 +23,7 @@ use Rattle.plain_machine.specs.declared.step.Step.TheVariants.{Attach, Submit, R
 use Rattle.plain_machine.specs.declared.call.Call.{Call}
 use Rattle.plain_machine.specs.declared.call.Call.TheVariants.{Do, Hold, Release, Undo, Redo}
 use Rattle.plain_machine.specs.declared.call.Stamped.{Stamped}
-use Rattle.plain_machine.specs.Step.{Limits, accepted, accepted_if, attached, attach, submitted, woken, submit, with_unreaped, unreaped, reaped, reap, next_queue, lowest_free, range_of, sent, sent_by_bfq, sent_by, dispatch_to, delivered, completed, after_outcome, finished, finish_of, finish, with_entity, free_group, made_group, group_make, without_entity, group_drop, set_weight, step, opening}
+use Rattle.plain_machine.specs.Step.{Limits, accepted, accepted_if, attached, attach, submitted, woken, submit, with_unreaped, unreaped, reaped, reap, next_queue, lowest_free, range_of, sent, sent_by_bfq, sent_by, dispatch_to, delivered, completed, after_outcome, finished, finish_of, finish, with_entity, is_weight, is_used, free_group, made_group, group_make, without_entity, group_drop, set_weight, step, opening}
 use Rattle.plain_machine.specs.Keeper.{State, opened, machine_of, has_room, did, called, replayed, replay, fold_from}
 use Rattle.plain_machine.specs.Whole.{IsWhole, AreWhole, KeepsWhole}
 use Rattle.bfq_laws.proofs.Puts.{unless-keeps, accepted-keeps, accepted_if-keeps, first_fails, map_is}
@@ -64,8 +64,9 @@ pub record Keeps (l : Limits) (P : Plain → Type 0) : Type 0 where
   pub takes_turns : (m : Plain) (n seat tag : ℕ) (request : WholeRequest) (requests : List WholeRequest) → m.scheduler ≡ PlainScheduler → P m → P (sent_in_turn m n seat tag request requests)
   pub sends : (m : Plain) (n tag : ℕ) (o : Plain × Reply) → AreWhole m → sent_by_bfq l m n tag ≡ Some o → P m → P o.0
   pub finishes : (m : Plain) (tag : ℕ) (outcome : Outcome) (request : WholeRequest) → P m → P (done_with m tag outcome request)
-  pub makes : (m : Plain) (group parent weight : ℕ) → P m → P (record m { bfq = made l group parent weight m.bfq })
-  pub drops : (m : Plain) (group : ℕ) → P m → P (record m { bfq = without_entity (entity_of group) m.bfq })
+  pub makes : (m : Plain) (group parent weight : ℕ) → stands m.bfq parent ≡ true → nat_le most_levels (depth m.bfq.parent parent) ≡ false → free_group m.bfq ≡ Some group
+      → P m → P (record m { bfq = made l group parent weight m.bfq })
+  pub drops : (m : Plain) (group : ℕ) → stands m.bfq group ≡ true → (group == 0) ≡ false → is_used m.bfq group ≡ false → P m → P (record m { bfq = without_entity (entity_of group) m.bfq })
   pub weighs : (m : Plain) (group weight : ℕ) → P m → P (record m { bfq = record m.bfq { pending = put m.bfq.pending (entity_of group) weight } })
 
 not_some : {A : Type 0} (o : Option A) → is_some o ≡ false → o ≡ None
@@ -133,19 +134,30 @@ finish-keeps : (l : Limits) (P : Plain → Type 0) → Keeps l P → (m : Plain)
 finish-keeps l P keeps m room tag issue outcome h =
     unless-keeps P _ m (finish_of m room tag issue outcome (m.flight tag)) h (λ _. finish_of-keeps l P keeps m room tag issue outcome (m.flight tag) h)
 
-made_group-keeps : (l : Limits) (P : Plain → Type 0) → Keeps l P → (m : Plain) (room : Bool) (parent weight : ℕ) (found : Option ℕ) → P m → P (made_group l m room parent weight found).0
-made_group-keeps l P keeps m room parent weight None h = h
-made_group-keeps l P keeps m room parent weight (Some group) h =
-    accepted-keeps P room m (record m { bfq = made l group parent weight m.bfq }) (Group group) h (keeps.makes m group parent weight h)
+made_group-keeps : (l : Limits) (P : Plain → Type 0) → Keeps l P → (m : Plain) (room : Bool) (parent weight : ℕ) (found : Option ℕ)
+    → stands m.bfq parent ≡ true → nat_le most_levels (depth m.bfq.parent parent) ≡ false → free_group m.bfq ≡ found → P m → P (made_group l m room parent weight found).0
+made_group-keeps l P keeps m room parent weight None known few is h = h
+made_group-keeps l P keeps m room parent weight (Some group) known few is h =
+    accepted-keeps P room m (record m { bfq = made l group parent weight m.bfq }) (Group group) h (keeps.makes m group parent weight known few is h)
 
 group_make-keeps : (l : Limits) (P : Plain → Type 0) → Keeps l P → (m : Plain) (room : Bool) (parent weight : ℕ) → P m → P (group_make l m room parent weight).0
 group_make-keeps l P keeps m room parent weight h =
-    unless-keeps P _ m (made_group l m room parent weight (free_group m.bfq)) h (λ _. made_group-keeps l P keeps m room parent weight (free_group m.bfq) h)
+    unless-keeps P _ m (made_group l m room parent weight (free_group m.bfq)) h
+    (λ e.
+    let known = first_fails (not (stands m.bfq parent)) _ _ e in
+    let weighs = first_fails (not (is_weight weight)) _ _ known.1 in
+    let few = first_fails (nat_le most_levels (depth m.bfq.parent parent)) _ _ weighs.1 in
+    made_group-keeps l P keeps m room parent weight (free_group m.bfq) (not-false (stands m.bfq parent) known.0) few.0 refl h)
 
 group_drop-keeps : (l : Limits) (P : Plain → Type 0) → Keeps l P → (m : Plain) (room : Bool) (group : ℕ) → P m → P (group_drop m room group).0
 group_drop-keeps l P keeps m room group h =
     let next : Plain = record m { bfq = without_entity (entity_of group) m.bfq } in
-    unless-keeps P _ m (accepted room m next Done) h (λ _. accepted-keeps P room m next Done h (keeps.drops m group h))
+    unless-keeps P _ m (accepted room m next Done) h
+    (λ e.
+    let known = first_fails (not (stands m.bfq group)) _ _ e in
+    let other = first_fails (group == 0) _ _ known.1 in
+    let unused = first_fails (is_used m.bfq group) _ _ other.1 in
+    accepted-keeps P room m next Done h (keeps.drops m group (not-false (stands m.bfq group) known.0) other.0 unused.0 h))
 
 set_weight-keeps : (l : Limits) (P : Plain → Type 0) → Keeps l P → (m : Plain) (room : Bool) (group weight : ℕ) → P m → P (set_weight m room group weight).0
 set_weight-keeps l P keeps m room group weight h =

@@ -250,14 +250,14 @@ keeps-within l first most = record {
   takes_turns = λ m n seat tag request requests _ h. record { enough = h.enough; known = h.known; served = h.served };
   sends = λ m n tag o whole e h. sent_by_bfq-within l most m n tag o whole e h;
   finishes = λ m tag outcome request h. record { enough = h.enough; known = h.known; served = h.served };
-  makes = λ m group parent weight h. record {
+  makes = λ m group parent weight _ _ _ h. record {
     enough = h.enough;
     known =
         vtime-known m.seat (with_entity l (entity_of group) parent weight m.bfq).service group l.first_vtime
         (member-known m.seat m.bfq.service parent (entity_of group) _ (λ small. absurd (omega (arith, small))) h.known);
     served = h.served;
   };
-  drops = λ m group h. record {
+  drops = λ m group _ _ _ h. record {
     enough = h.enough;
     known = member-known m.seat m.bfq.service (group_of m.bfq (entity_of group)) (entity_of group) None (λ small. absurd (omega (arith, small))) h.known;
     served = h.served;
