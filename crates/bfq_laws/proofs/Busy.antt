@@ -352,7 +352,7 @@ dropped-over b group =
     }
 
 -- before the first step
-free_place : (place : Option Member) (n k : ℕ) → slice_index_or (replicate n place) k place ≡ place
+pub free_place : (place : Option Member) (n k : ℕ) → slice_index_or (replicate n place) k place ≡ place
 free_place place zero k = refl
 free_place place (suc n) zero = refl
 free_place place (suc n) (suc k) = free_place place n k

@@ -6,3 +6,11 @@ pub mod Known
 pub mod Within
 pub mod Tree
 pub mod Busy
+pub mod Shape
+pub mod Picks
+pub mod Alive
+pub mod Expiring
+pub mod Choosing
+pub mod Standing
+pub mod Upcoming
+pub mod Found

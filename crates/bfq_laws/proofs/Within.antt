@@ -98,7 +98,7 @@ woken-within m seat next o same grows sits e h =
     ] e
 
 -- the next request of a queue has 256 sectors at most
-All-find : {A : Type 0} (P : A → Type 0) (passes : A → Bool) (xs : List A) (x : A) → find passes xs ≡ Some x → All P xs → P x
+pub All-find : {A : Type 0} (P : A → Type 0) (passes : A → Bool) (xs : List A) (x : A) → find passes xs ≡ Some x → All P xs → P x
 All-find P passes [] x e h = cc
 All-find P passes (y ∷ ys) x e h = elim (passes y) as (λ b. cond b (Some y) (find passes ys) ≡ Some x → P x) [
   | true ↦ λ here. subst P (some_is y x here) (All-head P y ys h)

@@ -1,5 +1,6 @@
 // Laws of BFQ on the machine of every keeper.
 ghost use Rattle.bfq_laws.specs.Busy.{BusySessionsWaitOrAreServed};
+ghost use Rattle.bfq_laws.specs.Found.{EachDispatchFindsARequest};
 ghost use Rattle.bfq_laws.specs.Budgets.{BudgetsAreEnough, ServiceIsWithinBudget};
 ghost use Rattle.plain_machine.specs.Step.{Limits};
 ghost use Rattle.plain_machine.specs.declared.call.Call.{Call};
@@ -27,6 +28,14 @@ pub fn service_is_within_budget()
 /// a journal makes. The contract is the law.
 pub fn busy_sessions_wait_or_are_served()
     ensures { (l : Limits) (most : ℕ) (journal : List Call) → BusySessionsWaitOrAreServed l most journal }
+{
+    requests_stay_whole();
+}
+
+/// There, under BFQ, where a queue is not empty, a dispatch finds a queue in service or selects one, and that queue has a next
+/// request; but where the expiry before it is refused, for a time that would be too great. The contract is the law.
+pub fn dispatch_finds_a_request()
+    ensures { (l : Limits) (most : ℕ) (journal : List Call) → EachDispatchFindsARequest l most journal }
 {
     requests_stay_whole();
 }

@@ -1,14 +1,19 @@
 #![tactic(auto)]
 //! Laws of the machine under BFQ: what holds after every run, whatever its calls were.
 //!
-//! `specs/` has what the laws say: `Budgets` has budgets, and the service that is within them; `Busy` who waits or is served.
+//! `specs/` has what the laws say: `Budgets` has budgets, and the service that is within them; `Busy` who waits or is served;
+//! `Found` what a dispatch finds.
 //!
 //! | call | rule that it meets |
 //! |---|---|
 //! | [`budgets_are_enough`] | no entity's budget is under 256 sectors, the most that a request has |
 //! | [`service_is_within_budget`] | the queue in service has been sent no more sectors than its budget |
 //! | [`busy_sessions_wait_or_are_served`] | a session's entity is idle exactly where its queue is empty |
+//! | [`dispatch_finds_a_request`] | where a queue is not empty, a queue is in service or is selected, and has a next request |
 
 mod laws;
 
-pub use laws::{budgets_are_enough, busy_sessions_wait_or_are_served, service_is_within_budget};
+pub use laws::{
+    budgets_are_enough, busy_sessions_wait_or_are_served, dispatch_finds_a_request,
+    service_is_within_budget,
+};

@@ -1,0 +1,174 @@
+-- Where a queue is not empty and none is in service, select goes down from the root to one.
+use Rattle.std.proofs.Common.{true, false, ◌≡◌, ◌≢◌, inl, inr, ℕ, zero, suc, ◌+◌, ◌-◌, ◌<◌, ◌≤◌, nat_lt, Option, Some, None, is_some, cond, refl, sym, ap, ◌∙◌, subst, arith}
+use Rattle.std.specs.Option.{is_none, option_map_or}
+use Rattle.std.proofs.lemmas.Bool.{cases_eq, ltb-false}
+use Rattle.service_tree.specs.declared.member.State.{State}
+use Rattle.service_tree.specs.declared.member.State.TheVariants.{Idle, Active, Serving}
+use Rattle.service_tree.specs.Members.{least_start}
+use Rattle.group_tree.specs.Groups.{climb, path}
+use Rattle.change_record.specs.declared.change.InService.{InService}
+use Rattle.change_record.specs.Machine.{Bfq, put}
+use Rattle.bfq_select.specs.Rules.{group_of, put_vtime, is_idle, picked, jumped, in_service, on_pick, taken, select_from, select}
+use Rattle.plain_machine.specs.Step.{with_slot}
+use Rattle.bfq_laws.proofs.Puts.{put_here, put_other, some_is}
+use Rattle.bfq_laws.proofs.Quiet.{jumped-quiet}
+use Rattle.bfq_laws.proofs.Tree.{placed, idle}
+use Rattle.bfq_laws.proofs.Busy.{no_slot}
+use Rattle.bfq_laws.proofs.Picks.{picked-is, jumped-picks}
+use Rattle.bfq_laws.proofs.Shape.{In, Levels, Stands, parent-stands, stands-low, climbing, climb-more, climb-under, At, group-at, state-at, member-at, move-at, vtime-at}
+use Rattle.bfq_laws.proofs.Alive.{Has, Up, Down, Alive, not_idle, awake-active, has-kept, put-was}
+
+-- what selecting leaves where a queue is in service then
+pub record Done (above : ℕ → Option ℕ) (c : Bfq) (slot : InService) : Type 0 where
+  pub now : ℕ → State
+  pub at : At above now c
+  pub up : Up above now
+  pub down : Down above now
+  pub serving : (e : ℕ) → now e ≡ Serving → In e (path above slot.seat)
+
+-- and one is where this holds
+pub record Chosen (above : ℕ → Option ℕ) (H : Type 0) (c : Bfq) : Type 0 where
+  pub done : (slot : InService) → c.slot ≡ Some slot → Done above c slot
+  pub found : H → is_some c.slot ≡ true
+
+jumped-at : (above : ℕ → Option ℕ) (st : ℕ → State) (group : ℕ) (b : Bfq) → At above st b → At above st (jumped group b)
+jumped-at above st group b at = elim (is_some (picked b group)) as (λ t. At above st (cond t b (option_map_or (λ start. put_vtime group start b) (least_start (b.service group).members) b))) [
+  | true ↦ at
+  | false ↦ elim (least_start (b.service group).members) as (λ o. At above st (option_map_or (λ start. put_vtime group start b) o b)) [
+    | None ↦ at
+    | Some start ↦ vtime-at above st b group start at
+  ]
+]
+
+-- after the jump one is picked in a group that has an active member
+has-picks : (above : ℕ → Option ℕ) (st : ℕ → State) (b : Bfq) (g : ℕ) → At above st b → Has above st g → is_some (picked (jumped g b) g) ≡ true
+has-picks above st b g at h =
+    let m = member-at above st b h.0 at (λ rests. let bad : Idle ≡ Active = sym rests ∙ h.2 in cc) in
+    let same : group_of b h.0 ≡ g = group-at above st b h.0 g at h.1 in
+    jumped-picks b g h.0 m.0 (ap (λ j. placed b.service j h.0) (sym same) ∙ m.1) (m.2 ∙ h.2)
+
+serves-up : (above : ℕ → Option ℕ) (st : ℕ → State) (k : ℕ) → st k ≡ Active → Up above st → Up above (put st k Serving)
+serves-up above st k act up =
+    let same : (i : ℕ) → is_idle (put st k Serving i) ≡ is_idle (st i) = λ i. elim (cases_eq i k) [
+      | inl its ↦ ap is_idle (put_here st k Serving i its) ∙ sym (ap is_idle (ap st its ∙ act))
+      | inr other ↦ ap is_idle (put_other st k Serving i other)
+    ] in
+    λ i j above_i awake nz _. same (16 + j) ∙ up i j above_i (sym (same i) ∙ awake) nz nz
+
+serves-down : (above : ℕ → Option ℕ) (st : ℕ → State) (k g : ℕ) → above k ≡ Some g → (g ≢ 0 → st (16 + g) ≡ Serving) → Down above st → Down above (put st k Serving)
+serves-down above st k g parent served down j act nz _ =
+    let was = put-was st k (16 + j) Serving Active (λ x. cc) act in
+    let other : j ≢ g = λ same. let bad : Serving ≡ Active = sym (served (λ z. nz (same ∙ z))) ∙ ap (λ x. st (16 + x)) (sym same) ∙ was.1 in cc in
+    has-kept above st k g j Serving parent other (down j was.1 nz nz)
+
+-- an entity that was picked is served: a session's queue is in service now, and from a group the way goes on
+taken-chosen : (above : ℕ → Option ℕ) (levels : Levels above) (choose : ℕ → Bfq → Bfq) (n g : ℕ) (st : ℕ → State) (b : Bfq) (e : ℕ)
+    → ((h : ℕ) (now : ℕ → State) (d : Bfq) → levels.level h ≡ suc n → Stands above h → At above now d → Up above now → Down above now → (h ≢ 0 → now (16 + h) ≡ Serving)
+    → d.slot ≡ None → ((x : ℕ) → now x ≡ Serving → In x (climb (suc n) above (Some h))) → Chosen above (Has above now h) (choose h d))
+    → levels.level g ≡ n → n ≤ 4 → At above st b → Up above st → Down above st → (g ≢ 0 → st (16 + g) ≡ Serving) → b.slot ≡ None
+    → ((x : ℕ) → st x ≡ Serving → In x (climb n above (Some g))) → picked b g ≡ Some e → (H : Type 0) → Chosen above H (taken choose g b e)
+taken-chosen above levels choose n g st b e more deep few at up down served none serving is H =
+    let m = picked-is b g e is in
+    let parent : above e ≡ Some g = at.places.known g e (ap is_some m.1) in
+    let act : st e ≡ Active = state-at above st b g e m.0 at m.1 ∙ m.2 in
+    let now : ℕ → State = put st e Serving in
+    let d : Bfq = in_service g e b in
+    let at_d : At above now d = move-at above levels st b e g _ at parent in
+    let up_d : Up above now = serves-up above st e act up in
+    let down_d : Down above now = serves-down above st e g parent served down in
+    let slot : InService = record { seat = e; service = 0; age = 0 } in
+    let begun : Bfq = record d { slot = Some slot } in
+    elim (nat_lt e 16) as (λ t. nat_lt e 16 ≡ t → Chosen above H (cond t begun (choose (e - 16) d))) [
+      | true ↦ λ _.
+          let on : (x : ℕ) → now x ≡ Serving → In x (path above e) = λ x s. elim (cases_eq x e) [
+            | inl same ↦ inl same
+            | inr other ↦
+                let far : In x (climb 4 above (Some g)) = climb-more above n 4 (Some g) x few (serving x (sym (put_other st e Serving x other) ∙ s)) in
+                inr (subst (λ o. In x (climb 4 above o)) (sym parent) far)
+          ] in
+          let done : Done above begun slot = record { now = now; at = record { parents = at_d.parents; places = at_d.places; are = at_d.are }; up = up_d; down = down_d; serving = on } in
+          record { done = λ s here. subst (Done above begun) (some_is slot s here) done; found = λ _. refl }
+      | false ↦ λ no.
+          let high : 16 ≤ e = ltb-false e 16 no in
+          let h : ℕ = e - 16 in
+          let one : 16 + h ≡ e = omega (arith, high) in
+          let within : e < 48 = (levels.inside e g parent).0 in
+          let low : h < 32 = omega (arith, within, one) in
+          let parent_h : above (16 + h) ≡ Some g = ap above one ∙ parent in
+          let rises : levels.level h ≡ suc (levels.level g) = (levels.rises h g parent_h).0 in
+          let root : levels.level 0 ≡ 0 = levels.root in
+          let nz : h ≢ 0 = λ z. let flat : levels.level h ≡ levels.level 0 = ap levels.level z in absurd (omega (arith, flat, root, rises)) in
+          let apart : h ≢ g = λ same. let flat : levels.level h ≡ levels.level g = ap levels.level same in absurd (omega (arith, flat, rises)) in
+          let has : Has above now h = has-kept above st e g h Serving parent apart (down h (ap st one ∙ act) nz nz) in
+          let rest : Chosen above (Has above now h) (choose h d) =
+          more h now d (rises ∙ ap suc deep) (low, λ _. (g, parent_h)) at_d up_d down_d (λ _. put_here st e Serving (16 + h) one) none
+          (λ x s. elim (cases_eq x e) [
+            | inl same ↦ climb-under above n h g x low nz parent_h (inl (same ∙ sym one))
+            | inr other ↦ climb-under above n h g x low nz parent_h (inr (serving x (sym (put_other st e Serving x other) ∙ s)))
+          ]) in
+          record { done = rest.done; found = λ _. rest.found has }
+    ] refl
+
+chooses : (above : ℕ → Option ℕ) (levels : Levels above) (fuel n g : ℕ) (st : ℕ → State) (b : Bfq) → n + fuel ≡ 5 → levels.level g ≡ n → Stands above g → At above st b → Up above st → Down above st
+    → (g ≢ 0 → st (16 + g) ≡ Serving) → b.slot ≡ None → ((x : ℕ) → st x ≡ Serving → In x (climb n above (Some g))) → Chosen above (Has above st g) (select_from fuel g b)
+unfolding select_from
+chooses above levels zero n g st b sum deep stands at up down served none serving =
+    let few : levels.level g ≤ 4 = stands-low above levels g stands in absurd (omega (arith, sum, deep, few))
+chooses above levels (suc fuel) n g st b sum deep stands at up down served none serving =
+    let c : Bfq = jumped g b in
+    let H : Type 0 = Has above st g in
+    let choose : ℕ → Bfq → Bfq = λ h d. select_from fuel h d in
+    let at_c : At above st c = jumped-at above st g b at in
+    let quiet = jumped-quiet g b in
+    let none_c : c.slot ≡ None = quiet.1 ∙ none in
+    let low : levels.level g ≤ 4 = stands-low above levels g stands in
+    let few : n ≤ 4 = omega (arith, low, deep) in
+    let next : suc n + fuel ≡ 5 = omega (arith, sum) in
+    elim (picked c g) as (λ o. picked c g ≡ o → Chosen above H (on_pick o c (taken choose g c))) [
+      | None ↦ λ no. record {
+        done = λ slot is. let bad : Some slot ≡ None = sym is ∙ none_c in cc;
+        found = λ has. let some : is_some (picked c g) ≡ true = has-picks above st b g at has in let bad : is_some (picked c g) ≡ false = ap is_some no in cc;
+      }
+      | Some e ↦ λ is.
+          taken-chosen above levels choose n g st c e
+          (λ h now d deeper stands_h at_d up_d down_d served_d none_d serving_d. chooses above levels fuel (suc n) h now d next deeper stands_h at_d up_d down_d served_d none_d serving_d)
+          deep few at_c up down served none_c serving is H
+    ] refl
+
+-- where no queue is in service
+selects : (b : Bfq) (h : Alive b) → b.slot ≡ None → Chosen h.above (Has h.above h.st 0) (select b)
+selects b h none =
+    chooses h.above h.levels 5 0 0 h.st b refl h.levels.root (omega arith, λ ne. absurd (ne refl)) h.at h.up h.down (λ ne. absurd (ne refl)) none
+    (λ x s. let on = h.serving x s in let bad : Some on.0 ≡ None = sym on.1 ∙ none in cc)
+
+pub with_slot-alive : (b : Bfq) → Alive b → (slot : InService) → (with_slot b).slot ≡ Some slot → Alive (with_slot b)
+with_slot-alive b h slot = elim (is_none b.slot) as (λ t. is_none b.slot ≡ t → (cond t (select b) b).slot ≡ Some slot → Alive (cond t (select b) b)) [
+  | true ↦ λ none is.
+      let d : Done h.above (select b) slot = (selects b h (no_slot b.slot none)).done slot is in
+      record { above = h.above; st = d.now; levels = h.levels; at = d.at; up = d.up; down = d.down; serving = λ e s. (slot, is, d.serving e s) }
+  | false ↦ λ _ _. h
+] refl
+
+-- where nobody is served, a group with an active member is in one with an active member, up to the root
+to-root : (above : ℕ → Option ℕ) (levels : Levels above) (st : ℕ → State) → Up above st → ((e : ℕ) → st e ≢ Serving) → (g : ℕ) → Stands above g → Has above st g → Has above st 0
+to-root above levels st up nobody g stands =
+    climbing above levels (λ j _. Has above st j → Has above st 0) (λ has. has)
+    (λ j h ways ne lt parent more has. more (16 + j, parent, awake-active (st (16 + j)) (up has.0 j has.1 (ap is_idle has.2) ne ne) (nobody (16 + j))))
+    4 g (stands-low above levels g stands) stands
+
+some_slot : (o : Option InService) → is_none o ≡ false → is_some o ≡ true
+some_slot None e = cc
+some_slot (Some slot) e = refl
+
+-- where an entity is not idle, a queue is in service then
+pub slot-found : (b : Bfq) → Alive b → (k : ℕ) → idle b k ≡ false → is_some (with_slot b).slot ≡ true
+slot-found b h k awake = elim (is_none b.slot) as (λ t. is_none b.slot ≡ t → is_some (cond t (select b) b).slot ≡ true) [
+  | true ↦ λ is.
+      let none : b.slot ≡ None = no_slot b.slot is in
+      let nobody : (e : ℕ) → h.st e ≢ Serving = λ e s. let on = h.serving e s in let bad : Some on.0 ≡ None = sym on.1 ∙ none in cc in
+      let busy : is_idle (h.st k) ≡ false = ap is_idle (sym (h.at.are k)) ∙ awake in
+      let m = member-at h.above h.st b k h.at (not_idle (h.st k) busy) in
+      let has : Has h.above h.st (group_of b k) = (k, m.3, awake-active (h.st k) busy (nobody k)) in
+      (selects b h none).found (to-root h.above h.levels h.st h.up nobody (group_of b k) (parent-stands h.above h.levels k (group_of b k) m.3) has)
+  | false ↦ λ is. some_slot b.slot is
+] refl
