@@ -385,7 +385,7 @@ not_both BfqScheduler e under = cc
 -- every step
 pub keeps-tidy : (l : Limits) → Keeps l (λ m. is_bfq m.scheduler ≡ true → Tidy m)
 keeps-tidy l = record {
-  attaches = λ m n seat group prio small free stand had under. attached-tidy l m n seat group prio small free stand (had under);
+  attaches = λ m n seat group prio small free stand _ had under. attached-tidy l m n seat group prio small free stand (had under);
   submits = λ m n seat session op range payload next small taken e had under. woken-tidy m n seat session op range payload next small taken e had under;
   reaps = λ m seat bios had under.
       let h : Tidy m = had under in
@@ -399,11 +399,11 @@ keeps-tidy l = record {
         free = λ e no. h.free e (sym (alike e) ∙ no);
       };
   takes_turns = λ m n seat tag request requests plain had under. absurd (not_both m.scheduler plain under);
-  sends = λ m n tag o whole e had. sent_by_bfq-under l m n tag o e had;
+  sends = λ m n tag o _ whole e had. sent_by_bfq-under l m n tag o e had;
   finishes = λ m tag outcome request had under. let h : Tidy m = had under in record { busy = h.busy; free = h.free };
-  makes = λ m group parent weight _ _ _ had under. over-tidy m (made l group parent weight m.bfq) (made-over l m.bfq group parent weight) refl (had under);
+  makes = λ m group parent weight _ _ _ _ had under. over-tidy m (made l group parent weight m.bfq) (made-over l m.bfq group parent weight) refl (had under);
   drops = λ m group _ _ _ had under. over-tidy m (without_entity (entity_of group) m.bfq) (dropped-over m.bfq group) refl (had under);
-  weighs = λ m group weight had under.
+  weighs = λ m group weight _ had under.
       let next : Bfq = record m.bfq { pending = put m.bfq.pending (entity_of group) weight } in
       over-tidy m next (Over-same m.bfq next refl refl) refl (had under);
 }

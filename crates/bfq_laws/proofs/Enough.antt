@@ -99,15 +99,15 @@ opening-enough l first most e = elim (nat_lt e 16) as (λ t. 256 ≤ cond t l.fi
 -- every step
 pub keeps-enough : (l : Limits) → 256 ≤ l.first_budget → 256 ≤ l.max_budget → Keeps l (λ m. AreEnough m.bfq)
 keeps-enough l first most = record {
-  attaches = λ m n seat group prio _ free _ h. put-enough m.bfq.budget seat l.first_budget first h;
+  attaches = λ m n seat group prio _ free _ _ h. put-enough m.bfq.budget seat l.first_budget first h;
   submits = λ m n seat session op range payload next _ taken e h. woken-enough m seat (submitted m n seat session op range payload) next refl e h;
   reaps = λ m seat bios h. h;
   takes_turns = λ m n seat tag request requests _ h. h;
-  sends = λ m n tag o whole e h. sent_by_bfq-enough l m n tag o most e h;
+  sends = λ m n tag o _ whole e h. sent_by_bfq-enough l m n tag o most e h;
   finishes = λ m tag outcome request h. h;
-  makes = λ m group parent weight _ _ _ h. h;
+  makes = λ m group parent weight _ _ _ _ h. h;
   drops = λ m group _ _ _ h. h;
-  weighs = λ m group weight h. h;
+  weighs = λ m group weight _ h. h;
 }
 
 -- the law

@@ -31,7 +31,7 @@ use Rattle.bfq_laws.proofs.Standing.{session-alive, made-alive, dropped-alive}
 use Rattle.bfq_laws.proofs.Upcoming.{next-some, next_queue-is}
 
 -- the queue in service is that of a seat whose entity is not idle
-awake-slot : (seats : ℕ → Option Seat) (queue : ℕ → List WholeRequest) (b : Bfq) → Busy seats queue b → (slot : InService) → b.slot ≡ Some slot → (slot.seat < 16) × (idle b slot.seat ≡ false)
+pub awake-slot : (seats : ℕ → Option Seat) (queue : ℕ → List WholeRequest) (b : Bfq) → Busy seats queue b → (slot : InService) → b.slot ≡ Some slot → (slot.seat < 16) × (idle b slot.seat ≡ false)
 awake-slot seats queue b h slot is = let s = h.serves slot is in (s.0, h.rests slot.seat s.0 s.1 ∙ s.2)
 
 small-slot : (m : Plain) → Tidy m → (slot : InService) → m.bfq.slot ≡ Some slot → slot.seat < 16
@@ -66,7 +66,7 @@ attached-alive l m n seat group prio small free stand tidy h =
     alive-same with_it (attached l m n seat group prio).bfq refl refl refl alive
 
 -- Submit
-woken-alive : (m : Plain) (seat : ℕ) (next o : Plain) → next.bfq ≡ m.bfq → seat < 16 → is_some (m.seat seat) ≡ true → woken m seat next ≡ Some o → Tidy m → Alive m.bfq → Alive o.bfq
+pub woken-alive : (m : Plain) (seat : ℕ) (next o : Plain) → next.bfq ≡ m.bfq → seat < 16 → is_some (m.seat seat) ≡ true → woken m seat next ≡ Some o → Tidy m → Alive m.bfq → Alive o.bfq
 woken-alive m seat next o same small taken e tidy h =
     let Q : Plain → Type 0 = λ x. Alive x.bfq in
     elim (is_bfq m.scheduler && is_empty (m.queue seat)) as (λ t. cond t (option_map (λ b. record next { bfq = b }) (activate seat m.bfq)) (Some next) ≡ Some o → Q o) [
@@ -80,7 +80,7 @@ woken-alive m seat next o same small taken e tidy h =
     ] e
 
 -- Dispatch
-with_budget_in-alive : (l : Limits) (m : Plain) (o : Option InService) (b : Bfq) → with_budget_in l m o ≡ Some b → Tidy m → Alive m.bfq → Alive b
+pub with_budget_in-alive : (l : Limits) (m : Plain) (o : Option InService) (b : Bfq) → with_budget_in l m o ≡ Some b → Tidy m → Alive m.bfq → Alive b
 with_budget_in-alive l m None b e tidy h = subst Alive (some_is m.bfq b e) h
 with_budget_in-alive l m (Some slot) b e tidy h =
     elim (nat_lt (m.bfq.budget slot.seat) (slot.service + next_size m slot.seat)) as (λ t. cond t (expire Exhaustion l.max_budget true m.bfq) (Some m.bfq) ≡ Some b → Alive b) [
@@ -95,7 +95,7 @@ without_empty-alive l rest b c awake e h =
       | false ↦ λ f. subst Alive (some_is b c f) h
     ] e
 
-charge-alive : (size : ℕ) (b c : Bfq) → charge size b ≡ Some c → Alive b → Alive c
+pub charge-alive : (size : ℕ) (b c : Bfq) → charge size b ≡ Some c → Alive b → Alive c
 charge-alive size b c e h =
     let x = charge-slot size b c e in
     let now : InService = record x.0 { service = x.0.service + size } in
@@ -158,13 +158,13 @@ woken-scheduler m seat next o e =
     ] e
 
 -- before the first step nobody is in a group
-opening-none : (l : Limits) (g e : ℕ) → placed (opening l).bfq.service g e ≡ None
+pub opening-none : (l : Limits) (g e : ℕ) → placed (opening l).bfq.service g e ≡ None
 opening-none l g e = elim (nat_lt g 32) as (λ t. slice_index_or (cond t (empty_service l.first_vtime) (record { vtime = 0; members = [] })).members e None ≡ None) [
   | true ↦ free_place None 48 e
   | false ↦ refl
 ]
 
-opening-alive : (l : Limits) → Alive (opening l).bfq
+pub opening-alive : (l : Limits) → Alive (opening l).bfq
 opening-alive l = record {
   above = λ _. None;
   st = λ _. Idle;
@@ -189,35 +189,35 @@ opening-alive l = record {
 }
 
 -- every step
-abbrev Known_under : Plain → Type 0
+abbrev pub Known_under : Plain → Type 0
 Known_under m = is_bfq m.scheduler ≡ true → Tidy m × Alive m.bfq
 
 abbrev tidy_under : (m : Plain) → Known_under m → is_bfq m.scheduler ≡ true → Tidy m
 tidy_under m had under = (had under).0
 
-keeps-alive : (l : Limits) → Keeps l Known_under
+pub keeps-alive : (l : Limits) → Keeps l Known_under
 keeps-alive l = record {
-  attaches = λ m n seat group prio small free stand had under.
-      let h = had under in ((keeps-tidy l).attaches m n seat group prio small free stand (tidy_under m had) under, attached-alive l m n seat group prio small free stand h.0 h.1);
+  attaches = λ m n seat group prio small free stand high had under.
+      let h = had under in ((keeps-tidy l).attaches m n seat group prio small free stand high (tidy_under m had) under, attached-alive l m n seat group prio small free stand h.0 h.1);
   submits = λ m n seat session op range payload next small taken e had under.
       let same : m.scheduler ≡ next.scheduler = woken-scheduler m seat (submitted m n seat session op range payload) next e in
       let h = had (ap is_bfq same ∙ under) in
       ((keeps-tidy l).submits m n seat session op range payload next small taken e (tidy_under m had) under, woken-alive m seat (submitted m n seat session op range payload) next refl small taken e h.0 h.1);
   reaps = λ m seat bios had under. ((keeps-tidy l).reaps m seat bios (tidy_under m had) under, (had under).1);
   takes_turns = λ m n seat tag request requests plain had under. ((keeps-tidy l).takes_turns m n seat tag request requests plain (tidy_under m had) under, (had under).1);
-  sends = λ m n tag o whole e had under.
+  sends = λ m n tag o its whole e had under.
       let same : m.scheduler ≡ o.0.scheduler = sent_by_bfq-scheduler l m n tag o e in
       let h = had (ap is_bfq same ∙ under) in
-      ((keeps-tidy l).sends m n tag o whole e (tidy_under m had) under, sent_by_bfq-alive l m n tag o e h.0 h.1);
+      ((keeps-tidy l).sends m n tag o its whole e (tidy_under m had) under, sent_by_bfq-alive l m n tag o e h.0 h.1);
   finishes = λ m tag outcome request had under. ((keeps-tidy l).finishes m tag outcome request (tidy_under m had) under, (had under).1);
-  makes = λ m group parent weight stand few free had under.
+  makes = λ m group parent weight stand weighs few free had under.
       let h = had under in
-      ((keeps-tidy l).makes m group parent weight stand few free (tidy_under m had) under, made-alive l m.bfq group parent weight stand few free (small-slot m h.0) h.1);
+      ((keeps-tidy l).makes m group parent weight stand weighs few free (tidy_under m had) under, made-alive l m.bfq group parent weight stand few free (small-slot m h.0) h.1);
   drops = λ m group stand other unused had under.
       let h = had under in ((keeps-tidy l).drops m group stand other unused (tidy_under m had) under, dropped-alive m.bfq group stand other unused (small-slot m h.0) h.1);
-  weighs = λ m group weight had under.
+  weighs = λ m group weight fits had under.
       let next : Bfq = record m.bfq { pending = put m.bfq.pending (entity_of group) weight } in
-      ((keeps-tidy l).weighs m group weight (tidy_under m had) under, alive-same m.bfq next refl refl refl (had under).1);
+      ((keeps-tidy l).weighs m group weight fits (tidy_under m had) under, alive-same m.bfq next refl refl refl (had under).1);
 }
 
 -- a queue and its request are found

@@ -14,3 +14,4 @@ pub mod Choosing
 pub mod Standing
 pub mod Upcoming
 pub mod Found
+pub mod Weighing

@@ -1,7 +1,7 @@
 -- What each kind of change keeps, every step keeps, and so it holds of the machine of every keeper.
-use Rattle.std.proofs.Common.{true, false, Bool, ◌≡◌, ℕ, ◌+◌, ◌-◌, ◌<◌, nat_le, ◌==◌, not, List, [], ◌∷◌, length, take, Option, Some, None, is_some, cond, refl, sym, ◌∙◌, subst, unwrap_or}
+use Rattle.std.proofs.Common.{true, false, Bool, ◌≡◌, ℕ, ◌+◌, ◌-◌, ◌<◌, ◌≤◌, nat_le, nat_lt, ◌==◌, not, List, [], ◌∷◌, length, take, Option, Some, None, is_some, cond, refl, sym, ◌∙◌, subst, unwrap_or}
 use Rattle.std.specs.Option.{is_none, option_map}
-use Rattle.std.proofs.lemmas.Bool.{not-false, leb-false}
+use Rattle.std.proofs.lemmas.Bool.{not-false, leb-false, ltb-false}
 use Rattle.std.proofs.lemmas.List.Elements.{All-nil}
 use Rattle.sector_core.specs.declared.bio.Bio.{Bio}
 use Rattle.sector_core.specs.declared.bio.BioResult.TheVariants.{Written}
@@ -57,17 +57,17 @@ made l group parent weight b = put_vtime group l.first_vtime (with_entity l (ent
 
 -- each change of a step keeps this
 pub record Keeps (l : Limits) (P : Plain → Type 0) : Type 0 where
-  pub attaches : (m : Plain) (n seat group prio : ℕ) → seat < 16 → m.seat seat ≡ None → stands m.bfq group ≡ true → P m → P (attached l m n seat group prio)
+  pub attaches : (m : Plain) (n seat group prio : ℕ) → seat < 16 → m.seat seat ≡ None → stands m.bfq group ≡ true → prio ≤ 7 → P m → P (attached l m n seat group prio)
   pub submits : (m : Plain) (n seat session : ℕ) (op : Op) (range : Range) (payload : List ℕ) (next : Plain) → seat < 16 → is_some (m.seat seat) ≡ true
       → woken m seat (submitted m n seat session op range payload) ≡ Some next → P m → P next
   pub reaps : (m : Plain) (seat : ℕ) (bios : List Bio) → P m → P (reaped_from m seat bios)
   pub takes_turns : (m : Plain) (n seat tag : ℕ) (request : WholeRequest) (requests : List WholeRequest) → m.scheduler ≡ PlainScheduler → P m → P (sent_in_turn m n seat tag request requests)
-  pub sends : (m : Plain) (n tag : ℕ) (o : Plain × Reply) → AreWhole m → sent_by_bfq l m n tag ≡ Some o → P m → P o.0
+  pub sends : (m : Plain) (n tag : ℕ) (o : Plain × Reply) → m.scheduler ≡ BfqScheduler → AreWhole m → sent_by_bfq l m n tag ≡ Some o → P m → P o.0
   pub finishes : (m : Plain) (tag : ℕ) (outcome : Outcome) (request : WholeRequest) → P m → P (done_with m tag outcome request)
-  pub makes : (m : Plain) (group parent weight : ℕ) → stands m.bfq parent ≡ true → nat_le most_levels (depth m.bfq.parent parent) ≡ false → free_group m.bfq ≡ Some group
+  pub makes : (m : Plain) (group parent weight : ℕ) → stands m.bfq parent ≡ true → is_weight weight ≡ true → nat_le most_levels (depth m.bfq.parent parent) ≡ false → free_group m.bfq ≡ Some group
       → P m → P (record m { bfq = made l group parent weight m.bfq })
   pub drops : (m : Plain) (group : ℕ) → stands m.bfq group ≡ true → (group == 0) ≡ false → is_used m.bfq group ≡ false → P m → P (record m { bfq = without_entity (entity_of group) m.bfq })
-  pub weighs : (m : Plain) (group weight : ℕ) → P m → P (record m { bfq = record m.bfq { pending = put m.bfq.pending (entity_of group) weight } })
+  pub weighs : (m : Plain) (group weight : ℕ) → is_weight weight ≡ true → P m → P (record m { bfq = record m.bfq { pending = put m.bfq.pending (entity_of group) weight } })
 
 not_some : {A : Type 0} (o : Option A) → is_some o ≡ false → o ≡ None
 not_some None h = refl
@@ -85,7 +85,8 @@ attach-keeps l P keeps m n room seat group prio h =
     let within = first_fails (nat_le 16 seat) _ _ e in
     let free = first_fails (is_some (m.seat seat)) _ _ within.1 in
     let known = first_fails (not (stands m.bfq group)) _ _ free.1 in
-    accepted-keeps P room m next (Attached n) h (keeps.attaches m n seat group prio (leb-false 16 seat within.0) (not_some (m.seat seat) free.0) (not-false (stands m.bfq group) known.0) h))
+    let few = first_fails (nat_lt 7 prio) _ _ known.1 in
+    accepted-keeps P room m next (Attached n) h (keeps.attaches m n seat group prio (leb-false 16 seat within.0) (not_some (m.seat seat) free.0) (not-false (stands m.bfq group) known.0) (ltb-false 7 prio few.0) h))
 
 submit-keeps : (l : Limits) (P : Plain → Type 0) → Keeps l P → (m : Plain) (n : ℕ) (room : Bool) (seat session : ℕ) (op : Op) (range : Range) (payload : List ℕ)
     → P m → P (submit l m n room seat session op range payload).0
@@ -117,7 +118,7 @@ sent-keeps l P keeps m n room seat tag (r ∷ rest) is h =
 
 sent_by-keeps : (l : Limits) (P : Plain → Type 0) → Keeps l P → (m : Plain) (n : ℕ) (room : Bool) (seat tag : ℕ) (scheduler : Scheduler) → m.scheduler ≡ scheduler → AreWhole m → P m → P (sent_by l m n room seat tag scheduler).0
 sent_by-keeps l P keeps m n room seat tag PlainScheduler is whole h = sent-keeps l P keeps m n room seat tag (m.queue seat) is h
-sent_by-keeps l P keeps m n room seat tag BfqScheduler is whole h = accepted_if-keeps P room m (sent_by_bfq l m n tag) h (λ o e. keeps.sends m n tag o whole e h)
+sent_by-keeps l P keeps m n room seat tag BfqScheduler is whole h = accepted_if-keeps P room m (sent_by_bfq l m n tag) h (λ o e. keeps.sends m n tag o is whole e h)
 
 dispatch_to-keeps : (l : Limits) (P : Plain → Type 0) → Keeps l P → (m : Plain) (n : ℕ) (room : Bool) (seat tag : Option ℕ) → AreWhole m → P m → P (dispatch_to l m n room seat tag).0
 dispatch_to-keeps l P keeps m n room None tag whole h = h
@@ -135,10 +136,10 @@ finish-keeps l P keeps m room tag issue outcome h =
     unless-keeps P _ m (finish_of m room tag issue outcome (m.flight tag)) h (λ _. finish_of-keeps l P keeps m room tag issue outcome (m.flight tag) h)
 
 made_group-keeps : (l : Limits) (P : Plain → Type 0) → Keeps l P → (m : Plain) (room : Bool) (parent weight : ℕ) (found : Option ℕ)
-    → stands m.bfq parent ≡ true → nat_le most_levels (depth m.bfq.parent parent) ≡ false → free_group m.bfq ≡ found → P m → P (made_group l m room parent weight found).0
-made_group-keeps l P keeps m room parent weight None known few is h = h
-made_group-keeps l P keeps m room parent weight (Some group) known few is h =
-    accepted-keeps P room m (record m { bfq = made l group parent weight m.bfq }) (Group group) h (keeps.makes m group parent weight known few is h)
+    → stands m.bfq parent ≡ true → is_weight weight ≡ true → nat_le most_levels (depth m.bfq.parent parent) ≡ false → free_group m.bfq ≡ found → P m → P (made_group l m room parent weight found).0
+made_group-keeps l P keeps m room parent weight None known weighs few is h = h
+made_group-keeps l P keeps m room parent weight (Some group) known weighs few is h =
+    accepted-keeps P room m (record m { bfq = made l group parent weight m.bfq }) (Group group) h (keeps.makes m group parent weight known weighs few is h)
 
 group_make-keeps : (l : Limits) (P : Plain → Type 0) → Keeps l P → (m : Plain) (room : Bool) (parent weight : ℕ) → P m → P (group_make l m room parent weight).0
 group_make-keeps l P keeps m room parent weight h =
@@ -147,7 +148,7 @@ group_make-keeps l P keeps m room parent weight h =
     let known = first_fails (not (stands m.bfq parent)) _ _ e in
     let weighs = first_fails (not (is_weight weight)) _ _ known.1 in
     let few = first_fails (nat_le most_levels (depth m.bfq.parent parent)) _ _ weighs.1 in
-    made_group-keeps l P keeps m room parent weight (free_group m.bfq) (not-false (stands m.bfq parent) known.0) few.0 refl h)
+    made_group-keeps l P keeps m room parent weight (free_group m.bfq) (not-false (stands m.bfq parent) known.0) (not-false (is_weight weight) weighs.0) few.0 refl h)
 
 group_drop-keeps : (l : Limits) (P : Plain → Type 0) → Keeps l P → (m : Plain) (room : Bool) (group : ℕ) → P m → P (group_drop m room group).0
 group_drop-keeps l P keeps m room group h =
@@ -162,7 +163,12 @@ group_drop-keeps l P keeps m room group h =
 set_weight-keeps : (l : Limits) (P : Plain → Type 0) → Keeps l P → (m : Plain) (room : Bool) (group weight : ℕ) → P m → P (set_weight m room group weight).0
 set_weight-keeps l P keeps m room group weight h =
     let next : Plain = record m { bfq = record m.bfq { pending = put m.bfq.pending (entity_of group) weight } } in
-    unless-keeps P _ m (accepted room m next Done) h (λ _. accepted-keeps P room m next Done h (keeps.weighs m group weight h))
+    unless-keeps P _ m (accepted room m next Done) h
+    (λ e.
+    let known = first_fails (not (stands m.bfq group)) _ _ e in
+    let other = first_fails (group == 0) _ _ known.1 in
+    let weighs = first_fails (not (is_weight weight)) _ _ other.1 in
+    accepted-keeps P room m next Done h (keeps.weighs m group weight (not-false (is_weight weight) weighs.0) h))
 
 -- every step
 step-keeps : (l : Limits) (P : Plain → Type 0) → Keeps l P → (m : Plain) (n : ℕ) (room : Bool) (s : Step) → AreWhole m → P m → P (step l m n room s).0

@@ -241,16 +241,16 @@ opening-within l first most = record {
 -- every step
 keeps-within : (l : Limits) → 256 ≤ l.first_budget → 256 ≤ l.max_budget → Keeps l Within
 keeps-within l first most = record {
-  attaches = λ m n seat group prio _ free _ h. attached-within l first m n seat group prio free h;
+  attaches = λ m n seat group prio _ free _ _ h. attached-within l first m n seat group prio free h;
   submits = λ m n seat session op range payload next _ taken e h.
       woken-within m seat (submitted m n seat session op range payload) next refl (put-grows m.seat seat _ (λ sits. mapped-some _ (m.seat seat) sits)) taken e h;
   reaps = λ m seat bios h.
       let grows : Grows m.seat (put m.seat seat _) = put-grows m.seat seat _ (λ sits. mapped-some _ (m.seat seat) sits) in
       record { enough = h.enough; known = grown-known m.seat _ m.bfq grows h.known; served = grown-served m.seat _ m.bfq grows h.served };
   takes_turns = λ m n seat tag request requests _ h. record { enough = h.enough; known = h.known; served = h.served };
-  sends = λ m n tag o whole e h. sent_by_bfq-within l most m n tag o whole e h;
+  sends = λ m n tag o _ whole e h. sent_by_bfq-within l most m n tag o whole e h;
   finishes = λ m tag outcome request h. record { enough = h.enough; known = h.known; served = h.served };
-  makes = λ m group parent weight _ _ _ h. record {
+  makes = λ m group parent weight _ _ _ _ h. record {
     enough = h.enough;
     known =
         vtime-known m.seat (with_entity l (entity_of group) parent weight m.bfq).service group l.first_vtime
@@ -262,7 +262,7 @@ keeps-within l first most = record {
     known = member-known m.seat m.bfq.service (group_of m.bfq (entity_of group)) (entity_of group) None (λ small. absurd (omega (arith, small))) h.known;
     served = h.served;
   };
-  weighs = λ m group weight h. record { enough = h.enough; known = h.known; served = h.served };
+  weighs = λ m group weight _ h. record { enough = h.enough; known = h.known; served = h.served };
 }
 
 -- the law

@@ -1,3 +1,4 @@
 pub mod Budgets
 pub mod Busy
 pub mod Found
+pub mod Weights

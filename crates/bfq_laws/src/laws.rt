@@ -2,6 +2,7 @@
 ghost use Rattle.bfq_laws.specs.Busy.{BusySessionsWaitOrAreServed};
 ghost use Rattle.bfq_laws.specs.Found.{EachDispatchFindsARequest};
 ghost use Rattle.bfq_laws.specs.Budgets.{BudgetsAreEnough, ServiceIsWithinBudget};
+ghost use Rattle.bfq_laws.specs.Weights.{WeightsArePositive};
 ghost use Rattle.plain_machine.specs.Step.{Limits};
 ghost use Rattle.plain_machine.specs.declared.call.Call.{Call};
 ghost use Rattle.std.specs.Prelude.{ℕ, List};
@@ -36,6 +37,13 @@ pub fn busy_sessions_wait_or_are_served()
 /// request; but where the expiry before it is refused, for a time that would be too great. The contract is the law.
 pub fn dispatch_finds_a_request()
     ensures { (l : Limits) (most : ℕ) (journal : List Call) → EachDispatchFindsARequest l most journal }
+{
+    requests_stay_whole();
+}
+
+/// On the machine of every keeper that a journal makes no weight is 0, be it pending or in effect. The contract is the law.
+pub fn weights_are_positive()
+    ensures { (l : Limits) (most : ℕ) (journal : List Call) → WeightsArePositive l most journal }
 {
     requests_stay_whole();
 }
