@@ -15,3 +15,4 @@ pub mod Standing
 pub mod Upcoming
 pub mod Found
 pub mod Weighing
+pub mod Summing

@@ -165,7 +165,7 @@ select_from-weighs (suc levels) group b h =
     let jump : WeighEnough c = jumped-weighs group b h in
     on_pick-weighs (picked c group) c (taken choose group c) jump (λ entity e. taken-weighs choose (λ g d. select_from-weighs levels g d) group c entity e jump)
 
-with_slot-weighs : (b : Bfq) → WeighEnough b → WeighEnough (with_slot b)
+pub with_slot-weighs : (b : Bfq) → WeighEnough b → WeighEnough (with_slot b)
 with_slot-weighs b h = elim (is_none b.slot) as (λ t. WeighEnough (cond t (select b) b)) [ true ↦ select_from-weighs 5 0 b h | false ↦ h ]
 
 -- Charge
@@ -221,7 +221,7 @@ awake-above above levels st up n g = climbing above levels
     ]) n g
 
 -- so who is on the path of the queue in service is not idle
-path-awake : (b : Bfq) (h : Alive b) (k : ℕ) → idle b k ≡ false → (i : ℕ) → In i (path b.parent k) → is_idle (h.st i) ≡ false
+pub path-awake : (b : Bfq) (h : Alive b) (k : ℕ) → idle b k ≡ false → (i : ℕ) → In i (path b.parent k) → is_idle (h.st i) ≡ false
 path-awake b h k awake i within =
     let above : ℕ → Option ℕ = h.above in
     let st : ℕ → State = h.st in
@@ -252,7 +252,7 @@ expire-weighs cause most queued b c awake e alive h =
     expires-weigh slot.0.service queued (path b.parent k) (out_of_service cause most slot.0 b) c slot.2 (path-weighs b alive k (awake slot.0 slot.1).1 h) h
 
 -- Dispatch
-with_budget_in-weighs : (l : Limits) (m : Plain) (o : Option InService) (b : Bfq) → with_budget_in l m o ≡ Some b → Tidy m → Alive m.bfq → WeighEnough m.bfq → WeighEnough b
+pub with_budget_in-weighs : (l : Limits) (m : Plain) (o : Option InService) (b : Bfq) → with_budget_in l m o ≡ Some b → Tidy m → Alive m.bfq → WeighEnough m.bfq → WeighEnough b
 with_budget_in-weighs l m None b e tidy alive h = subst WeighEnough (some_is m.bfq b e) h
 with_budget_in-weighs l m (Some slot) b e tidy alive h =
     elim (nat_lt (m.bfq.budget slot.seat) (slot.service + next_size m slot.seat)) as (λ t. cond t (expire Exhaustion l.max_budget true m.bfq) (Some m.bfq) ≡ Some b → WeighEnough b) [
@@ -312,10 +312,10 @@ gone-weighs : (member : Member) → None ≡ Some member → 1 ≤ member.weight
 gone-weighs member e = cc
 
 -- every step
-abbrev Weighs : Plain → Type 0
+abbrev pub Weighs : Plain → Type 0
 Weighs m = WeighEnough m.bfq × Known_under m
 
-keeps-weighs : (l : Limits) → Keeps l Weighs
+pub keeps-weighs : (l : Limits) → Keeps l Weighs
 keeps-weighs l = record {
   attaches = λ m n seat group prio small free stand high h.
       (entity-weighs l seat group (prio_weight prio) m.bfq (prio-weighs prio high) h.0, (keeps-alive l).attaches m n seat group prio small free stand high h.1);
@@ -337,7 +337,7 @@ keeps-weighs l = record {
 }
 
 -- before the first step
-opening-weighs : (l : Limits) → WeighEnough (opening l).bfq
+pub opening-weighs : (l : Limits) → WeighEnough (opening l).bfq
 opening-weighs l = (λ e. omega arith, λ g e member is. gone-weighs member (sym (opening-none l g e) ∙ is))
 
 -- the law

@@ -2,3 +2,4 @@ pub mod Budgets
 pub mod Busy
 pub mod Found
 pub mod Weights
+pub mod Sums

@@ -3,6 +3,7 @@ ghost use Rattle.bfq_laws.specs.Busy.{BusySessionsWaitOrAreServed};
 ghost use Rattle.bfq_laws.specs.Found.{EachDispatchFindsARequest};
 ghost use Rattle.bfq_laws.specs.Budgets.{BudgetsAreEnough, ServiceIsWithinBudget};
 ghost use Rattle.bfq_laws.specs.Weights.{WeightsArePositive};
+ghost use Rattle.bfq_laws.specs.Sums.{SumsArePositive};
 ghost use Rattle.plain_machine.specs.Step.{Limits};
 ghost use Rattle.plain_machine.specs.declared.call.Call.{Call};
 ghost use Rattle.std.specs.Prelude.{ℕ, List};
@@ -44,6 +45,14 @@ pub fn dispatch_finds_a_request()
 /// On the machine of every keeper that a journal makes no weight is 0, be it pending or in effect. The contract is the law.
 pub fn weights_are_positive()
     ensures { (l : Limits) (most : ℕ) (journal : List Call) → WeightsArePositive l most journal }
+{
+    requests_stay_whole();
+}
+
+/// There, under BFQ, the sum of the weights is not 0 in any group on the path of the queue in service, also where a dispatch
+/// has one in service before it charges. The contract is the law.
+pub fn sums_are_positive()
+    ensures { (l : Limits) (most : ℕ) (journal : List Call) → SumsArePositive l most journal }
 {
     requests_stay_whole();
 }

@@ -2,7 +2,7 @@
 //! Laws of the machine under BFQ: what holds after every run, whatever its calls were.
 //!
 //! `specs/` has what the laws say: `Budgets` has budgets, and the service that is within them; `Busy` who waits or is served;
-//! `Found` what a dispatch finds; `Weights` has weights.
+//! `Found` what a dispatch finds; `Weights` has weights, and `Sums` their sums.
 //!
 //! | call | rule that it meets |
 //! |---|---|
@@ -11,10 +11,11 @@
 //! | [`busy_sessions_wait_or_are_served`] | a session's entity is idle exactly where its queue is empty |
 //! | [`dispatch_finds_a_request`] | where a queue is not empty, a queue is in service or is selected, and has a next request |
 //! | [`weights_are_positive`] | no weight is 0, be it pending or in effect |
+//! | [`sums_are_positive`] | in each group on the path of the queue in service the sum of weights is not 0 |
 
 mod laws;
 
 pub use laws::{
     budgets_are_enough, busy_sessions_wait_or_are_served, dispatch_finds_a_request,
-    service_is_within_budget, weights_are_positive,
+    service_is_within_budget, sums_are_positive, weights_are_positive,
 };
