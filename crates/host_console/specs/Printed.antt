@@ -58,6 +58,16 @@ content_text k number =
     if nat_le k.limits.sectors number then codes "none"
     else elim (blocks.get (machine_of k).overlay number) [ None ↦ codes "base" | Some block ↦ codes "overlay " ++ hex_of block ]
 
+-- the same of a sector that shows this (our profile)
+abbrev pub kind_text : Content → List ℕ
+kind_text content.Outside = codes "none"
+kind_text content.Base = codes "base"
+kind_text (content.Stored block) = codes "overlay " ++ hex_of block.now
+
+-- a sector that shows this (our profile)
+abbrev pub shown_text : ℕ → Content → List ℕ
+shown_text number shown = codes "sector " ++ (decimal number ++ 32 ∷ kind_text shown)
+
 abbrev pub sector_text : State → ℕ → List ℕ
 sector_text k number = codes "sector " ++ (decimal number ++ 32 ∷ content_text k number)
 

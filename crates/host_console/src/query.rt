@@ -1,6 +1,6 @@
 // The texts of queries.
 ghost use Rattle.std.specs.Prelude.{◌≡◌, ◌∷◌, ◌++◌, OnOk};
-ghost use Rattle.host_console.specs.Printed.{sector_text, request_text, queue_text, cursor_text, group_text, known_text};
+ghost use Rattle.host_console.specs.Printed.{sector_text, shown_text, request_text, queue_text, cursor_text, group_text, known_text};
 ghost use Rattle.host_console.specs.Texts.{state_text, entity_text};
 
 use crate::{Content, Keeps};
@@ -17,7 +17,14 @@ const MOST_REQUESTS: usize = 65536;
 pub fn put_sector<K: Keeps>(keeper: &K, number: u64, out: &mut Vec<u8>) -> io::Result<()>
     ensures { OnOk result (out.new.items ≡ out.old.items ++ sector_text (K.state keeper.now) number) }
 {
-    match keeper.sector(number) {
+    put_content(number, keeper.sector(number), out)
+}
+
+// Appends a sector with its content.
+fn put_content(number: u64, content: Content<'_>, out: &mut Vec<u8>) -> io::Result<()>
+    ensures { OnOk result (out.new.items ≡ out.old.items ++ shown_text number content.entry) }
+{
+    match content {
         Content::Outside => write!(out, "sector {number} none"),
         Content::Base => write!(out, "sector {number} base"),
         Content::Stored(block) => {
