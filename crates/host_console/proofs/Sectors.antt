@@ -1,5 +1,5 @@
 -- A sector that shows what it has prints what it has.
-use Rattle.std.proofs.Common.{◌≡◌, ℕ, ◌<◌, ◌≤◌, List, ◌∷◌, ◌++◌, Option, None, Some, Bool, true, false, cond, nat_le, codes, refl, sym, ap, ◌∙◌, le-leb}
+use Rattle.std.proofs.Common.{◌≡◌, ℕ, List, ◌∷◌, ◌++◌, Option, None, Some, Bool, false, cond, codes, sym, ap, ◌∙◌, le-leb}
 use Rattle.std.proofs.lemmas.Bool.{lt-leb}
 use Rattle.std.specs.FinMap as blocks
 use Rattle.plain_machine.specs.Keeper.{State, machine_of}
