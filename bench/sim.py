@@ -3,7 +3,7 @@
 
     python3 bench/sim.py [WORKLOAD]...
 
-There are three workloads over 1,024 sectors, each of cycles after an opening. With no workload named all are run.
+There are four workloads over 1,024 sectors, each of cycles after an opening. With no workload named all are run.
 
 `writes` and `merging reads` run with the scheduler none, and open with one attach. A cycle of `writes` is one write of
 one sector, its dispatch, its finish and its reap. A cycle of `merging reads` is 32 reads of 8 sectors in a row, which
@@ -12,6 +12,10 @@ become one request, its dispatch, its finish with all bytes 0, and 32 reaps.
 `reads in groups` runs with the scheduler bfq. It opens with 31 groups in four levels, and with 16 sessions in the 16
 groups of the fourth. A cycle is two reads of one sector by each session, which do not merge, 32 dispatches, each with
 its finish with all bytes 0, and 32 reaps. The same calls run with the scheduler none beside it.
+
+`all kinds of steps` begins with the scheduler bfq, and opens with one attach. A cycle has each kind of step: a group comes
+and is weighed, a client attaches to it and reads, its request is given back and sent again, it leaves with another one
+in flight, the group goes, the host is frozen, switched to none and back and thawed, and the first client writes.
 
 Each figure is the median of 25 rounds, in user plus system time of the process, with that of an empty script of the
 same round taken off. Peak memory is that of the process, by getrusage, with that of an empty script taken off. Beside
@@ -102,6 +106,34 @@ def grouped_read_cycle(cycle, first):
         yield f"reap {seat} {GROUPS + 1 + seat}", f"completed {first + place} read 00"
 
 
+def all_steps_cycle(cycle, first):
+    """Likewise. Each kind of step once at least; at the end of a cycle the machine is as before it, but for the sector."""
+    session, sector = first + 2, 4 * cycle % SECTORS
+    yield "group 0 100", "group 1"
+    yield "weight 1 200", "done"
+    yield "attach 1 1 4", f"attached {session}"
+    yield f"read 1 {session} {sector} 1", f"queued {first + 3}"
+    yield f"read 1 {session} {sector + 2} 1", f"queued {first + 4}"
+    yield "dispatch", f"issued 0 {first + 5} fetch {sector} 1"
+    yield "tick", "done"
+    yield f"requeue 0 {first + 5}", "requeued"
+    yield "dispatch", f"issued 0 {first + 8} fetch {sector} 1"
+    yield f"finish 0 {first + 8} fill 0", "finished 1"
+    yield f"reap 1 {session}", f"completed {first + 3} read 00"
+    yield "dispatch", f"issued 0 {first + 11} fetch {sector + 2} 1"
+    yield "leave 1", "left"
+    yield f"finish 0 {first + 11} fill 0", "finished 1"
+    yield "drop 1", "done"
+    yield "freeze", "done"
+    yield "switch none", "done"
+    yield "switch bfq", "done"
+    yield "thaw", "done"
+    yield f"write 0 1 {sector + 1} 1 {cycle % 256}", f"queued {first + 19}"
+    yield "dispatch", f"issued 0 {first + 20} store {sector + 1} 1"
+    yield f"finish 0 {first + 20} stored", "finished 1"
+    yield "reap 0 1", f"completed {first + 19} written"
+
+
 class Workload(namedtuple("Workload", "name scheduler opening cycle calls payload_sectors most_bytes most_against_none")):
     """The lines before the cycles and what they print, a cycle, the calls that it has, the sectors that it writes or
     reads, and the bounds on a call's bytes and on its time against that with the scheduler none, if any."""
@@ -150,6 +182,8 @@ WORKLOADS = [
     # The bytes of a read stay for as long as its reap can be undone, so what a call leaves is mostly payload.
     Workload("merging reads", "none", ONE_ATTACH, merging_read_cycle, 66, 256, None, None),
     Workload("reads in groups", "bfq", list(groups_and_seats()), grouped_read_cycle, 128, 32, None, MOST_AGAINST_NONE),
+    # With the scheduler none the first switch would be refused.
+    Workload("all kinds of steps", "bfq", ONE_ATTACH, all_steps_cycle, 23, 3, None, None),
 ]
 
 

@@ -6,8 +6,6 @@ use Rattle.service_tree.specs.declared.member.Member.{Member}
 use Rattle.sector_core.specs.declared.bio.Bio.{Bio}
 use Rattle.sector_core.specs.declared.bio.Op.{Op}
 use Rattle.sector_core.specs.declared.range.Range.{Range}
-use Rattle.sector_core.specs.declared.config.Scheduler.{Scheduler}
-use Rattle.sector_core.specs.declared.config.Scheduler.TheVariants.{Plain as PlainScheduler, Bfq as BfqScheduler}
 use Rattle.process_queue.specs.Queue.{is_empty}
 use Rattle.process_queue.specs.Merge.{joins_at, merge_of}
 use Rattle.process_queue.specs.Next.{has_start}
@@ -17,17 +15,15 @@ use Rattle.change_record.specs.declared.change.InService.{InService}
 use Rattle.change_record.specs.Tables.{empty_service}
 use Rattle.change_record.specs.Machine.{WholeRequest, Bfq, Plain, put}
 use Rattle.bfq_select.specs.declared.expiry.Expiry.{Expiry}
-use Rattle.bfq_select.specs.declared.expiry.Expiry.TheVariants.{Exhaustion, Emptying}
+use Rattle.bfq_select.specs.declared.expiry.Expiry.TheVariants.{Emptying}
 use Rattle.bfq_select.specs.Rules.{absent, is_idle, group_of, activate, select, charge, expire, stands}
 use Rattle.plain_machine.specs.declared.answer.Reply.{Reply}
-use Rattle.plain_machine.specs.declared.call.Call.{Call}
-use Rattle.plain_machine.specs.Step.{Limits, opening, is_bfq, with_entity, attached, new_bio, with_bio, change_first, queue_with, submitted, woken, range_of, next_request, next_size, with_budget_in, with_slot, without_first, without_empty, without_entity, sent_next, sent_in, sent_by_bfq, shape}
-use Rattle.plain_machine.specs.Whole.{KeepsWhole}
-use Rattle.bfq_laws.specs.Busy.{BusySessionsWaitOrAreServed}
+use Rattle.plain_machine.specs.Step.{Limits, opening, is_bfq, with_entity, attached, new_bio, with_bio, change_first, queue_with, submitted, woken, range_of, next_request, with_budget_in, with_slot, older, without_first, without_empty, without_entity, sent_next, sent_in, sent_by_bfq, shape}
 use Rattle.bfq_laws.proofs.Puts.{put_here, put_other, some_is, and_then_is, map_is}
 use Rattle.bfq_laws.proofs.Quiet.{activate-quiet, charge-slot, expire-slot}
-use Rattle.bfq_laws.proofs.Walk.{Keeps, made, machine-keeps}
-use Rattle.bfq_laws.proofs.Tree.{placed, placed-here, placed-elsewhere, placed-other, length-member, Over, Over-same, Over-trans, Over-vtime, idle, idle-over, Tree, Tree-over, Sets, activate-sets, charge-over, expire-sets, Choice, select-choice}
+use Rattle.bfq_laws.proofs.Overdue.{overdue}
+use Rattle.bfq_laws.proofs.Walk.{made, entered, gone}
+use Rattle.bfq_laws.proofs.Tree.{placed, placed-here, placed-elsewhere, placed-other, length-member, Over, Over-same, Over-trans, Over-vtime, idle, idle-over, Tree, Tree-over, sits-above, Sets, activate-sets, charge-over, expire-sets, Choice, select-choice}
 
 -- each taken seat's entity is idle exactly where its queue is empty; and the queue in service, if one is, is not empty
 pub record Busy (seats : ℕ → Option Seat) (queue : ℕ → List WholeRequest) (b : Bfq) : Type 0 where
@@ -48,20 +44,20 @@ Busy-over seats queue b c over slots h = record {
 }
 
 -- the same seats are taken
-abbrev Alike : (ℕ → Option Seat) → (ℕ → Option Seat) → Type 0
+abbrev pub Alike : (ℕ → Option Seat) → (ℕ → Option Seat) → Type 0
 Alike before after = (seat : ℕ) → is_some (after seat) ≡ is_some (before seat)
 
 mapped : (f : Seat → Seat) (o : Option Seat) → is_some (option_map f o) ≡ is_some o
 mapped f None = refl
 mapped f (Some s) = refl
 
-put-alike : (seats : ℕ → Option Seat) (seat : ℕ) (f : Seat → Seat) → Alike seats (put seats seat (option_map f (seats seat)))
+pub put-alike : (seats : ℕ → Option Seat) (seat : ℕ) (f : Seat → Seat) → Alike seats (put seats seat (option_map f (seats seat)))
 put-alike seats seat f e = elim (cases_eq e seat) [
   | inl same ↦ ap is_some (put_here seats seat (option_map f (seats seat)) e same) ∙ mapped f (seats seat) ∙ ap (λ k. is_some (seats k)) (sym same)
   | inr other ↦ ap is_some (put_other seats seat (option_map f (seats seat)) e other)
 ]
 
-Tree-alike : (before after : ℕ → Option Seat) (b : Bfq) → Alike before after → Tree before b → Tree after b
+pub Tree-alike : (before after : ℕ → Option Seat) (b : Bfq) → Alike before after → Tree before b → Tree after b
 Tree-alike before after b alike h = record {
   above = λ e lt sits. h.above e lt (sym (alike e) ∙ sits);
   known = λ g e lt there. let k = h.known g e lt there in (alike e ∙ k.0, k.1);
@@ -103,7 +99,7 @@ stood b group e = elim (group == 0) as (λ t. (group == 0) ≡ t → cond t true
 ] refl e
 
 -- Attach: a free seat is not that of the queue in service, and its queue is empty.
-attached-tidy : (l : Limits) (m : Plain) (n seat group prio : ℕ) → seat < 16 → m.seat seat ≡ None → stands m.bfq group ≡ true → Tidy m → Tidy (attached l m n seat group prio)
+pub attached-tidy : (l : Limits) (m : Plain) (n seat group prio : ℕ) → seat < 16 → m.seat seat ≡ None → stands m.bfq group ≡ true → Tidy m → Tidy (attached l m n seat group prio)
 attached-tidy l m n seat group prio small free is h =
     let next : Plain = attached l m n seat group prio in
     let b : Bfq = m.bfq in
@@ -180,7 +176,7 @@ submitted-tidy m n seat session op range payload b taken sets slots h =
       ];
     }
 
-woken-tidy : (m : Plain) (n seat session : ℕ) (op : Op) (range : Range) (payload : List ℕ) (o : Plain) → seat < 16 → is_some (m.seat seat) ≡ true
+pub woken-tidy : (m : Plain) (n seat session : ℕ) (op : Op) (range : Range) (payload : List ℕ) (o : Plain) → seat < 16 → is_some (m.seat seat) ≡ true
     → woken m seat (submitted m n seat session op range payload) ≡ Some o → (is_bfq m.scheduler ≡ true → Tidy m) → is_bfq o.scheduler ≡ true → Tidy o
 woken-tidy m n seat session op range payload o small taken e had =
     let next : Plain = submitted m n seat session op range payload in
@@ -205,9 +201,6 @@ woken-tidy m n seat session op range payload o small taken e had =
     ] refl e
 
 -- Dispatch
-sits-busy : (seats : ℕ → Option Seat) (queue : ℕ → List WholeRequest) (b : Bfq) → Busy seats queue b → (slot : InService) → b.slot ≡ Some slot → (slot.seat < 16) × (is_some (seats slot.seat) ≡ true)
-sits-busy seats queue b h slot at = let s = h.serves slot at in (s.0, s.1)
-
 -- where the queue in service expires, with this queued then
 expired-busy : (l : Limits) (cause : Expiry) (queued : Bool) (seats : ℕ → Option Seat) (queue : ℕ → List WholeRequest) (b c : Bfq)
     → ((slot : InService) → b.slot ≡ Some slot → (slot.seat < 16) × (is_some (seats slot.seat) ≡ true) × (is_empty (queue slot.seat) ≡ not queued)) → Tree seats b
@@ -230,10 +223,10 @@ expired-busy l cause queued seats queue b c sits tree rests e =
 pub with_budget_in-busy : (l : Limits) (m : Plain) (o : Option InService) (b : Bfq) → with_budget_in l m o ≡ Some b → Busy m.seat m.queue m.bfq → Busy m.seat m.queue b
 with_budget_in-busy l m None b e h = subst (Busy m.seat m.queue) (some_is m.bfq b e) h
 with_budget_in-busy l m (Some slot) b e h =
-    elim (nat_lt (m.bfq.budget slot.seat) (slot.service + next_size m slot.seat)) as (λ t. cond t (expire Exhaustion l.max_budget true m.bfq) (Some m.bfq) ≡ Some b → Busy m.seat m.queue b) [
-      | true ↦ λ f. expired-busy l Exhaustion true m.seat m.queue m.bfq b h.serves h.tree (λ e lt taken _. h.rests e lt taken) f
-      | false ↦ λ f. subst (Busy m.seat m.queue) (some_is m.bfq b f) h
-    ] e
+    elim (overdue l m slot b e) [
+      | inl x ↦ expired-busy l x.0 true m.seat m.queue m.bfq b h.serves h.tree (λ e lt taken _. h.rests e lt taken) x.1
+      | inr y ↦ subst (Busy m.seat m.queue) y.1 h
+    ]
 
 pub no_slot : (o : Option InService) → is_none o ≡ true → o ≡ None
 no_slot None e = refl
@@ -274,7 +267,7 @@ without_empty-busy l seats queue k rest b c its slot at h e =
       })
     ] refl e
 
-sent_by_bfq-tidy : (l : Limits) (m : Plain) (n tag : ℕ) (o : Plain × Reply) → sent_by_bfq l m n tag ≡ Some o → Tidy m → Tidy o.0
+pub sent_by_bfq-tidy : (l : Limits) (m : Plain) (n tag : ℕ) (o : Plain × Reply) → sent_by_bfq l m n tag ≡ Some o → Tidy m → Tidy o.0
 sent_by_bfq-tidy l m n tag o e h =
     let within = and_then_is (λ b. sent_in l m n tag (with_slot b)) (with_budget_in l m m.bfq.slot) o e in
     let b : Bfq = with_slot within.0 in
@@ -311,25 +304,95 @@ sent_by_bfq-tidy l m n tag o e h =
       ];
     })
 
--- the scheduler is as it was
-sent_by_bfq-under : (l : Limits) (m : Plain) (n tag : ℕ) (o : Plain × Reply) → sent_by_bfq l m n tag ≡ Some o → (is_bfq m.scheduler ≡ true → Tidy m) → is_bfq o.0.scheduler ≡ true → Tidy o.0
-sent_by_bfq-under l m n tag o e had under =
-    let within = and_then_is (λ b. sent_in l m n tag (with_slot b)) (with_budget_in l m m.bfq.slot) o e in
-    let b : Bfq = with_slot within.0 in
-    let slot = and_then_is (λ slot. option_and_then (sent_next l m n tag b slot.seat) (next_request m slot.seat)) b.slot o within.2 in
-    let next = and_then_is (sent_next l m n tag b slot.0.seat) (next_request m slot.0.seat) o slot.2 in
-    let done = map_is _ (option_and_then (without_empty l (without_first (has_start shape (range_of next.0.bios).start) (m.queue slot.0.seat))) (charge (range_of next.0.bios).count b)) o next.2 in
-    let same : m.scheduler ≡ o.0.scheduler = ap (λ (y : Plain × Reply). y.0.scheduler) done.2 in
-    sent_by_bfq-tidy l m n tag o e (had (ap is_bfq same ∙ under))
+-- a seat's entry changes
+pub entered-tidy : (m : Plain) (seat : ℕ) (f : Seat → Seat) (outbox : ℕ → List Bio) → Tidy m → Tidy (entered m seat f outbox)
+entered-tidy m seat f outbox h =
+    let next : Plain = entered m seat f outbox in
+    let alike : Alike m.seat next.seat = put-alike m.seat seat f in
+    record {
+      busy = record {
+        tree = Tree-alike m.seat next.seat m.bfq alike h.busy.tree;
+        rests = λ e lt sits. h.busy.rests e lt (sym (alike e) ∙ sits);
+        serves = λ slot at. let s = h.busy.serves slot at in (s.0, alike slot.seat ∙ s.1, s.2);
+      };
+      free = λ e no. h.free e (sym (alike e) ∙ no);
+    }
+
+-- the queue in service of a seat that goes would be empty
+pub away-from : (m : Plain) (k : ℕ) → is_empty (m.queue k) ≡ true → Tidy m → (slot : InService) → m.bfq.slot ≡ Some slot → slot.seat ≢ k
+away-from m k empty h slot at same =
+    let s = h.busy.serves slot at in let no : is_empty (m.queue slot.seat) ≡ true = ap (λ j. is_empty (m.queue j)) same ∙ empty in cc
+
+-- a seat with an empty queue is free again
+pub gone-tidy : (m : Plain) (k : ℕ) → k < 16 → is_some (m.seat k) ≡ true → is_empty (m.queue k) ≡ true → Tidy m → Tidy (gone m k)
+gone-tidy m k small taken empty h =
+    let b : Bfq = m.bfq in
+    let next : Plain = gone m k in
+    let c : Bfq = next.bfq in
+    let g : ℕ = group_of b k in
+    let up = sits-above m.seat k b small taken h.busy.tree in
+    let len : length (b.service g).members ≡ 48 = h.busy.tree.lengths g up.1 in
+    let room : k < length (b.service g).members = omega (arith, small, len) in
+    let before : (e : ℕ) → e ≢ k → is_some (next.seat e) ≡ is_some (m.seat e) = λ e other. ap is_some (put_other m.seat k None e other) in
+    let apart : (e : ℕ) → is_some (next.seat e) ≡ true → e ≢ k = λ e sits same. let no : is_some (next.seat e) ≡ false = ap is_some (put_here m.seat k None e same) in cc in
+    record {
+      busy = record {
+        tree = record {
+          above = λ e lt sits.
+              let other = apart e sits in
+              let a = h.busy.tree.above e lt (sym (before e other) ∙ sits) in
+              (a.0, put_other b.parent k None e other ∙ a.1, a.2);
+          known = λ j e lt there. elim (cases_eq e k) [
+            | inl same ↦ elim (cases_eq j g) [
+              | inl its ↦
+                  let no : is_some (placed c.service j e) ≡ false =
+                  ap (λ x. is_some (placed c.service j x)) same ∙ ap (λ i. is_some (placed c.service i k)) its ∙ ap is_some (placed-here b.service g k None room) in cc
+              | inr other ↦
+                  let w = h.busy.tree.known j e lt (ap is_some (sym (placed-elsewhere b.service g _ j e other)) ∙ there) in
+                  absurd (other (some_is j g (sym w.1 ∙ ap b.parent same ∙ up.0)))
+            ]
+            | inr other ↦
+                let w = h.busy.tree.known j e lt (ap is_some (sym (placed-other b.service g k None j e other)) ∙ there) in
+                (before e other ∙ w.0, put_other b.parent k None e other ∙ w.1)
+          ];
+          lengths = λ j lt. length-member b.service g k None j ∙ h.busy.tree.lengths j lt;
+        };
+        rests = λ e lt sits.
+            let other = apart e sits in
+            ap (λ o. is_idle (unwrap_or (placed c.service (unwrap_or o 0) e) absent).state) (put_other b.parent k None e other)
+            ∙ ap (λ o. is_idle (unwrap_or o absent).state) (placed-other b.service g k None (group_of b e) e other)
+            ∙ h.busy.rests e lt (sym (before e other) ∙ sits);
+        serves = λ slot at. let s = h.busy.serves slot at in (s.0, before slot.seat (away-from m k empty h slot at) ∙ s.1, s.2);
+      };
+      free = λ e no. elim (cases_eq e k) [
+        | inl same ↦ ap (λ j. is_empty (m.queue j)) same ∙ empty
+        | inr other ↦ h.free e (sym (before e other) ∙ no)
+      ];
+    }
+
+-- the queue in service is one tick older
+pub ticked-tidy : (m : Plain) (slot : InService) → m.bfq.slot ≡ Some slot → Tidy m → Tidy (record m { bfq = record m.bfq { slot = Some (older slot) } })
+ticked-tidy m slot is h =
+    let c : Bfq = record m.bfq { slot = Some (older slot) } in
+    let over : Over m.bfq c = Over-same m.bfq c refl refl in
+    let P : InService → Type 0 = λ s. (s.seat < 16) × (is_some (m.seat s.seat) ≡ true) × (is_empty (m.queue s.seat) ≡ false) in
+    record {
+      busy = record {
+        tree = Tree-over m.seat m.bfq c over h.busy.tree;
+        rests = λ e lt sits. idle-over m.bfq c e lt over ∙ h.busy.rests e lt sits;
+        serves = λ other at. subst P (some_is (older slot) other at) (h.busy.serves slot is);
+      };
+      free = h.free;
+    }
 
 -- what BFQ knows of sessions' queues is as it was
-over-tidy : (m : Plain) (c : Bfq) → Over m.bfq c → c.slot ≡ m.bfq.slot → Tidy m → Tidy (record m { bfq = c })
+pub over-tidy : (m : Plain) (c : Bfq) → Over m.bfq c → c.slot ≡ m.bfq.slot → Tidy m → Tidy (record m { bfq = c })
 over-tidy m c over slots h =
     let kept : Busy m.seat m.queue c = Busy-over m.seat m.queue m.bfq c over slots h.busy in
     record { busy = kept; free = h.free }
 
 -- a group is made under its parent, or goes
-made-over : (l : Limits) (b : Bfq) (group parent weight : ℕ) → Over b (made l group parent weight b)
+pub made-over : (l : Limits) (b : Bfq) (group parent weight : ℕ) → Over b (made l group parent weight b)
 made-over l b group parent weight =
     let k : ℕ = entity_of group in
     let high : 16 ≤ k = omega arith in
@@ -341,7 +404,7 @@ made-over l b group parent weight =
     } in
     Over-trans b with_it (made l group parent weight b) over (Over-vtime with_it group l.first_vtime)
 
-dropped-over : (b : Bfq) (group : ℕ) → Over b (without_entity (entity_of group) b)
+pub dropped-over : (b : Bfq) (group : ℕ) → Over b (without_entity (entity_of group) b)
 dropped-over b group =
     let k : ℕ = entity_of group in
     let high : 16 ≤ k = omega arith in
@@ -377,39 +440,3 @@ opening-tidy l = record {
   };
   free = λ e no. refl;
 }
-
-not_both : (s : Scheduler) → s ≡ PlainScheduler → is_bfq s ≡ true → ⊥
-not_both PlainScheduler e under = cc
-not_both BfqScheduler e under = cc
-
--- every step
-pub keeps-tidy : (l : Limits) → Keeps l (λ m. is_bfq m.scheduler ≡ true → Tidy m)
-keeps-tidy l = record {
-  attaches = λ m n seat group prio small free stand _ had under. attached-tidy l m n seat group prio small free stand (had under);
-  submits = λ m n seat session op range payload next small taken e had under. woken-tidy m n seat session op range payload next small taken e had under;
-  reaps = λ m seat bios had under.
-      let h : Tidy m = had under in
-      let alike : Alike m.seat (put m.seat seat _) = put-alike m.seat seat _ in
-      record {
-        busy = record {
-          tree = Tree-alike m.seat _ m.bfq alike h.busy.tree;
-          rests = λ e lt sits. h.busy.rests e lt (sym (alike e) ∙ sits);
-          serves = λ slot at. let s = h.busy.serves slot at in (s.0, alike slot.seat ∙ s.1, s.2);
-        };
-        free = λ e no. h.free e (sym (alike e) ∙ no);
-      };
-  takes_turns = λ m n seat tag request requests plain had under. absurd (not_both m.scheduler plain under);
-  sends = λ m n tag o _ whole e had. sent_by_bfq-under l m n tag o e had;
-  finishes = λ m tag outcome request had under. let h : Tidy m = had under in record { busy = h.busy; free = h.free };
-  makes = λ m group parent weight _ _ _ _ had under. over-tidy m (made l group parent weight m.bfq) (made-over l m.bfq group parent weight) refl (had under);
-  drops = λ m group _ _ _ had under. over-tidy m (without_entity (entity_of group) m.bfq) (dropped-over m.bfq group) refl (had under);
-  weighs = λ m group weight _ had under.
-      let next : Bfq = record m.bfq { pending = put m.bfq.pending (entity_of group) weight } in
-      over-tidy m next (Over-same m.bfq next refl refl) refl (had under);
-}
-
--- the law
-pub busy-not-idle : ((l : Limits) (m : Plain) → KeepsWhole l m) → (l : Limits) (most : ℕ) (journal : List Call) → BusySessionsWaitOrAreServed l most journal
-busy-not-idle stay l most journal under seat lt sits =
-    let tidy = machine-keeps l most journal (λ m. is_bfq m.scheduler ≡ true → Tidy m) (stay l) (keeps-tidy l) (λ _. opening-tidy l) in
-    (tidy under).busy.rests seat lt sits

@@ -1,22 +1,25 @@
 -- No budget is under 256 sectors.
-use Rattle.std.proofs.Common.{true, false, Bool, ◌≡◌, inl, inr, ℕ, ◌+◌, ◌≤◌, nat_lt, ◌&&◌, List, Option, Some, None, cond, refl, sym, subst, arith}
+use Rattle.std.proofs.Common.{true, false, Bool, ◌≡◌, inl, inr, ℕ, ◌≤◌, nat_lt, ◌&&◌, List, Option, Some, None, cond, refl, sym, subst, arith}
 use Rattle.std.specs.Option.{is_none, option_map, option_and_then}
 use Rattle.std.proofs.lemmas.Bool.{cases_eq}
+use Rattle.sector_core.specs.declared.config.Scheduler.{Scheduler}
 use Rattle.process_queue.specs.Queue.{is_empty}
 use Rattle.process_queue.specs.Next.{has_start}
 use Rattle.change_record.specs.declared.change.InService.{InService}
 use Rattle.change_record.specs.Machine.{WholeRequest, Bfq, Plain, put}
 use Rattle.bfq_select.specs.declared.expiry.Expiry.{Expiry}
-use Rattle.bfq_select.specs.declared.expiry.Expiry.TheVariants.{Exhaustion, Emptying}
+use Rattle.bfq_select.specs.declared.expiry.Expiry.TheVariants.{Exhaustion, Timeout, Emptying}
 use Rattle.bfq_select.specs.Rules.{activate, budget_after, select, charge, expire}
 use Rattle.plain_machine.specs.declared.answer.Reply.{Reply}
 use Rattle.plain_machine.specs.declared.call.Call.{Call}
-use Rattle.plain_machine.specs.Step.{Limits, opening, is_bfq, submitted, woken, range_of, next_request, next_size, with_budget_in, with_slot, without_first, without_empty, sent_next, sent_in, sent_by_bfq, shape}
+use Rattle.plain_machine.specs.Step.{Limits, opening, is_bfq, submitted, woken, range_of, next_request, with_budget_in, with_slot, without_first, without_empty, sent_next, sent_in, sent_by_bfq, begun_again, shape}
 use Rattle.plain_machine.specs.Whole.{KeepsWhole}
 use Rattle.bfq_laws.specs.Budgets.{AreEnough, BudgetsAreEnough}
 use Rattle.bfq_laws.proofs.Puts.{put_here, put_other, some_is, and_then_is, map_is}
 use Rattle.bfq_laws.proofs.Quiet.{activate-quiet, select-budgets, charge-slot, expire-slot}
 use Rattle.bfq_laws.proofs.Walk.{Keeps, machine-keeps}
+use Rattle.bfq_laws.proofs.Overdue.{overdue}
+use Rattle.bfq_laws.proofs.Begun.{begun-keeps}
 
 -- budgets that are the same
 pub same-enough : (b c : Bfq) → c.budget ≡ b.budget → AreEnough b → AreEnough c
@@ -31,6 +34,7 @@ put-enough budget entity v le h e = elim (cases_eq e entity) [
 
 budget_after-enough : (cause : Expiry) (budget service most : ℕ) → 256 ≤ budget → 256 ≤ most → 256 ≤ budget_after cause budget service most
 budget_after-enough Exhaustion budget service most b m = omega (arith, b, m)
+budget_after-enough Timeout budget service most b m = omega (arith, b, m)
 budget_after-enough Emptying budget service most b m = omega arith
 
 pub expire-enough : (cause : Expiry) (most : ℕ) (queued : Bool) (b c : Bfq) → 256 ≤ most → expire cause most queued b ≡ Some c → AreEnough b → AreEnough c
@@ -56,10 +60,7 @@ woken-enough m seat next o same e h =
 pub with_budget_in-enough : (l : Limits) (m : Plain) (slot : Option InService) (b : Bfq) → 256 ≤ l.max_budget → with_budget_in l m slot ≡ Some b → AreEnough m.bfq → AreEnough b
 with_budget_in-enough l m None b le e h = subst AreEnough (some_is m.bfq b e) h
 with_budget_in-enough l m (Some slot) b le e h =
-    elim (nat_lt (m.bfq.budget slot.seat) (slot.service + next_size m slot.seat)) as (λ t. cond t (expire Exhaustion l.max_budget true m.bfq) (Some m.bfq) ≡ Some b → AreEnough b) [
-      | true ↦ λ f. expire-enough Exhaustion l.max_budget true m.bfq b le f h
-      | false ↦ λ f. subst AreEnough (some_is m.bfq b f) h
-    ] e
+    elim (overdue l m slot b e) [ inl x ↦ expire-enough x.0 l.max_budget true m.bfq b le x.1 h | inr y ↦ subst AreEnough y.1 h ]
 
 pub with_slot-enough : (b : Bfq) → AreEnough b → AreEnough (with_slot b)
 with_slot-enough b h = elim (is_none b.slot) as (λ t. AreEnough (cond t (select b) b)) [ true ↦ same-enough b (select b) (select-budgets b) h | false ↦ h ]
@@ -96,18 +97,29 @@ opening-enough l first most e = elim (nat_lt e 16) as (λ t. 256 ≤ cond t l.fi
   | false ↦ elim (nat_lt e 48) as (λ t. 256 ≤ cond t l.max_budget 256) [ true ↦ most | false ↦ omega arith ]
 ]
 
+-- Switch
+pub begun-enough : (l : Limits) → 256 ≤ l.first_budget → (scheduler : Scheduler) (b : Bfq) → AreEnough b → AreEnough (begun_again l scheduler b)
+begun-enough l first scheduler b h = begun-keeps l AreEnough (record {
+  times = λ b e g _ h. h;
+  vtimes = λ b g h. h;
+  budgets = λ b h e. elim (nat_lt e 16) as (λ t. 256 ≤ cond t l.first_budget (b.budget e)) [ true ↦ first | false ↦ h e ];
+}) scheduler b h
+
 -- every step
 pub keeps-enough : (l : Limits) → 256 ≤ l.first_budget → 256 ≤ l.max_budget → Keeps l (λ m. AreEnough m.bfq)
 keeps-enough l first most = record {
   attaches = λ m n seat group prio _ free _ _ h. put-enough m.bfq.budget seat l.first_budget first h;
   submits = λ m n seat session op range payload next _ taken e h. woken-enough m seat (submitted m n seat session op range payload) next refl e h;
-  reaps = λ m seat bios h. h;
-  takes_turns = λ m n seat tag request requests _ h. h;
+  enters = λ m seat f outbox _ h. h;
+  goes = λ m seat _ _ h. h;
+  takes_turns = λ m n seat tag request requests _ _ h. h;
   sends = λ m n tag o _ whole e h. sent_by_bfq-enough l m n tag o most e h;
-  finishes = λ m tag outcome request h. h;
+  moves = λ m overlay requests outbox flight frozen h. h;
   makes = λ m group parent weight _ _ _ _ h. h;
   drops = λ m group _ _ _ h. h;
   weighs = λ m group weight _ h. h;
+  ticks = λ m slot _ h. h;
+  switches = λ m scheduler _ h. begun-enough l first scheduler m.bfq h;
 }
 
 -- the law

@@ -1,9 +1,11 @@
 pub mod Puts
 pub mod Quiet
 pub mod Walk
+pub mod Overdue
+pub mod Begun
+pub mod Owned
 pub mod Enough
 pub mod Known
-pub mod Within
 pub mod Tree
 pub mod Busy
 pub mod Shape
@@ -13,6 +15,9 @@ pub mod Expiring
 pub mod Choosing
 pub mod Standing
 pub mod Upcoming
+pub mod Calm
+pub mod Sound
 pub mod Found
+pub mod Within
 pub mod Weighing
 pub mod Summing

@@ -9,7 +9,7 @@ use Rattle.group_tree.specs.Groups.{has_entity, entity_of, climb}
 use Rattle.change_record.specs.Exchange.{with_member}
 use Rattle.change_record.specs.Machine.{Bfq, put}
 use Rattle.bfq_select.specs.Rules.{top, absent, group_of, member_of, put_member, put_vtime, finish_from, stamped, stamp}
-use Rattle.bfq_laws.proofs.Puts.{put_here, put_other}
+use Rattle.bfq_laws.proofs.Puts.{put_here, put_other, some_is}
 use Rattle.bfq_laws.proofs.Quiet.{unrefused}
 use Rattle.bfq_laws.proofs.Tree.{placed, placed-here, placed-elsewhere, placed-other, placed-vtime, length-member, length-vtime}
 
@@ -94,9 +94,10 @@ climb-under above n g h x lt ne up i =
     let same : climb (suc n) above (Some g) ≡ entity_of g ∷ climb n above (Some h) = now ∙ ap (λ o. entity_of g ∷ climb n above o) up in
     subst (In x) (sym same) i
 
--- the places of the entities in the trees of groups
+-- the places of the entities in the trees of groups: who is in a tree is in that group, and who is in a group is in its tree
 pub record Places (above : ℕ → Option ℕ) (service : ℕ → Service) : Type 0 where
   pub known : (g e : ℕ) → is_some (placed service g e) ≡ true → above e ≡ Some g
+  pub there : (g e : ℕ) → above e ≡ Some g → is_some (placed service g e) ≡ true
   pub lengths : (g : ℕ) → g < 32 → length (service g).members ≡ 48
 
 abbrev pub state : Bfq → ℕ → State
@@ -150,6 +151,12 @@ move-at above levels st b k g new at up =
           ]
           | inr other ↦ at.places.known j e (ap is_some (sym (placed-other b.service g k (Some new) j e other)) ∙ there)
         ];
+        there = λ j e is. elim (cases_eq e k) [
+          | inl same ↦
+              let its : j ≡ g = some_is j g (sym is ∙ ap above same ∙ up) in
+              ap (λ i. is_some (placed c.service i e)) its ∙ ap (λ x. is_some (placed c.service g x)) same ∙ ap is_some now
+          | inr other ↦ ap is_some (placed-other b.service g k (Some new) j e other) ∙ at.places.there j e is
+        ];
         lengths = λ j lt. length-member b.service g k (Some new) j ∙ at.places.lengths j lt;
       };
       are = λ e. elim (cases_eq e k) [
@@ -177,6 +184,7 @@ vtime-at above st b g vtime at = record {
   parents = at.parents;
   places = record {
     known = λ j e there. at.places.known j e (ap is_some (sym (placed-vtime b.service g vtime j e)) ∙ there);
+    there = λ j e is. ap is_some (placed-vtime b.service g vtime j e) ∙ at.places.there j e is;
     lengths = λ j lt. length-vtime b.service g vtime j ∙ at.places.lengths j lt;
   };
   are = λ e. ap (λ o. (unwrap_or o absent).state) (placed-vtime b.service g vtime (group_of b e) e) ∙ at.are e;

@@ -11,7 +11,7 @@ use Rattle.change_record.specs.declared.change.InService.{InService}
 use Rattle.change_record.specs.Machine.{Bfq, put}
 use Rattle.bfq_select.specs.Rules.{absent, group_of, is_idle, stands}
 use Rattle.plain_machine.specs.Step.{Limits, with_entity, without_entity, free_group, is_in, is_used}
-use Rattle.bfq_laws.proofs.Puts.{put_here, put_other, put_cases, some_is}
+use Rattle.bfq_laws.proofs.Puts.{put_here, put_other, put_cases, some_is, find-within}
 use Rattle.bfq_laws.proofs.Tree.{placed, placed-here, placed-elsewhere, placed-other, length-member}
 use Rattle.bfq_laws.proofs.Busy.{stood}
 use Rattle.bfq_laws.proofs.Walk.{made}
@@ -69,6 +69,12 @@ enters-at l above st b k g weight at small low nowhere =
             | inr other ↦ absurd (nowhere j (ap (λ x. is_some (placed b.service j x)) (sym same) ∙ ap is_some (sym (placed-elsewhere b.service g _ j e other)) ∙ there))
           ]
           | inr other ↦ put_other above k (Some g) e other ∙ at.places.known j e (ap is_some (sym (placed-other b.service g k _ j e other)) ∙ there)
+        ];
+        there = λ j e is. elim (put_cases above k (Some g) e (Some j) is) [
+          | inl x ↦
+              let its : g ≡ j = some_is g j x.1 in
+              ap (λ i. is_some (placed c.service i e)) (sym its) ∙ ap (λ y. is_some (placed c.service g y)) x.0 ∙ ap is_some (placed-here b.service g k _ room)
+          | inr x ↦ ap is_some (placed-other b.service g k _ j e x.0) ∙ at.places.there j e x.1
         ];
         lengths = λ j lt. length-member b.service g k _ j ∙ at.places.lengths j lt;
       };
@@ -159,13 +165,6 @@ find-none passes from (suc count) e none low high =
       ]
     ] refl none
 
-find-within : (passes : ℕ → Bool) (from count x : ℕ) → find passes (numbers from count) ≡ Some x → (from ≤ x) × (x < from + count)
-find-within passes from zero x e = cc
-find-within passes from (suc count) x e = elim (passes from) as (λ t. cond t (Some from) (find passes (numbers (from + 1) count)) ≡ Some x → (from ≤ x) × (x < from + suc count)) [
-  | true ↦ λ f. let same : from ≡ x = some_is from x f in (omega (arith, same), omega (arith, same))
-  | false ↦ λ f. let r = find-within passes (from + 1) count x f in let low : from + 1 ≤ x = r.0 in let high : x < from + 1 + count = r.1 in (omega (arith, low), omega (arith, high))
-] e
-
 none_of : (o : Option ℕ) → is_some o ≡ false → o ≡ None
 none_of None e = refl
 none_of (Some v) e = cc
@@ -246,55 +245,49 @@ nobody-idle : (o : Option Member) → (is_some o ≡ true → ⊥) → (unwrap_o
 nobody-idle None absent_one = refl
 nobody-idle (Some m) absent_one = absurd (absent_one refl)
 
--- a group in which nobody is goes
-pub dropped-alive : (b : Bfq) (q : ℕ) → stands b q ≡ true → (q == 0) ≡ false → is_used b q ≡ false → ((slot : InService) → b.slot ≡ Some slot → slot.seat < 16) → Alive b → Alive (without_entity (entity_of q) b)
-dropped-alive b q stand not_root not_used low_slot h =
+-- an entity goes that is no active one, and in whose group, if it is one, nobody is
+gone-alive : (b : Bfq) (h : Alive b) (k up : ℕ) → h.above k ≡ Some up → ((e j : ℕ) → h.above e ≡ Some j → 16 + j ≢ k) → h.st k ≢ Active → ((slot : InService) → b.slot ≡ Some slot → slot.seat ≢ k)
+    → Alive (without_entity k b)
+gone-alive b h k up above_k unused rests away =
     let above : ℕ → Option ℕ = h.above in
     let st : ℕ → State = h.st in
-    let k : ℕ = 16 + q in
     let c : Bfq = without_entity k b in
     let g : ℕ = group_of b k in
     let after : ℕ → Option ℕ = put above k None in
     let now : ℕ → State = put st k Idle in
-    let nz : q ≢ 0 = λ z. let yes_root : (q == 0) ≡ true = eq-eqb q 0 z in cc in
-    let p = (stands-is b h q stand).1 nz in
-    let parent : above k ≡ Some g = p.1 ∙ ap (λ j. Some j) (sym (group-at above st b k p.0 h.at p.1)) in
-    let unused : (e j : ℕ) → above e ≡ Some j → j ≢ q = λ e j is same.
-    let lt : e < 48 = (h.levels.inside e j is).0 in
-    let out : is_in q (b.parent e) ≡ false = find-none (λ entity. is_in q (b.parent entity)) 0 48 e not_used (omega arith) (omega (arith, lt)) in
-    let within : is_in q (b.parent e) ≡ true = ap (is_in q) (parent-at above st b e h.at ∙ is) ∙ eq-eqb j q same in cc in
-    let far : (j : ℕ) → j ≢ q → 16 + j ≢ k = λ j ne same. ne (omega (arith, same)) in
+    let parent : above k ≡ Some g = above_k ∙ ap (λ j. Some j) (sym (group-at above st b k up h.at above_k)) in
     let within = h.levels.inside k g parent in
     let small : k < 48 = within.0 in
     let len : length (b.service g).members ≡ 48 = h.at.places.lengths g within.1 in
     let room : k < length (b.service g).members = omega (arith, small, len) in
-    let gone : (j : ℕ) → is_some (placed c.service j k) ≡ true → ⊥ = λ j there. elim (cases_eq j g) [
+    let missing : (j : ℕ) → is_some (placed c.service j k) ≡ true → ⊥ = λ j there. elim (cases_eq j g) [
       | inl its ↦ let no : is_some (placed c.service j k) ≡ false = ap (λ i. is_some (placed c.service i k)) its ∙ ap is_some (placed-here b.service g k None room) in cc
       | inr other ↦
           let was : above k ≡ Some j = h.at.places.known j k (ap is_some (sym (placed-elsewhere b.service g _ j k other)) ∙ there) in
           absurd (other (some_is j g (sym was ∙ parent)))
     ] in
+    let before : (e j : ℕ) → after e ≡ Some j → (e ≢ k) × (above e ≡ Some j) = λ e j is. elim (put_cases above k None e (Some j) is) [
+      | inl x ↦ let bad : None ≡ Some j = x.1 in cc
+      | inr x ↦ x
+    ] in
     let at : At after now c = record {
       parents = ap (λ (f : ℕ → Option ℕ). put f k None) h.at.parents;
       places = record {
         known = λ j e there. elim (cases_eq e k) [
-          | inl same ↦ absurd (gone j (ap (λ x. is_some (placed c.service j x)) (sym same) ∙ there))
+          | inl same ↦ absurd (missing j (ap (λ x. is_some (placed c.service j x)) (sym same) ∙ there))
           | inr other ↦ put_other above k None e other ∙ h.at.places.known j e (ap is_some (sym (placed-other b.service g k None j e other)) ∙ there)
         ];
+        there = λ j e is. let was = before e j is in ap is_some (placed-other b.service g k None j e was.0) ∙ h.at.places.there j e was.1;
         lengths = λ j lt. length-member b.service g k None j ∙ h.at.places.lengths j lt;
       };
       are = λ e. elim (cases_eq e k) [
-        | inl same ↦ ap (state c) same ∙ nobody-idle (placed c.service (group_of c k) k) (gone (group_of c k)) ∙ sym (put_here st k Idle e same)
+        | inl same ↦ ap (state c) same ∙ nobody-idle (placed c.service (group_of c k) k) (missing (group_of c k)) ∙ sym (put_here st k Idle e same)
         | inr other ↦
             ap (λ o. (unwrap_or (placed c.service (unwrap_or o 0) e) absent).state) (put_other b.parent k None e other)
             ∙ ap (λ o. (unwrap_or o absent).state) (placed-other b.service g k None (group_of b e) e other) ∙ h.at.are e ∙ sym (put_other st k Idle e other)
       ];
     } in
-    let before : (e j : ℕ) → after e ≡ Some j → (e ≢ k) × (above e ≡ Some j) = λ e j is. elim (put_cases above k None e (Some j) is) [
-      | inl x ↦ let bad : None ≡ Some j = x.1 in cc
-      | inr x ↦ x
-    ] in
-    let agree : (e j : ℕ) → above e ≡ Some j → j ≢ 0 → after (16 + j) ≡ above (16 + j) = λ e j is _. put_other above k None (16 + j) (far j (unused e j is)) in
+    let agree : (e j : ℕ) → above e ≡ Some j → j ≢ 0 → after (16 + j) ≡ above (16 + j) = λ e j is _. put_other above k None (16 + j) (unused e j is) in
     record {
       above = after;
       st = now;
@@ -311,17 +304,38 @@ dropped-alive b q stand not_root not_used low_slot h =
       at = at;
       up = λ e j is awake nj _.
           let was = before e j is in
-          ap is_idle (put_other st k Idle (16 + j) (far j (unused e j was.1))) ∙ h.up e j was.1 (ap is_idle (sym (put_other st k Idle e was.0)) ∙ awake) nj nj;
+          ap is_idle (put_other st k Idle (16 + j) (unused e j was.1)) ∙ h.up e j was.1 (ap is_idle (sym (put_other st k Idle e was.0)) ∙ awake) nj nj;
       down = λ j act nj _.
           let was = put-was st k (16 + j) Idle Active (λ x. cc) act in
           let has = h.down j was.1 nj nj in
-          let other : has.0 ≢ k = λ same. let deeper = h.down q (ap st (sym same) ∙ has.2) nz nz in unused deeper.0 q deeper.1 refl in
+          let other : has.0 ≢ k = λ same. rests (ap st (sym same) ∙ has.2) in
           (has.0, put_other above k None has.0 other ∙ has.1, put_other st k Idle has.0 other ∙ has.2);
       serving = λ e s.
           let was = put-was st k e Idle Serving (λ x. cc) s in
           let on = h.serving e was.1 in
-          let lt : on.0.seat < 16 = low_slot on.0 on.1 in
-          let away : on.0.seat ≢ k = λ its. absurd (omega (arith, its, lt)) in
-          let same : path after on.0.seat ≡ path above on.0.seat = path-same above after agree on.0.seat (put_other above k None on.0.seat away) in
+          let same : path after on.0.seat ≡ path above on.0.seat = path-same above after agree on.0.seat (put_other above k None on.0.seat (away on.0 on.1)) in
           (on.0, on.1, subst (In e) (sym same) on.2);
     }
+
+-- a group in which nobody is goes
+pub dropped-alive : (b : Bfq) (q : ℕ) → stands b q ≡ true → (q == 0) ≡ false → is_used b q ≡ false → ((slot : InService) → b.slot ≡ Some slot → slot.seat < 16) → Alive b → Alive (without_entity (entity_of q) b)
+dropped-alive b q stand not_root not_used low_slot h =
+    let above : ℕ → Option ℕ = h.above in
+    let nz : q ≢ 0 = λ z. let yes_root : (q == 0) ≡ true = eq-eqb q 0 z in cc in
+    let p = (stands-is b h q stand).1 nz in
+    let unused : (e j : ℕ) → above e ≡ Some j → j ≢ q = λ e j is same.
+    let lt : e < 48 = (h.levels.inside e j is).0 in
+    let out : is_in q (b.parent e) ≡ false = find-none (λ entity. is_in q (b.parent entity)) 0 48 e not_used (omega arith) (omega (arith, lt)) in
+    let within : is_in q (b.parent e) ≡ true = ap (is_in q) (parent-at above h.st b e h.at ∙ is) ∙ eq-eqb j q same in cc in
+    gone-alive b h (16 + q) p.0 p.1 (λ e j is same. unused e j is (omega (arith, same))) (λ act. let deeper = h.down q act nz nz in unused deeper.0 q deeper.1 refl)
+    (λ slot is its. let lt : slot.seat < 16 = low_slot slot is in absurd (omega (arith, its, lt)))
+
+idle-rests : (s : State) → is_idle s ≡ true → s ≢ Active
+idle-rests Idle e = λ f. cc
+idle-rests Active e = cc
+idle-rests Serving e = cc
+
+-- a session goes, whose entity is idle
+pub left-alive : (b : Bfq) (k g : ℕ) → k < 16 → b.parent k ≡ Some g → is_idle (state b k) ≡ true → ((slot : InService) → b.slot ≡ Some slot → slot.seat ≢ k) → Alive b → Alive (without_entity k b)
+left-alive b k g small parent rests away h =
+    gone-alive b h k g (sym (parent-at h.above h.st b k h.at) ∙ parent) (λ e j is same. absurd (omega (arith, same, small))) (idle-rests (h.st k) (ap is_idle (sym (h.at.are k)) ∙ rests)) away

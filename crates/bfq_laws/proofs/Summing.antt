@@ -20,11 +20,12 @@ use Rattle.bfq_laws.specs.Sums.{SumsArePositiveIn, SumsArePositive}
 use Rattle.bfq_laws.proofs.Puts.{some_is}
 use Rattle.bfq_laws.proofs.Walk.{machine-keeps}
 use Rattle.bfq_laws.proofs.Tree.{idle}
-use Rattle.bfq_laws.proofs.Busy.{Busy, Tidy, with_budget_in-busy, with_slot-busy, opening-tidy}
+use Rattle.bfq_laws.proofs.Busy.{Busy, Tidy, with_budget_in-busy, with_slot-busy}
 use Rattle.bfq_laws.proofs.Shape.{In, member-at}
 use Rattle.bfq_laws.proofs.Alive.{Alive, not_idle}
 use Rattle.bfq_laws.proofs.Choosing.{with_slot-alive}
-use Rattle.bfq_laws.proofs.Found.{opening-alive, awake-slot, with_budget_in-alive}
+use Rattle.bfq_laws.proofs.Calm.{calm-tidy}
+use Rattle.bfq_laws.proofs.Sound.{awake-slot, with_budget_in-alive, opening-sound}
 use Rattle.bfq_laws.proofs.Weighing.{Weighs, keeps-weighs, opening-weighs, path-awake, with_budget_in-weighs, with_slot-weighs}
 
 -- what holds of whoever is in a list holds of all in it
@@ -80,17 +81,17 @@ sums-there b h weighs slot awake = all-of (λ entity. 1 ≤ wsum b (group_of b e
 
 sums-in : (l : Limits) (m : Plain) → Weighs m → SumsArePositiveIn l m
 sums-in l m h under =
-    let known = h.1 under in
-    let tidy : Tidy m = known.0 in (
-      λ slot is. sums-there m.bfq known.1 h.0 slot (awake-slot m.seat m.queue m.bfq tidy.busy slot is).1,
+    let tidy : Tidy m = calm-tidy m under h.1.calm in
+    let alive : Alive m.bfq = h.1.alive in (
+      λ slot is. sums-there m.bfq alive h.0 slot (awake-slot m.seat m.queue m.bfq tidy.busy slot is).1,
       λ b e slot is.
           let ready : Busy m.seat m.queue (with_slot b) = with_slot-busy m.seat m.queue b (with_budget_in-busy l m m.bfq.slot b e tidy.busy) in
-          let alive : Alive (with_slot b) = with_slot-alive b (with_budget_in-alive l m m.bfq.slot b e tidy known.1) slot is in
-          let weigh : WeighEnough (with_slot b) = with_slot-weighs b (with_budget_in-weighs l m m.bfq.slot b e tidy known.1 h.0) in
-          sums-there (with_slot b) alive weigh slot (awake-slot m.seat m.queue (with_slot b) ready slot is).1,
+          let served : Alive (with_slot b) = with_slot-alive b (with_budget_in-alive l m m.bfq.slot b e tidy alive) slot is in
+          let weigh : WeighEnough (with_slot b) = with_slot-weighs b (with_budget_in-weighs l m m.bfq.slot b e tidy alive h.0) in
+          sums-there (with_slot b) served weigh slot (awake-slot m.seat m.queue (with_slot b) ready slot is).1,
     )
 
 -- the law
 pub sums-positive : ((l : Limits) (m : Plain) → KeepsWhole l m) → (l : Limits) (most : ℕ) (journal : List Call) → SumsArePositive l most journal
 sums-positive stay l most journal =
-    sums-in l (machine_of (replay l most journal)) (machine-keeps l most journal Weighs (stay l) (keeps-weighs l) (opening-weighs l, λ _. (opening-tidy l, opening-alive l)))
+    sums-in l (machine_of (replay l most journal)) (machine-keeps l most journal Weighs (stay l) (keeps-weighs l) (opening-weighs l, opening-sound l))

@@ -159,7 +159,7 @@ sets-member seats k b group new small sits parent few tree =
       there = λ e low other. ap (λ o. is_idle (unwrap_or o absent).state) (placed-other b.service group k (Some new) (group_of b e) e other);
     }
 
-sits-above : (seats : ℕ → Option Seat) (k : ℕ) (b : Bfq) → k < 16 → is_some (seats k) ≡ true → Tree seats b → (b.parent k ≡ Some (group_of b k)) × (group_of b k < 32)
+pub sits-above : (seats : ℕ → Option Seat) (k : ℕ) (b : Bfq) → k < 16 → is_some (seats k) ≡ true → Tree seats b → (b.parent k ≡ Some (group_of b k)) × (group_of b k < 32)
 sits-above seats k b small sits tree =
     let a = tree.above k small sits in
     let g : ℕ = a.0 in
@@ -167,7 +167,7 @@ sits-above seats k b small sits tree =
     let few : g < 32 = a.2 in
     (a.1 ∙ ap (λ j. Some j) (sym is), omega (arith, is, few))
 
-sets-own : (seats : ℕ → Option Seat) (k : ℕ) (b : Bfq) (new : Member) → k < 16 → is_some (seats k) ≡ true → Tree seats b → Sets seats k (is_idle new.state) b (put_member (group_of b k) k new b)
+pub sets-own : (seats : ℕ → Option Seat) (k : ℕ) (b : Bfq) (new : Member) → k < 16 → is_some (seats k) ≡ true → Tree seats b → Sets seats k (is_idle new.state) b (put_member (group_of b k) k new b)
 sets-own seats k b new small sits tree = let a = sits-above seats k b small sits tree in sets-member seats k b (group_of b k) new small sits a.0 a.1 tree
 
 -- a rule along a path

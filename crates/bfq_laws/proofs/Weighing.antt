@@ -5,6 +5,7 @@ use Rattle.std.proofs.lemmas.Bool.{cases_eq}
 use Rattle.service_tree.specs.declared.member.Member.{Member}
 use Rattle.service_tree.specs.declared.member.State.{State}
 use Rattle.service_tree.specs.Members.{Service, least_start}
+use Rattle.sector_core.specs.declared.config.Scheduler.{Scheduler}
 use Rattle.process_queue.specs.Queue.{is_empty}
 use Rattle.process_queue.specs.Next.{has_start}
 use Rattle.group_tree.specs.Groups.{entity_of, climb, most_levels, path}
@@ -12,23 +13,26 @@ use Rattle.change_record.specs.declared.change.InService.{InService}
 use Rattle.change_record.specs.Exchange.{with_member, with_vtime}
 use Rattle.change_record.specs.Machine.{WholeRequest, Bfq, Plain, put}
 use Rattle.bfq_select.specs.declared.expiry.Expiry.{Expiry}
-use Rattle.bfq_select.specs.declared.expiry.Expiry.TheVariants.{Exhaustion, Emptying}
+use Rattle.bfq_select.specs.declared.expiry.Expiry.TheVariants.{Emptying}
 use Rattle.bfq_select.specs.Rules.{top, absent, group_of, member_of, put_member, put_vtime, is_idle, along, finish_from, stamped, stamp, start_from, activate_path, activate, picked, jumped, in_service, on_pick, taken, select_from, select, risen, charge_one, served_more, charge, ended, is_backlogged, rested, expire_one, out_of_service, expire}
 use Rattle.plain_machine.specs.declared.answer.Reply.{Reply}
 use Rattle.plain_machine.specs.declared.call.Call.{Call}
-use Rattle.plain_machine.specs.Step.{Limits, opening, is_bfq, is_weight, with_entity, prio_weight, submitted, woken, range_of, next_request, next_size, with_budget_in, with_slot, without_first, without_empty, sent_next, sent_in, sent_by_bfq, shape}
+use Rattle.plain_machine.specs.Step.{Limits, opening, is_bfq, is_weight, with_entity, prio_weight, submitted, woken, range_of, next_request, with_budget_in, with_slot, without_first, without_empty, sent_next, sent_in, sent_by_bfq, begun_again, shape}
 use Rattle.plain_machine.specs.Whole.{KeepsWhole}
 use Rattle.bfq_laws.specs.Weights.{WeighEnough, WeightsArePositive}
 use Rattle.bfq_laws.proofs.Puts.{put_here, put_other, some_is, and_then_is, map_is}
 use Rattle.bfq_laws.proofs.Quiet.{unrefused, charge-slot}
 use Rattle.bfq_laws.proofs.Walk.{Keeps, machine-keeps}
+use Rattle.bfq_laws.proofs.Overdue.{overdue}
+use Rattle.bfq_laws.proofs.Begun.{begun-keeps}
+use Rattle.bfq_laws.proofs.Calm.{calm-tidy}
 use Rattle.bfq_laws.proofs.Tree.{placed, placed-vtime, idle, idle-over, charge-over}
 use Rattle.bfq_laws.proofs.Picks.{picked-is}
-use Rattle.bfq_laws.proofs.Busy.{Busy, Tidy, with_budget_in-busy, with_slot-busy, opening-tidy}
-use Rattle.bfq_laws.proofs.Shape.{In, Levels, Stands, parent-stands, stands-low, climbing, member-at}
+use Rattle.bfq_laws.proofs.Busy.{Busy, Tidy, with_budget_in-busy, with_slot-busy}
+use Rattle.bfq_laws.proofs.Shape.{In, Levels, Stands, parent-stands, stands-low, climbing, At, parent-at, group-at, member-at, vtime-at}
 use Rattle.bfq_laws.proofs.Alive.{Up, Alive, not_idle}
 use Rattle.bfq_laws.proofs.Choosing.{with_slot-alive}
-use Rattle.bfq_laws.proofs.Found.{Known_under, keeps-alive, opening-alive, opening-none, awake-slot, with_budget_in-alive, charge-alive}
+use Rattle.bfq_laws.proofs.Sound.{opening-none, awake-slot, with_budget_in-alive, charge-alive, timed-at, Sound, opening-sound, keeps-sound}
 
 -- each member of each group's tree has a weight
 abbrev AllWeigh : (ℕ → Service) → Type 0
@@ -255,10 +259,10 @@ expire-weighs cause most queued b c awake e alive h =
 pub with_budget_in-weighs : (l : Limits) (m : Plain) (o : Option InService) (b : Bfq) → with_budget_in l m o ≡ Some b → Tidy m → Alive m.bfq → WeighEnough m.bfq → WeighEnough b
 with_budget_in-weighs l m None b e tidy alive h = subst WeighEnough (some_is m.bfq b e) h
 with_budget_in-weighs l m (Some slot) b e tidy alive h =
-    elim (nat_lt (m.bfq.budget slot.seat) (slot.service + next_size m slot.seat)) as (λ t. cond t (expire Exhaustion l.max_budget true m.bfq) (Some m.bfq) ≡ Some b → WeighEnough b) [
-      | true ↦ λ f. expire-weighs Exhaustion l.max_budget true m.bfq b (awake-slot m.seat m.queue m.bfq tidy.busy) f alive h
-      | false ↦ λ f. subst WeighEnough (some_is m.bfq b f) h
-    ] e
+    elim (overdue l m slot b e) [
+      | inl x ↦ expire-weighs x.0 l.max_budget true m.bfq b (awake-slot m.seat m.queue m.bfq tidy.busy) x.1 alive h
+      | inr y ↦ subst WeighEnough y.1 h
+    ]
 
 without_empty-weighs : (l : Limits) (rest : List WholeRequest) (b c : Bfq) → ((slot : InService) → b.slot ≡ Some slot → (slot.seat < 16) × (idle b slot.seat ≡ false)) → without_empty l rest b ≡ Some c
     → Alive b → WeighEnough b → WeighEnough c
@@ -311,29 +315,57 @@ weight-weighs (suc weight) e = omega arith
 gone-weighs : (member : Member) → None ≡ Some member → 1 ≤ member.weight
 gone-weighs member e = cc
 
+-- Switch: a member has other times, and weighs as it did.
+some_member : (o : Option Member) → is_some o ≡ true → (m : Member) × (o ≡ Some m)
+some_member None e = cc
+some_member (Some m) e = (m, refl)
+
+in-weighs : (above : ℕ → Option ℕ) (st : ℕ → State) (b : Bfq) (e g : ℕ) → b.parent e ≡ Some g → At above st b → WeighEnough b → 1 ≤ weight_in b e
+in-weighs above st b e g parent at h =
+    let up : above e ≡ Some g = sym (parent-at above st b e at) ∙ parent in
+    let one : group_of b e ≡ g = group-at above st b e g at up in
+    let m = some_member (placed b.service (group_of b e) e) (ap (λ j. is_some (placed b.service j e)) one ∙ at.places.there g e up) in
+    let W : Option Member → Type 0 = λ o. 1 ≤ (unwrap_or o absent).weight in
+    let now : W (placed b.service (group_of b e) e) = subst W (sym m.1) (h.1 (group_of b e) e m.0 m.1) in
+    now
+
+begun-weighs : (l : Limits) (scheduler : Scheduler) (b : Bfq) → Alive b → WeighEnough b → WeighEnough (begun_again l scheduler b)
+begun-weighs l scheduler b alive h =
+    let Q : Bfq → Type 0 = λ c. At alive.above alive.st c × WeighEnough c in
+    let last : Q (begun_again l scheduler b) = begun-keeps l Q (record {
+      times = λ c e g up q. (timed-at l alive.above alive.levels alive.st c e g up q.0, put_member-weighs (group_of c e) e _ c (in-weighs alive.above alive.st c e g up q.0 q.1) q.1);
+      vtimes = λ c g q. (vtime-at alive.above alive.st c g l.first_vtime q.0, (q.1.0, vtime-weighs c.service g l.first_vtime q.1.1));
+      budgets = λ c q. (record { parents = q.0.parents; places = q.0.places; are = q.0.are }, q.1);
+    }) scheduler b (alive.at, h) in
+    last.1
+
 -- every step
 abbrev pub Weighs : Plain → Type 0
-Weighs m = WeighEnough m.bfq × Known_under m
+Weighs m = WeighEnough m.bfq × Sound m
 
 pub keeps-weighs : (l : Limits) → Keeps l Weighs
 keeps-weighs l = record {
   attaches = λ m n seat group prio small free stand high h.
-      (entity-weighs l seat group (prio_weight prio) m.bfq (prio-weighs prio high) h.0, (keeps-alive l).attaches m n seat group prio small free stand high h.1);
-  submits = λ m n seat session op range payload next small taken e h.
-      (woken-weighs m seat (submitted m n seat session op range payload) next refl e h.0, (keeps-alive l).submits m n seat session op range payload next small taken e h.1);
-  reaps = λ m seat bios h. (h.0, (keeps-alive l).reaps m seat bios h.1);
-  takes_turns = λ m n seat tag request requests plain h. (h.0, (keeps-alive l).takes_turns m n seat tag request requests plain h.1);
+      (entity-weighs l seat group (prio_weight prio) m.bfq (prio-weighs prio high) h.0, (keeps-sound l).attaches m n seat group prio small free stand high h.1);
+  submits = λ m n seat session op range payload next small its e h.
+      (woken-weighs m seat (submitted m n seat session op range payload) next refl e h.0, (keeps-sound l).submits m n seat session op range payload next small its e h.1);
+  enters = λ m seat f outbox stays h. (h.0, (keeps-sound l).enters m seat f outbox stays h.1);
+  goes = λ m seat small last h.
+      ((h.0.0, member-weighs m.bfq.service (group_of m.bfq seat) seat None gone-weighs h.0.1), (keeps-sound l).goes m seat small last h.1);
+  takes_turns = λ m n seat tag request requests plain its h. (h.0, (keeps-sound l).takes_turns m n seat tag request requests plain its h.1);
   sends = λ m n tag o its whole e h.
-      let known = h.1 (ap is_bfq its) in
-      (sent_by_bfq-weighs l m n tag o e known.0 known.1 h.0, (keeps-alive l).sends m n tag o its whole e h.1);
-  finishes = λ m tag outcome request h. (h.0, (keeps-alive l).finishes m tag outcome request h.1);
+      let tidy : Tidy m = calm-tidy m (ap is_bfq its) h.1.calm in
+      (sent_by_bfq-weighs l m n tag o e tidy h.1.alive h.0, (keeps-sound l).sends m n tag o its whole e h.1);
+  moves = λ m overlay requests outbox flight frozen h. (h.0, (keeps-sound l).moves m overlay requests outbox flight frozen h.1);
   makes = λ m group parent weight stand weighs few free h.
       let now : WeighEnough (with_entity l (entity_of group) parent weight m.bfq) = entity-weighs l (entity_of group) parent weight m.bfq (weight-weighs weight weighs) h.0 in
-      ((now.0, vtime-weighs (with_entity l (entity_of group) parent weight m.bfq).service group l.first_vtime now.1), (keeps-alive l).makes m group parent weight stand weighs few free h.1);
+      ((now.0, vtime-weighs (with_entity l (entity_of group) parent weight m.bfq).service group l.first_vtime now.1), (keeps-sound l).makes m group parent weight stand weighs few free h.1);
   drops = λ m group stand other unused h.
-      ((h.0.0, member-weighs m.bfq.service (group_of m.bfq (entity_of group)) (entity_of group) None gone-weighs h.0.1), (keeps-alive l).drops m group stand other unused h.1);
+      ((h.0.0, member-weighs m.bfq.service (group_of m.bfq (entity_of group)) (entity_of group) None gone-weighs h.0.1), (keeps-sound l).drops m group stand other unused h.1);
   weighs = λ m group weight fits h.
-      ((put-weighs m.bfq.pending (entity_of group) weight (weight-weighs weight fits) h.0.0, h.0.1), (keeps-alive l).weighs m group weight fits h.1);
+      ((put-weighs m.bfq.pending (entity_of group) weight (weight-weighs weight fits) h.0.0, h.0.1), (keeps-sound l).weighs m group weight fits h.1);
+  ticks = λ m slot is h. (h.0, (keeps-sound l).ticks m slot is h.1);
+  switches = λ m scheduler drained h. (begun-weighs l scheduler m.bfq h.1.alive h.0, (keeps-sound l).switches m scheduler drained h.1);
 }
 
 -- before the first step
@@ -343,4 +375,4 @@ opening-weighs l = (λ e. omega arith, λ g e member is. gone-weighs member (sym
 -- the law
 pub weights-positive : ((l : Limits) (m : Plain) → KeepsWhole l m) → (l : Limits) (most : ℕ) (journal : List Call) → WeightsArePositive l most journal
 weights-positive stay l most journal =
-    (machine-keeps l most journal Weighs (stay l) (keeps-weighs l) (opening-weighs l, λ _. (opening-tidy l, opening-alive l))).0
+    (machine-keeps l most journal Weighs (stay l) (keeps-weighs l) (opening-weighs l, opening-sound l)).0

@@ -1,9 +1,8 @@
 -- The queue in service has been sent no more sectors than its budget.
-use Rattle.std.proofs.Common.{true, false, Bool, ◌≡◌, ◌≢◌, inl, inr, ℕ, zero, suc, ◌+◌, ◌≤◌, nat_lt, ◌&&◌, List, [], ◌∷◌, Option, Some, None, All, is_some, cond, slice_index_or, replicate, refl, sym, ap, ◌∙◌, subst, arith}
+use Rattle.std.proofs.Common.{true, false, ◌≡◌, ◌≢◌, inl, inr, ℕ, zero, suc, ◌+◌, ◌≤◌, nat_lt, ◌&&◌, List, [], ◌∷◌, Option, Some, None, is_some, cond, slice_index_or, replicate, refl, sym, ap, ◌∙◌, subst, arith}
 use Rattle.std.specs.List.{find}
 use Rattle.std.specs.Option.{is_none, option_map, option_map_or, option_and_then}
-use Rattle.std.proofs.lemmas.Bool.{cases_eq, ltb-false}
-use Rattle.std.proofs.lemmas.List.Elements.{All-head, All-tail}
+use Rattle.std.proofs.lemmas.Bool.{cases_eq}
 use Rattle.service_tree.specs.declared.member.Member.{Member}
 use Rattle.sector_core.specs.declared.bio.Bio.{Bio}
 use Rattle.process_queue.specs.Queue.{is_empty}
@@ -13,18 +12,22 @@ use Rattle.change_record.specs.declared.change.Seat.{Seat}
 use Rattle.change_record.specs.declared.change.InService.{InService}
 use Rattle.change_record.specs.Tables.{empty_service}
 use Rattle.change_record.specs.Machine.{WholeRequest, Bfq, Plain, put}
-use Rattle.bfq_select.specs.declared.expiry.Expiry.TheVariants.{Exhaustion, Emptying}
+use Rattle.bfq_select.specs.declared.expiry.Expiry.TheVariants.{Emptying}
 use Rattle.bfq_select.specs.Rules.{group_of, activate, select, charge, expire}
 use Rattle.plain_machine.specs.declared.answer.Reply.{Reply}
 use Rattle.plain_machine.specs.declared.call.Call.{Call}
-use Rattle.plain_machine.specs.Step.{Limits, opening, is_bfq, with_entity, attached, submitted, woken, size_of, range_of, next_request, next_size, with_budget_in, with_slot, without_first, without_empty, sent_next, sent_in, sent_by_bfq, shape}
-use Rattle.plain_machine.specs.Keeper.{machine_of, replay}
+use Rattle.plain_machine.specs.Step.{Limits, opening, is_bfq, with_entity, attached, submitted, woken, size_of, range_of, next_request, next_size, with_budget_in, with_slot, without_first, without_empty, sent_next, sent_in, sent_by_bfq, older, switched, shape}
 use Rattle.plain_machine.specs.Whole.{IsWhole, AreWhole, KeepsWhole}
 use Rattle.bfq_laws.specs.Budgets.{AreEnough, ServiceIsWithinBudget}
-use Rattle.bfq_laws.proofs.Puts.{put_here, put_other, some_is, and_then_is, map_is}
+use Rattle.bfq_laws.proofs.Puts.{put_here, put_other, some_is, and_then_is, map_is, All-find}
 use Rattle.bfq_laws.proofs.Quiet.{activate-quiet, select-budgets, charge-slot, expire-slot}
-use Rattle.bfq_laws.proofs.Walk.{Keeps, machine-keeps}
-use Rattle.bfq_laws.proofs.Enough.{put-enough, same-enough, expire-enough, opening-enough}
+use Rattle.bfq_laws.proofs.Walk.{gone, Keeps, machine-keeps}
+use Rattle.bfq_laws.proofs.Overdue.{overdue}
+use Rattle.bfq_laws.proofs.Begun.{begun-slot}
+use Rattle.bfq_laws.proofs.Owned.{session-sits}
+use Rattle.bfq_laws.proofs.Calm.{drained-slot}
+use Rattle.bfq_laws.proofs.Sound.{Sound, opening-sound, sound-known, gone-away, keeps-sound}
+use Rattle.bfq_laws.proofs.Enough.{put-enough, same-enough, expire-enough, opening-enough, begun-enough}
 use Rattle.bfq_laws.proofs.Known.{Known, AreFit, Sits, Begins, member-known, vtime-known, activate-known, select-begins, charge-known, expire-known}
 
 -- the queue in service is that of a seat that is taken, and has been sent no more than its budget
@@ -98,13 +101,6 @@ woken-within m seat next o same grows sits e h =
     ] e
 
 -- the next request of a queue has 256 sectors at most
-pub All-find : {A : Type 0} (P : A → Type 0) (passes : A → Bool) (xs : List A) (x : A) → find passes xs ≡ Some x → All P xs → P x
-All-find P passes [] x e h = cc
-All-find P passes (y ∷ ys) x e h = elim (passes y) as (λ b. cond b (Some y) (find passes ys) ≡ Some x → P x) [
-  | true ↦ λ here. subst P (some_is y x here) (All-head P y ys h)
-  | false ↦ λ later. All-find P passes ys x later (All-tail P y ys h)
-] e
-
 next-whole : (m : Plain) (seat : ℕ) (r : WholeRequest) → AreWhole m → next_request m seat ≡ Some r → IsWhole r
 next-whole m seat r whole e =
     let w = and_then_is (λ sector. find (has_start shape sector) (m.queue seat)) (wanted (m.head seat) (starts shape (m.queue seat))) r e in
@@ -134,24 +130,22 @@ with_budget_in-room : (l : Limits) → 256 ≤ l.max_budget → (m : Plain) (o :
 with_budget_in-room l most m None b at e h =
     subst (HasRoom m) (some_is m.bfq b e) (record { enough = h.enough; known = h.known; room = λ slot is. let none : Some slot ≡ None = sym is ∙ at in cc })
 with_budget_in-room l most m (Some slot) b at e h =
-    elim (nat_lt (m.bfq.budget slot.seat) (slot.service + next_size m slot.seat)) as (λ t. nat_lt (m.bfq.budget slot.seat) (slot.service + next_size m slot.seat) ≡ t
-    → cond t (expire Exhaustion l.max_budget true m.bfq) (Some m.bfq) ≡ Some b → HasRoom m b) [
-      | true ↦ λ _ f.
-          let x = expire-slot Exhaustion l.max_budget true m.bfq b f in
+    elim (overdue l m slot b e) [
+      | inl x ↦
+          let free = expire-slot x.0 l.max_budget true m.bfq b x.1 in
           record {
-            enough = expire-enough Exhaustion l.max_budget true m.bfq b most f h.enough;
-            known = expire-known m.seat Exhaustion l.max_budget true m.bfq b (sits-within m h) f h.known;
-            room = λ other is. let none : Some other ≡ None = sym is ∙ x.3 in cc;
+            enough = expire-enough x.0 l.max_budget true m.bfq b most x.1 h.enough;
+            known = expire-known m.seat x.0 l.max_budget true m.bfq b (sits-within m h) x.1 h.known;
+            room = λ other is. let none : Some other ≡ None = sym is ∙ free.3 in cc;
           }
-      | false ↦ λ fits f.
-          let le : slot.service + next_size m slot.seat ≤ m.bfq.budget slot.seat = ltb-false (m.bfq.budget slot.seat) (slot.service + next_size m slot.seat) fits in
+      | inr y ↦
           let P : InService → Type 0 = λ s. (is_some (m.seat s.seat) ≡ true) × (s.service + next_size m s.seat ≤ m.bfq.budget s.seat) in
-          subst (HasRoom m) (some_is m.bfq b f) (record {
+          subst (HasRoom m) y.1 (record {
             enough = h.enough;
             known = h.known;
-            room = λ other is. subst P (some_is slot other (sym at ∙ is)) (sits-within m h slot at, le);
+            room = λ other is. subst P (some_is slot other (sym at ∙ is)) (sits-within m h slot at, y.0);
           })
-    ] refl e
+    ]
 
 no_slot : (o : Option InService) → is_none o ≡ true → o ≡ None
 no_slot None e = refl
@@ -239,35 +233,71 @@ opening-within l first most = record {
 }
 
 -- every step
-keeps-within : (l : Limits) → 256 ≤ l.first_budget → 256 ≤ l.max_budget → Keeps l Within
+abbrev Serves : Plain → Type 0
+Serves m = Within m × Sound m
+
+keeps-within : (l : Limits) → 256 ≤ l.first_budget → 256 ≤ l.max_budget → Keeps l Serves
 keeps-within l first most = record {
-  attaches = λ m n seat group prio _ free _ _ h. attached-within l first m n seat group prio free h;
-  submits = λ m n seat session op range payload next _ taken e h.
-      woken-within m seat (submitted m n seat session op range payload) next refl (put-grows m.seat seat _ (λ sits. mapped-some _ (m.seat seat) sits)) taken e h;
-  reaps = λ m seat bios h.
-      let grows : Grows m.seat (put m.seat seat _) = put-grows m.seat seat _ (λ sits. mapped-some _ (m.seat seat) sits) in
-      record { enough = h.enough; known = grown-known m.seat _ m.bfq grows h.known; served = grown-served m.seat _ m.bfq grows h.served };
-  takes_turns = λ m n seat tag request requests _ h. record { enough = h.enough; known = h.known; served = h.served };
-  sends = λ m n tag o _ whole e h. sent_by_bfq-within l most m n tag o whole e h;
-  finishes = λ m tag outcome request h. record { enough = h.enough; known = h.known; served = h.served };
-  makes = λ m group parent weight _ _ _ _ h. record {
-    enough = h.enough;
-    known =
-        vtime-known m.seat (with_entity l (entity_of group) parent weight m.bfq).service group l.first_vtime
-        (member-known m.seat m.bfq.service parent (entity_of group) _ (λ small. absurd (omega (arith, small))) h.known);
-    served = h.served;
-  };
-  drops = λ m group _ _ _ h. record {
-    enough = h.enough;
-    known = member-known m.seat m.bfq.service (group_of m.bfq (entity_of group)) (entity_of group) None (λ small. absurd (omega (arith, small))) h.known;
-    served = h.served;
-  };
-  weighs = λ m group weight _ h. record { enough = h.enough; known = h.known; served = h.served };
+  attaches = λ m n seat group prio small free stand high h. (attached-within l first m n seat group prio free h.0, (keeps-sound l).attaches m n seat group prio small free stand high h.1);
+  submits = λ m n seat session op range payload next small its e h. (
+    woken-within m seat (submitted m n seat session op range payload) next refl (put-grows m.seat seat _ (λ sits. mapped-some _ (m.seat seat) sits)) (session-sits session (m.seat seat) its) e h.0,
+    (keeps-sound l).submits m n seat session op range payload next small its e h.1,
+  );
+  enters = λ m seat f outbox stays h.
+      let grows : Grows m.seat (put m.seat seat _) = put-grows m.seat seat _ (λ sits. mapped-some f (m.seat seat) sits) in
+      (record { enough = h.0.enough; known = grown-known m.seat _ m.bfq grows h.0.known; served = grown-served m.seat _ m.bfq grows h.0.served }, (keeps-sound l).enters m seat f outbox stays h.1);
+  goes = λ m seat small last h.
+      let next : Plain = gone m seat in
+      let sound : Sound next = (keeps-sound l).goes m seat small last h.1 in (
+        record {
+          enough = h.0.enough;
+          known = sound-known next sound;
+          served = λ slot is. let s = h.0.served slot is in (ap is_some (put_other m.seat seat None slot.seat (gone-away l m seat h.1 last slot is)) ∙ s.0, s.1);
+        },
+        sound,
+      );
+  takes_turns = λ m n seat tag request requests plain its h.
+      (record { enough = h.0.enough; known = h.0.known; served = h.0.served }, (keeps-sound l).takes_turns m n seat tag request requests plain its h.1);
+  sends = λ m n tag o its whole e h. (sent_by_bfq-within l most m n tag o whole e h.0, (keeps-sound l).sends m n tag o its whole e h.1);
+  moves = λ m overlay requests outbox flight frozen h.
+      (record { enough = h.0.enough; known = h.0.known; served = h.0.served }, (keeps-sound l).moves m overlay requests outbox flight frozen h.1);
+  makes = λ m group parent weight stand weighs few free h. (
+    record {
+      enough = h.0.enough;
+      known =
+          vtime-known m.seat (with_entity l (entity_of group) parent weight m.bfq).service group l.first_vtime
+          (member-known m.seat m.bfq.service parent (entity_of group) _ (λ small. absurd (omega (arith, small))) h.0.known);
+      served = h.0.served;
+    },
+    (keeps-sound l).makes m group parent weight stand weighs few free h.1,
+  );
+  drops = λ m group stand other unused h. (
+    record {
+      enough = h.0.enough;
+      known = member-known m.seat m.bfq.service (group_of m.bfq (entity_of group)) (entity_of group) None (λ small. absurd (omega (arith, small))) h.0.known;
+      served = h.0.served;
+    },
+    (keeps-sound l).drops m group stand other unused h.1,
+  );
+  weighs = λ m group weight fits h. (record { enough = h.0.enough; known = h.0.known; served = h.0.served }, (keeps-sound l).weighs m group weight fits h.1);
+  ticks = λ m slot is h.
+      let P : InService → Type 0 = λ s. (is_some (m.seat s.seat) ≡ true) × (s.service ≤ m.bfq.budget s.seat) in
+      (record { enough = h.0.enough; known = h.0.known; served = λ other at. subst P (some_is (older slot) other at) (h.0.served slot is) }, (keeps-sound l).ticks m slot is h.1);
+  switches = λ m scheduler drained h.
+      let next : Plain = switched l m scheduler in
+      let sound : Sound next = (keeps-sound l).switches m scheduler drained h.1 in (
+        record {
+          enough = begun-enough l first scheduler m.bfq h.0.enough;
+          known = sound-known next sound;
+          served = λ slot at. absurd (drained-slot m drained h.1.calm slot (sym (begun-slot l scheduler m.bfq) ∙ at));
+        },
+        sound,
+      );
 }
 
 -- the law
 pub service-within : ((l : Limits) (m : Plain) → KeepsWhole l m) → (l : Limits) (most : ℕ) (journal : List Call) → ServiceIsWithinBudget l most journal
 service-within stay l most journal first greatest =
     let le : 256 ≤ l.max_budget = omega (arith, first, greatest) in
-    let made : Within (machine_of (replay l most journal)) = machine-keeps l most journal Within (stay l) (keeps-within l first le) (opening-within l first le) in
-    λ slot e. made.served slot e
+    let made = machine-keeps l most journal Serves (stay l) (keeps-within l first le) (opening-within l first le, opening-sound l) in
+    λ slot e. made.0.served slot e

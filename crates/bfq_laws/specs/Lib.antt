@@ -3,3 +3,4 @@ pub mod Busy
 pub mod Found
 pub mod Weights
 pub mod Sums
+pub mod Members

@@ -4,6 +4,7 @@ ghost use Rattle.bfq_laws.specs.Found.{EachDispatchFindsARequest};
 ghost use Rattle.bfq_laws.specs.Budgets.{BudgetsAreEnough, ServiceIsWithinBudget};
 ghost use Rattle.bfq_laws.specs.Weights.{WeightsArePositive};
 ghost use Rattle.bfq_laws.specs.Sums.{SumsArePositive};
+ghost use Rattle.bfq_laws.specs.Members.{EntitiesAreMembers};
 ghost use Rattle.plain_machine.specs.Step.{Limits};
 ghost use Rattle.plain_machine.specs.declared.call.Call.{Call};
 ghost use Rattle.std.specs.Prelude.{ℕ, List};
@@ -53,6 +54,14 @@ pub fn weights_are_positive()
 /// has one in service before it charges. The contract is the law.
 pub fn sums_are_positive()
     ensures { (l : Limits) (most : ℕ) (journal : List Call) → SumsArePositive l most journal }
+{
+    requests_stay_whole();
+}
+
+/// On the machine of every keeper that a journal makes, the tree of a group has just the entities that are in the group. The
+/// contract is the law.
+pub fn entities_are_members()
+    ensures { (l : Limits) (most : ℕ) (journal : List Call) → EntitiesAreMembers l most journal }
 {
     requests_stay_whole();
 }

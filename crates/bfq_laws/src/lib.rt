@@ -2,7 +2,7 @@
 //! Laws of the machine under BFQ: what holds after every run, whatever its calls were.
 //!
 //! `specs/` has what the laws say: `Budgets` has budgets, and the service that is within them; `Busy` who waits or is served;
-//! `Found` what a dispatch finds; `Weights` has weights, and `Sums` their sums.
+//! `Found` what a dispatch finds; `Weights` has weights, and `Sums` their sums; `Members` which entities a group's tree has.
 //!
 //! | call | rule that it meets |
 //! |---|---|
@@ -12,10 +12,11 @@
 //! | [`dispatch_finds_a_request`] | where a queue is not empty, a queue is in service or is selected, and has a next request |
 //! | [`weights_are_positive`] | no weight is 0, be it pending or in effect |
 //! | [`sums_are_positive`] | in each group on the path of the queue in service the sum of weights is not 0 |
+//! | [`entities_are_members`] | a group's tree has just the entities that are in the group |
 
 mod laws;
 
 pub use laws::{
     budgets_are_enough, busy_sessions_wait_or_are_served, dispatch_finds_a_request,
-    service_is_within_budget, sums_are_positive, weights_are_positive,
+    entities_are_members, service_is_within_budget, sums_are_positive, weights_are_positive,
 };

@@ -10,7 +10,7 @@ use Rattle.change_record.specs.declared.change.InService.{InService}
 use Rattle.change_record.specs.Exchange.{with_member, with_vtime}
 use Rattle.change_record.specs.Machine.{Bfq, put}
 use Rattle.bfq_select.specs.declared.expiry.Expiry.{Expiry}
-use Rattle.bfq_select.specs.declared.expiry.Expiry.TheVariants.{Exhaustion, Emptying}
+use Rattle.bfq_select.specs.declared.expiry.Expiry.TheVariants.{Exhaustion, Timeout, Emptying}
 
 -- no time is greater; a rule that would make a greater one is refused (our profile)
 abbrev pub top : ℕ
@@ -137,6 +137,7 @@ charge sectors b = option_and_then (λ slot. along (charge_one sectors) (path b.
 -- at the finish of what it was really served (B-WF2Q+).
 abbrev pub budget_after : Expiry → ℕ → ℕ → ℕ → ℕ
 budget_after Exhaustion budget service most = min (4 * budget) most
+budget_after Timeout budget service most = min (2 * budget) most
 budget_after Emptying budget service most = max service 256
 
 -- the start with what the service took, at the weight in effect

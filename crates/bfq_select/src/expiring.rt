@@ -20,6 +20,7 @@ pub fn budget_after(cause: Expiry, budget: u32, service: u32, most: u32) -> u32
 {
     match cause {
         Expiry::Exhaustion => (4 * budget).min(most),
+        Expiry::Timeout => (2 * budget).min(most),
         Expiry::Emptying => service.max(256),
     }
 }

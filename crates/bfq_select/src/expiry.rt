@@ -5,6 +5,8 @@
 pub enum Expiry {
     /// The next request is greater than what is left of the budget.
     Exhaustion,
+    /// The queue has been in service for too many ticks.
+    Timeout,
     /// The queue has no request left.
     Emptying,
 }

@@ -167,6 +167,34 @@ fn exhausted_budgets(rt: HostRuntime) -> Result<(), Fail> {
     Ok(())
 }
 
+// 8 * 2^22 / 40 = 838860.8 as ever, and the next service is of twice the budget: 2048 * 2^22 / 40 = 214748364.8, and
+// 838860 + 214748364 = 215587224
+#[test]
+fn timed_out(rt: HostRuntime) -> Result<(), Fail> {
+    let mut host = Host::after(rt.alloc(), &ALONE)?;
+    host.run(&[Act::TimeOut])?;
+    assert_eq!(rt;
+        host.member(0, 3),
+        member(State::Active, 838860, 215587224, 40)
+    );
+    assert_eq!(rt; host.budget(3), 2048);
+    assert_eq!(rt; host.slot(), None);
+    Ok(())
+}
+
+// Twice as much each time: 1536, 3072, and 4096, which is the greatest.
+#[test]
+fn timed_out_budgets(rt: HostRuntime) -> Result<(), Fail> {
+    let mut host = Host::after(rt.alloc(), &ALONE)?;
+    host.run(&[Act::Budget(3, 1536), Act::TimeOut])?;
+    assert_eq!(rt; host.budget(3), 3072);
+    host.run(&[Act::Select, Act::TimeOut])?;
+    assert_eq!(rt; host.budget(3), 4096);
+    host.run(&[Act::Select, Act::TimeOut])?;
+    assert_eq!(rt; host.budget(3), 4096);
+    Ok(())
+}
+
 // On a tie the lower number was picked. 8 * 2^22 / 80 = 419430.4, and 8 * 2^22 / 40 = 838860.8: seat 0 is not eligible now.
 #[test]
 fn tie(rt: HostRuntime) -> Result<(), Fail> {

@@ -4,3 +4,4 @@ mod ends;
 mod fakes;
 mod groups;
 mod scripts;
+mod steps;

@@ -6,7 +6,7 @@ use Rattle.std.specs.Cmp.{nat_cmp_total, eq_by_cmp_equiv}
 use Rattle.std.specs.FinMap as map
 use Rattle.overlay.specs.Blocks.{Blocks, exchanged}
 use Rattle.change_record.specs.declared.change.Change.{Change}
-use Rattle.change_record.specs.declared.change.Change.TheVariants.{Sector, RequestSlot, BioSlot, Tag, QueueLink, OutboxWhole, SeatEntry, Served, Head, TreeMember, Vtime, GroupEntry, Pending, Budget, Serving}
+use Rattle.change_record.specs.declared.change.Change.TheVariants.{Sector, RequestSlot, BioSlot, Tag, QueueLink, OutboxWhole, SeatEntry, Requeued, Mode, Head, TreeMember, Vtime, GroupEntry, Pending, Budget, Serving}
 use Rattle.service_tree.specs.declared.member.Member.{Member}
 use Rattle.service_tree.specs.Members.{Service}
 use Rattle.change_record.specs.Tables.{Tables}
@@ -88,9 +88,10 @@ after-after t (RequestSlot slot request) = ap (λ l. record t { requests = l }) 
 after-after t (BioSlot slot bio) = ap (λ l. record t { bios = l }) (set-set_back t.bios slot bio)
 after-after t (Tag tag issue) = ap (λ l. record t { tags = l }) (set-set_back t.tags tag issue)
 after-after t (QueueLink slot link) = ap (λ l. record t { links = l }) (set-set_back t.links slot link)
+after-after t (Requeued slot link) = ap (λ l. record t { requeued = l }) (set-set_back t.requeued slot link)
 after-after t (OutboxWhole seat outbox) = ap (λ l. record t { outboxes = l }) (set-set_back t.outboxes seat outbox)
 after-after t (SeatEntry seat entry) = ap (λ l. record t { seats = l }) (set-set_back t.seats seat entry)
-after-after t (Served seat) = refl
+after-after t (Mode scheduler frozen served) = refl
 after-after t (Head seat head) = ap (λ l. record t { heads = l }) (set-set_back t.heads seat head)
 after-after t (TreeMember group entity member) = ap (λ l. record t { trees = l }) (tree_member_back t.trees group entity member)
 after-after t (Vtime group vtime) = ap (λ l. record t { trees = l }) (vtime_back t.trees group vtime)
@@ -105,9 +106,10 @@ left_by-after t (RequestSlot slot request) = ap (RequestSlot slot) (get_or-set_b
 left_by-after t (BioSlot slot bio) = ap (BioSlot slot) (get_or-set_back t.bios slot bio)
 left_by-after t (Tag tag issue) = ap (Tag tag) (get_or-set_back t.tags tag issue)
 left_by-after t (QueueLink slot link) = ap (QueueLink slot) (get_or-set_back t.links slot link)
+left_by-after t (Requeued slot link) = ap (Requeued slot) (get_or-set_back t.requeued slot link)
 left_by-after t (OutboxWhole seat outbox) = ap (OutboxWhole seat) (get_or-set_back t.outboxes seat outbox)
 left_by-after t (SeatEntry seat entry) = ap (SeatEntry seat) (get_or-set_back t.seats seat entry)
-left_by-after t (Served seat) = refl
+left_by-after t (Mode scheduler frozen served) = refl
 left_by-after t (Head seat head) = ap (Head seat) (get_or-set_back t.heads seat head)
 left_by-after t (TreeMember group entity member) = ap (TreeMember group entity) (member_left_back t.trees group entity member)
 left_by-after t (Vtime group vtime) = ap (Vtime group) (vtime_left_back t.trees group vtime)
@@ -191,9 +193,10 @@ FitsIn-left_by t (RequestSlot slot request) p = tt
 FitsIn-left_by t (BioSlot slot bio) p = tt
 FitsIn-left_by t (Tag tag issue) p = tt
 FitsIn-left_by t (QueueLink slot link) p = tt
+FitsIn-left_by t (Requeued slot link) p = tt
 FitsIn-left_by t (OutboxWhole seat outbox) p = tt
 FitsIn-left_by t (SeatEntry seat entry) p = tt
-FitsIn-left_by t (Served seat) p = tt
+FitsIn-left_by t (Mode scheduler frozen served) p = tt
 FitsIn-left_by t (Head seat head) p = tt
 FitsIn-left_by t (TreeMember group entity member) p = tt
 FitsIn-left_by t (Vtime group vtime) p = tt

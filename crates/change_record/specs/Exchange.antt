@@ -3,7 +3,7 @@ use Rattle.std.specs.Prelude.{◌≡◌, ℕ, List, [], ◌∷◌, Option, None,
 use Rattle.std.specs.FinMap as map
 use Rattle.overlay.specs.Blocks.{Blocks, exchanged}
 use Rattle.change_record.specs.declared.change.Change.{Change}
-use Rattle.change_record.specs.declared.change.Change.TheVariants.{Sector, RequestSlot, BioSlot, Tag, QueueLink, OutboxWhole, SeatEntry, Served, Head, TreeMember, Vtime, GroupEntry, Pending, Budget, Serving}
+use Rattle.change_record.specs.declared.change.Change.TheVariants.{Sector, RequestSlot, BioSlot, Tag, QueueLink, OutboxWhole, SeatEntry, Requeued, Mode, Head, TreeMember, Vtime, GroupEntry, Pending, Budget, Serving}
 use Rattle.service_tree.specs.declared.member.Member.{Member}
 use Rattle.service_tree.specs.Members.{Service}
 use Rattle.change_record.specs.Tables.{Tables}
@@ -28,7 +28,8 @@ after t (Tag tag issue) = record t { tags = slice_set t.tags tag issue }
 after t (QueueLink slot link) = record t { links = slice_set t.links slot link }
 after t (OutboxWhole seat outbox) = record t { outboxes = slice_set t.outboxes seat outbox }
 after t (SeatEntry seat entry) = record t { seats = slice_set t.seats seat entry }
-after t (Served seat) = record t { served = seat }
+after t (Requeued slot link) = record t { requeued = slice_set t.requeued slot link }
+after t (Mode scheduler frozen served) = record t { scheduler = scheduler; frozen = frozen; served = served }
 after t (Head seat head) = record t { heads = slice_set t.heads seat head }
 after t (TreeMember group entity member) = record t { trees = slice_set t.trees group (with_member (tree_at t group) entity member) }
 after t (Vtime group vtime) = record t { trees = slice_set t.trees group (with_vtime (tree_at t group) vtime) }
@@ -46,7 +47,8 @@ left_by t (Tag tag issue) = Tag tag (slice_index_or t.tags tag issue)
 left_by t (QueueLink slot link) = QueueLink slot (slice_index_or t.links slot link)
 left_by t (OutboxWhole seat outbox) = OutboxWhole seat (slice_index_or t.outboxes seat outbox)
 left_by t (SeatEntry seat entry) = SeatEntry seat (slice_index_or t.seats seat entry)
-left_by t (Served seat) = Served t.served
+left_by t (Requeued slot link) = Requeued slot (slice_index_or t.requeued slot link)
+left_by t (Mode scheduler frozen served) = Mode t.scheduler t.frozen t.served
 left_by t (Head seat head) = Head seat (slice_index_or t.heads seat head)
 left_by t (TreeMember group entity member) = TreeMember group entity (slice_index_or (tree_at t group).members entity member)
 left_by t (Vtime group vtime) = Vtime group (slice_index_or t.trees group (with_vtime (tree_at t group) vtime)).vtime
@@ -64,7 +66,8 @@ AddsBlock t (Tag tag issue) = ⊥
 AddsBlock t (QueueLink slot link) = ⊥
 AddsBlock t (OutboxWhole seat outbox) = ⊥
 AddsBlock t (SeatEntry seat entry) = ⊥
-AddsBlock t (Served seat) = ⊥
+AddsBlock t (Requeued slot link) = ⊥
+AddsBlock t (Mode scheduler frozen served) = ⊥
 AddsBlock t (Head seat head) = ⊥
 AddsBlock t (TreeMember group entity member) = ⊥
 AddsBlock t (Vtime group vtime) = ⊥
@@ -87,7 +90,8 @@ FitsIn t (Tag tag issue) = Unit {0}
 FitsIn t (QueueLink slot link) = Unit {0}
 FitsIn t (OutboxWhole seat outbox) = Unit {0}
 FitsIn t (SeatEntry seat entry) = Unit {0}
-FitsIn t (Served seat) = Unit {0}
+FitsIn t (Requeued slot link) = Unit {0}
+FitsIn t (Mode scheduler frozen served) = Unit {0}
 FitsIn t (Head seat head) = Unit {0}
 FitsIn t (TreeMember group entity member) = Unit {0}
 FitsIn t (Vtime group vtime) = Unit {0}
@@ -133,7 +137,8 @@ IsPut (Tag tag issue) = Unit {0}
 IsPut (QueueLink slot link) = Unit {0}
 IsPut (OutboxWhole seat outbox) = Unit {0}
 IsPut (SeatEntry seat entry) = Unit {0}
-IsPut (Served seat) = Unit {0}
+IsPut (Requeued slot link) = Unit {0}
+IsPut (Mode scheduler frozen served) = Unit {0}
 IsPut (Head seat head) = Unit {0}
 IsPut (TreeMember group entity member) = Unit {0}
 IsPut (Vtime group vtime) = Unit {0}

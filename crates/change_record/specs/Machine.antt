@@ -1,5 +1,5 @@
 -- The plain machine: lists, maps and a few numbers. What a reader has to believe is said on it alone.
-use Rattle.std.specs.Prelude.{ℕ, ◌==◌, List, [], Option, None, if◌then◌else◌, slice_index_or}
+use Rattle.std.specs.Prelude.{ℕ, ◌==◌, Bool, List, [], Option, None, if◌then◌else◌, slice_index_or}
 use Rattle.std.specs.List.{filter_map}
 use Rattle.std.specs.Option.{option_map, option_and_then}
 use Rattle.arrayvec.specs.ArrayVec.{ArrayVec}
@@ -48,10 +48,14 @@ pub record Plain : Type 0 where
   pub seat : ℕ → Option Seat
   -- blk-mq: the software queue of a seat, in order of insertion
   pub queue : ℕ → List WholeRequest
+  -- blk-mq: the dispatch list, the requests that the device gave back, the first of them first
+  pub requeued : List WholeRequest
   -- the completed bios of a seat that are not yet reaped, in order
   pub outbox : ℕ → List Bio
   -- what a tag bears
   pub flight : ℕ → Option Flight
+  -- whether submits wait
+  pub frozen : Bool
   -- the seat that the round robin served last
   pub served : ℕ
   -- bfq: where the head of a seat's queue is, a sector
@@ -89,8 +93,10 @@ meaning t = record {
   overlay = t.overlay;
   seat = λ seat. slice_index_or t.seats seat None;
   queue = λ seat. filter_map (whole_at t.requests t.bios) (queue_slots seat t.links);
+  requeued = filter_map (whole_at t.requests t.bios) (queue_slots 0 t.requeued);
   outbox = λ seat. bios_at t.bios (outbox_at t.outboxes seat);
   flight = λ tag. option_and_then (λ issue. option_map (λ r. record { issue = issue.issue; request = r }) (whole_at t.requests t.bios issue.slot)) (slice_index_or t.tags tag None);
+  frozen = t.frozen;
   served = t.served;
   head = λ seat. slice_index_or t.heads seat 0;
   bfq = bfq_of t;

@@ -1,5 +1,5 @@
 -- What stands at each place: lists and one finite map, with no rule that joins them (our profile).
-use Rattle.std.specs.Prelude.{ℕ, List, [], ◌++◌, Option, None, replicate}
+use Rattle.std.specs.Prelude.{ℕ, Bool, false, List, [], ◌++◌, Option, None, replicate}
 use Rattle.std.specs.FinMap as map
 use Rattle.arrayvec.specs.ArrayVec.{ArrayVec}
 use Rattle.sector_core.specs.declared.bio.Bio.{Bio}
@@ -19,8 +19,11 @@ pub record Tables : Type 0 where
   pub bios : List (Option Bio)
   pub tags : List (Option Issue)
   pub links : List (Option Link)
+  -- the links of the dispatch list, which is one queue, that of number 0
+  pub requeued : List (Option Link)
   pub outboxes : List (ArrayVec ℕ)
   pub seats : List (Option Seat)
+  pub frozen : Bool
   pub served : ℕ
   -- where each queue's head is, a sector
   pub heads : List ℕ
@@ -50,8 +53,10 @@ empty_tables making = record {
   bios = replicate 512 None;
   tags = replicate making.tags None;
   links = replicate making.requests None;
+  requeued = replicate making.requests None;
   outboxes = replicate 16 (record { items = [] });
   seats = replicate 16 None;
+  frozen = false;
   served = 15;
   heads = replicate 16 0;
   trees = replicate 32 (empty_service making.first_vtime);

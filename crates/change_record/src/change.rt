@@ -16,8 +16,10 @@ pub struct Seat {
     pub session: u64,
     /// Its priority, 0 to 7.
     pub prio: u8,
-    /// How many of its bios are submitted and not yet reaped, at most 32.
+    /// How many of its bios are submitted and not yet reaped or dropped, at most 32.
     pub unreaped: u8,
+    /// Whether it is leaving: it makes no more calls, and some of its requests are not yet completed.
+    pub leaving: bool,
 }
 
 /// The queue in service.
@@ -28,7 +30,7 @@ pub struct InService {
     /// The sectors that were sent since it was selected.
     pub service: u32,
     /// The ticks since it was selected.
-    pub age: u32,
+    pub age: u64,
 }
 
 /// What the tables of a machine are made for.
@@ -86,9 +88,16 @@ pub enum Change {
         seat: u8,
         entry: Option<Seat>,
     },
-    /// The seat that the round robin served last.
-    Served {
-        seat: u8,
+    /// Where a slot stands in the dispatch list, if it does.
+    Requeued {
+        slot: Slot,
+        link: Option<Link>,
+    },
+    /// The scheduler, whether submits wait, and the seat that the round robin served last.
+    Mode {
+        scheduler: Scheduler,
+        frozen: bool,
+        served: u8,
     },
     /// The head of a seat's queue, a sector.
     Head {

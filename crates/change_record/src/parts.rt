@@ -17,15 +17,18 @@ use std::marker::Model;
 use std::mem;
 use tag_set::TagSet;
 
-/// The overlay, the pool, the tags, the queues, the outboxes, the seats, the round robin, and what BFQ knows of entities and groups.
+/// The overlay, the pool, the tags, the queues, the dispatch list, the outboxes, the seats, the mode of the host, and what BFQ knows
+/// of entities and groups.
 #[derive(Drop)]
 pub struct Parts {
     overlay: Overlay,
     pool: RequestPool,
     tags: TagSet,
     queues: ProcessQueue,
+    requeued: ProcessQueue,
     outboxes: Vec<Outbox>,
     seats: Vec<Option<Seat>>,
+    frozen: bool,
     served: u8,
     heads: Vec<u64>,
     trees: Vec<ServiceTree>,
@@ -53,8 +56,10 @@ impl Model for Parts {
         bios = p.pool.bios;
         tags = p.tags;
         links = p.queues;
+        requeued = p.requeued;
         outboxes = p.outboxes.items;
         seats = p.seats.items;
+        frozen = p.frozen;
         served = p.served;
         heads = p.heads.items;
         trees = p.trees.items;
@@ -78,8 +83,10 @@ impl Parts {
             pool: RequestPool::new(alloc, making.requests)?,
             tags: TagSet::new(alloc, making.tags)?,
             queues: ProcessQueue::new(alloc, making.requests)?,
+            requeued: ProcessQueue::new(alloc, making.requests)?,
             outboxes: empty_outboxes(alloc)?,
             seats: empty_table(alloc, 16)?,
+            frozen: false,
             served: 15,
             heads: table_of(alloc, 16, 0)?,
             trees: empty_trees(alloc, making.first_vtime)?,
@@ -128,6 +135,13 @@ impl Parts {
         &self.queues
     }
 
+    /// The dispatch list, as the queue of number 0.
+    pub fn requeued(&self) -> &ProcessQueue
+        ensures { result.now ≡ self.now.tables.requeued }
+    {
+        &self.requeued
+    }
+
     /// Who sits at a seat.
     pub fn seat(&self, seat: u8) -> Option<Seat>
         ensures { result ≡ slice_index_or self.now.tables.seats seat None }
@@ -143,6 +157,13 @@ impl Parts {
         ensures { option_copied result ≡ slice_get self.now.tables.outboxes seat }
     {
         self.outboxes.get(usize::from(seat))
+    }
+
+    /// Whether submits wait.
+    pub fn frozen(&self) -> bool
+        ensures { result ≡ self.now.tables.frozen }
+    {
+        self.frozen
     }
 
     /// The seat that the round robin served last.
@@ -264,8 +285,20 @@ impl Parts {
                     mem::swap(place, entry);
                 }
             }
-            Change::Served { seat } => {
-                mem::swap(&mut self.served, seat);
+            Change::Requeued { slot, link } => {
+                *link = match *link {
+                    Some(given) => self.requeued.link(*slot, given.seat, given.serial),
+                    None => self.requeued.unlink(*slot),
+                };
+            }
+            Change::Mode {
+                scheduler,
+                frozen,
+                served,
+            } => {
+                mem::swap(&mut self.scheduler, scheduler);
+                mem::swap(&mut self.frozen, frozen);
+                mem::swap(&mut self.served, served);
             }
             Change::Head { seat, head } => {
                 if let Some(place) = self.heads.get_mut(usize::from(*seat)) {

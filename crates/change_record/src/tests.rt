@@ -1,6 +1,9 @@
 // The exchanges in examples: the rules are proved, and these say what they mean, and that a call succeeds while memory is left.
+ghost use Rattle.std.specs.Prelude.{◌≡◌, false};
+
 use super::*;
 use bytes::Bytes;
+use process_queue::Link;
 use sector_core::{Block, Scheduler};
 use std::test::Fail;
 
@@ -13,6 +16,17 @@ const MAKING: Making = Making {
     first_vtime: 7,
 };
 
+// The round robin has served this seat last.
+fn serving(seat: u8) -> Change
+    ensures { result ≡ Change.Mode Scheduler.Bfq false seat }
+{
+    Change::Mode {
+        scheduler: Scheduler::Bfq,
+        frozen: false,
+        served: seat,
+    }
+}
+
 #[test]
 fn new_tables(rt: HostRuntime) -> Result<(), Fail> {
     let parts = Parts::new(rt.alloc(), MAKING)?;
@@ -23,7 +37,15 @@ fn new_tables(rt: HostRuntime) -> Result<(), Fail> {
     assert_eq!(rt; parts.pool().free_request(), Some(0));
     assert_eq!(rt; parts.pool().free_bio(15), Some(480));
     assert_eq!(rt; parts.tags().lowest_free(), Some(0));
+    Ok(())
+}
+
+#[test]
+fn new_seats(rt: HostRuntime) -> Result<(), Fail> {
+    let parts = Parts::new(rt.alloc(), MAKING)?;
     assert!(rt; parts.queues().is_empty(0));
+    assert!(rt; parts.requeued().is_empty(0));
+    assert!(rt; !parts.frozen());
     assert_eq!(rt; parts.seat(0), None);
     assert_eq!(rt;
         parts
@@ -76,13 +98,62 @@ fn a_turn_and_back(rt: HostRuntime) -> Result<(), Fail> {
     Ok(())
 }
 
+// The three parts of the mode are one place, and what stood there is in the change then.
+#[test]
+fn a_mode_and_back(rt: HostRuntime) -> Result<(), Fail> {
+    let mut parts = Parts::new(rt.alloc(), MAKING)?;
+    let mut change = Change::Mode {
+        scheduler: Scheduler::Plain,
+        frozen: true,
+        served: 4,
+    };
+
+    parts.turn(&mut change)?;
+    assert_eq!(rt; parts.scheduler(), Scheduler::Plain);
+    assert!(rt; parts.frozen());
+    assert_eq!(rt; parts.served(), 4);
+    let Change::Mode {
+        scheduler: Scheduler::Bfq,
+        frozen: false,
+        served: 15,
+    } = &change
+    else {
+        return Err("the change has the mode that was".into());
+    };
+
+    parts.turn(&mut change)?;
+    assert_eq!(rt; parts.scheduler(), Scheduler::Bfq);
+    assert!(rt; !parts.frozen());
+    assert_eq!(rt; parts.served(), 15);
+    assert_eq!(rt; parts.turns(), 2);
+    Ok(())
+}
+
+// The dispatch list has links of its own.
+#[test]
+fn a_link_of_the_dispatch_list(rt: HostRuntime) -> Result<(), Fail> {
+    let mut parts = Parts::new(rt.alloc(), MAKING)?;
+    let mut change = Change::Requeued {
+        slot: 2,
+        link: Some(Link { seat: 0, serial: 5 }),
+    };
+
+    parts.turn(&mut change)?;
+    assert_eq!(rt; parts.requeued().first(0), Some(2));
+    assert!(rt; parts.queues().is_empty(0));
+
+    parts.turn(&mut change)?;
+    assert!(rt; parts.requeued().is_empty(0));
+    Ok(())
+}
+
 #[test]
 fn a_step_forth_and_back(rt: HostRuntime) -> Result<(), Fail> {
     let mut parts = Parts::new(rt.alloc(), MAKING)?;
     let mut tape = Tape::new(rt.alloc());
     tape.reserve(2)?;
-    tape.push(Change::Served { seat: 7 });
-    tape.push(Change::Served { seat: 9 });
+    tape.push(serving(7));
+    tape.push(serving(9));
     tape.close();
     assert_eq!(rt; tape.size(0), 2);
 
@@ -128,10 +199,10 @@ fn steps_dropped(rt: HostRuntime) -> Result<(), Fail> {
     let mut tape = Tape::new(rt.alloc());
     assert_eq!(rt; tape.len(), 0);
     tape.reserve(1)?;
-    tape.exchange(&mut parts, Change::Served { seat: 3 });
+    tape.exchange(&mut parts, serving(3));
     tape.close();
     tape.reserve(1)?;
-    tape.exchange(&mut parts, Change::Served { seat: 7 });
+    tape.exchange(&mut parts, serving(7));
     tape.close();
     assert_eq!(rt; tape.len(), 2);
 
@@ -149,8 +220,8 @@ fn a_step_that_is_given_up(rt: HostRuntime) -> Result<(), Fail> {
     let mut parts = Parts::new(rt.alloc(), MAKING)?;
     let mut tape = Tape::new(rt.alloc());
     tape.reserve(3)?;
-    tape.exchange(&mut parts, Change::Served { seat: 4 });
-    tape.exchange(&mut parts, Change::Served { seat: 9 });
+    tape.exchange(&mut parts, serving(4));
+    tape.exchange(&mut parts, serving(9));
     assert_eq!(rt; parts.served(), 9);
     tape.abandon(&mut parts);
     assert_eq!(rt; parts.served(), 15);
@@ -158,7 +229,7 @@ fn a_step_that_is_given_up(rt: HostRuntime) -> Result<(), Fail> {
 
     // A change that has been turned is added alone: back, it puts 15 in its place.
     tape.reserve(1)?;
-    let mut change = Change::Served { seat: 6 };
+    let mut change = serving(6);
     parts.turn(&mut change)?;
     tape.push(change);
     tape.close();

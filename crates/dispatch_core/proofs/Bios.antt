@@ -1,11 +1,10 @@
 -- Seats, bios and outboxes through each step.
-use Rattle.std.proofs.Common.{◌≡◌, ℕ, ◌+◌, ◌-◌, ◌<◌, ◌≤◌, List, [], ◌∷◌, inl, inr, length, Some, set, refl, sym, ap, ◌∙◌, arith}
+use Rattle.std.proofs.Common.{◌≡◌, ℕ, ◌+◌, ◌-◌, ◌<◌, ◌≤◌, List, [], ◌∷◌, inl, inr, length, false, Some, set, refl, sym, ap, ◌∙◌, arith}
 use Rattle.std.specs.Option.{option_map, option_map_or}
 use Rattle.std.proofs.lemmas.List.Elements.{All-head}
 use Rattle.sector_core.specs.declared.range.Range.{Range}
 use Rattle.sector_core.specs.declared.bio.Op.{Op}
 use Rattle.sector_core.specs.declared.bio.Bio.{Bio}
-use Rattle.sector_core.specs.declared.bio.Outcome.{Outcome}
 use Rattle.request_pool.specs.declared.Request.{Request}
 use Rattle.request_pool.specs.Slots.{seat_slots}
 use Rattle.sector_core.specs.Table.{AllTaken}
@@ -13,16 +12,15 @@ use Rattle.change_record.specs.declared.change.Seat.{Seat}
 use Rattle.change_record.specs.Tables.{Tables}
 use Rattle.process_queue.specs.Merge.{bios_at}
 use Rattle.change_record.specs.Machine.{meaning, outbox_at, put}
-use Rattle.plain_machine.specs.Step.{Limits, with_unreaped, completed, delivered, unreaped}
+use Rattle.plain_machine.specs.Step.{Limits, with_unreaped, unreaped}
 use Rattle.dispatch_core.specs.WellFormed.{at, taken, WellFormed, Seated, Kept, IsCompleted}
-use Rattle.dispatch_core.specs.Changes.{attached_tables, submitted_tables, reaped_tables, sent_tables, finished_tables}
-use Rattle.dispatch_core.proofs.Sides.{CanAttach, CanSubmit, CanReap, CanSend, CanFinish}
+use Rattle.dispatch_core.specs.Changes.{attached_tables, submitted_tables, reaped_tables, sent_tables}
+use Rattle.dispatch_core.proofs.Sides.{CanAttach, CanSubmit, CanReap, CanSend}
 use Rattle.dispatch_core.proofs.Times.{set_cases}
 use Rattle.dispatch_core.proofs.SlotCounts.{all_taken}
-use Rattle.dispatch_core.proofs.Keeping.{put-set, sessions_same, sessions_free, early_set, apart_set, owned_by}
+use Rattle.dispatch_core.proofs.Keeping.{put-set, sessions_same, sessions_free, left_set, early_set, apart_set, owned_by}
 use Rattle.dispatch_core.proofs.Submits as submit
 use Rattle.dispatch_core.proofs.Reaps as reap
-use Rattle.dispatch_core.proofs.Finishes as finish
 use Rattle.dispatch_core.proofs.Reaps.{first_done, counted_once, entry_of}
 
 -- Attach
@@ -31,9 +29,10 @@ attached-seated l n t seat group prio w can = record {
   early = early_set n t.seats seat entry within (omega arith) w.seated.early;
   apart = apart_set t.seats seat entry within w.seated.apart (λ j a h e. let early = w.seated.early j a h in absurd (omega arith));
   counted = λ k h. counted_attach k h;
+  left = left_set t.seats t.outboxes seat entry within (λ e. absurd cc) w.seated.left;
 } where
   entry : Seat
-  entry = record { session = n; prio = prio; unreaped = 0 }
+  entry = record { session = n; prio = prio; unreaped = 0; leaving = false }
 
   within : seat < length t.seats
   within = omega (arith, can.within, w.sized.seats)
@@ -48,14 +47,14 @@ pub attached-kept : (l : Limits) (n : ℕ) (t : Tables) (seat group prio : ℕ) 
 attached-kept l n t seat group prio w can = record {
   bio = w.kept.bio;
   request = λ k r h. owned_by t (attached_tables l t n seat group prio) r
-      (sessions_free t.seats seat (record { session = n; prio = prio; unreaped = 0 }) (omega (arith, can.within, w.sized.seats)) can.free) (λ j all. all) (w.kept.request k r h);
+      (sessions_free t.seats seat (record { session = n; prio = prio; unreaped = 0; leaving = false }) (omega (arith, can.within, w.sized.seats)) can.free) (λ j all. all) (w.kept.request k r h);
   outbox = w.kept.outbox;
   once = w.kept.once;
 }
 
 pub attached-seat : (l : Limits) (n : ℕ) (t : Tables) (seat group prio : ℕ) → WellFormed l n t → CanAttach t seat
-    → (meaning (attached_tables l t n seat group prio)).seat ≡ put (meaning t).seat seat (Some (record { session = n; prio = prio; unreaped = 0 }))
-attached-seat l n t seat group prio w can = put-set t.seats seat (Some (record { session = n; prio = prio; unreaped = 0 })) (omega (arith, can.within, w.sized.seats))
+    → (meaning (attached_tables l t n seat group prio)).seat ≡ put (meaning t).seat seat (Some (record { session = n; prio = prio; unreaped = 0; leaving = false }))
+attached-seat l n t seat group prio w can = put-set t.seats seat (Some (record { session = n; prio = prio; unreaped = 0; leaving = false })) (omega (arith, can.within, w.sized.seats))
 
 -- Submit: where fewer than 32 bios are not yet reaped, the seat has a free slot
 pub free_place : (l : Limits) (n : ℕ) (t : Tables) (seat : ℕ) (entry : Seat) → WellFormed l n t → seat < 16 → at t.seats seat ≡ Some entry → entry.unreaped < 32
@@ -124,7 +123,7 @@ reaped-outbox l n t seat entry place rest bio w can = reap.outbox_is l n t seat 
 
 -- Dispatch
 pub sent-seated : (l : Limits) (n : ℕ) (t : Tables) (seat slot tag : ℕ) (request : Request) → WellFormed l n t → CanSend l t seat slot tag request → Seated (n + 1) (sent_tables t n seat slot tag)
-sent-seated l n t seat slot tag request w can = record { early = λ k s h. let early = w.seated.early k s h in omega arith; apart = w.seated.apart; counted = w.seated.counted }
+sent-seated l n t seat slot tag request w can = record { early = λ k s h. let early = w.seated.early k s h in omega arith; apart = w.seated.apart; counted = w.seated.counted; left = w.seated.left }
 
 pub sent-kept : (l : Limits) (n : ℕ) (t : Tables) (seat slot tag : ℕ) (request : Request) → WellFormed l n t → CanSend l t seat slot tag request → Kept l (sent_tables t n seat slot tag)
 sent-kept l n t seat slot tag request w can = record {
@@ -133,21 +132,3 @@ sent-kept l n t seat slot tag request w can = record {
   outbox = w.kept.outbox;
   once = w.kept.once;
 }
-
--- Finish: the request's bios fit into the outbox
-pub outbox_room : (l : Limits) (n : ℕ) (t : Tables) (tag issue slot seat : ℕ) (entry : Seat) (request : Request) → WellFormed l n t → CanFinish t tag issue slot seat entry request
-    → length (outbox_at t.outboxes seat) + length request.bios.items ≤ 32
-outbox_room l n t tag issue slot seat entry request w can = finish.outbox_room l n t tag issue slot seat entry request w can
-
-pub finished-seated : (l : Limits) (n : ℕ) (t : Tables) (tag issue slot seat : ℕ) (entry : Seat) (request : Request) (outcome : Outcome) → WellFormed l n t → CanFinish t tag issue slot seat entry request
-    → Seated (n + 1) (finished_tables t tag slot seat request.bios.items outcome)
-finished-seated l n t tag issue slot seat entry request outcome w can = finish.seated l n t tag issue slot seat entry request w can outcome
-
-pub finished-kept : (l : Limits) (n : ℕ) (t : Tables) (tag issue slot seat : ℕ) (entry : Seat) (request : Request) (outcome : Outcome) → WellFormed l n t → CanFinish t tag issue slot seat entry request
-    → Kept l (finished_tables t tag slot seat request.bios.items outcome)
-finished-kept l n t tag issue slot seat entry request outcome w can = finish.kept l n t tag issue slot seat entry request w can outcome
-
-pub finished-outbox : (l : Limits) (n : ℕ) (t : Tables) (tag issue slot seat : ℕ) (entry : Seat) (request : Request) (outcome : Outcome) → WellFormed l n t → CanFinish t tag issue slot seat entry request
-    → (meaning (finished_tables t tag slot seat request.bios.items outcome)).outbox
-    ≡ delivered (meaning t).seat (meaning t).outbox request.session (completed outcome t.overlay (bios_at t.bios request.bios.items))
-finished-outbox l n t tag issue slot seat entry request outcome w can = finish.outbox_is l n t tag issue slot seat entry request w can outcome

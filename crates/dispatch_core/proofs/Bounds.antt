@@ -1,14 +1,19 @@
 -- How many exchanges a step makes at most.
-use Rattle.std.proofs.Common.{◌≡◌, ℕ, ◌+◌, ◌≤◌, Option, None, Some, Bool, true, false, cond, refl, arith}
+use Rattle.std.proofs.Common.{◌≡◌, ℕ, ◌+◌, ◌≤◌, List, [], ◌∷◌, length, Option, None, Some, is_some, Bool, true, false, ◌&&◌, cond, refl, arith}
+use Rattle.std.proofs.lemmas.List.Sums.{count_by-le-length}
 use Rattle.std.proofs.lemmas.List.Elements.{All-nil}
+use Rattle.sector_core.specs.declared.config.Scheduler.{Scheduler}
+use Rattle.sector_core.specs.declared.config.Scheduler.TheVariants.{Plain as PlainScheduler, Bfq as BfqScheduler}
+use Rattle.soft_queue.specs.Turn.{numbers}
+use Rattle.process_queue.specs.Queue.{is_empty}
 use Rattle.sector_core.specs.declared.bio.Outcome.{Outcome}
 use Rattle.sector_core.specs.declared.bio.Outcome.TheVariants.{Fetched, Stored, Failed}
 use Rattle.change_record.specs.Machine.{WholeRequest, Plain, Flight}
 use Rattle.plain_machine.specs.declared.step.Step.{Step}
-use Rattle.plain_machine.specs.declared.step.Step.TheVariants.{Attach, Submit, Reap, Dispatch, Finish, GroupMake, GroupDrop, SetWeight}
+use Rattle.plain_machine.specs.declared.step.Step.TheVariants.{Attach, Submit, Reap, Leave, Dispatch, Finish, Requeue, GroupMake, GroupDrop, SetWeight, Freeze, Thaw, Switch, Tick}
 use Rattle.plain_machine.specs.Step.{Limits, opening, size_of, merge_in, is_bfq}
 use Rattle.plain_machine.specs.Whole.{IsWhole, AreWhole}
-use Rattle.dispatch_core.specs.Counts.{blocks_put, finish_exchanges, submit_exchanges, exchanges_of, rule_exchanges}
+use Rattle.dispatch_core.specs.Counts.{blocks_put, finish_exchanges, submit_exchanges, dispatch_exchanges, switch_exchanges, is_of_leaver, exchanges_of, rule_exchanges}
 
 -- no more blocks are put than there are sectors
 blocks_few : (outcome : Outcome) (sectors : ℕ) → blocks_put outcome sectors ≤ sectors
@@ -33,17 +38,34 @@ rules_few : (b : Bool) (k : ℕ) → k ≤ 31 → cond b k 0 ≤ 31
 rules_few true k h = h
 rules_few false k h = omega arith
 
--- so no step makes more than 512
-pub exchanges_few : (m : Plain) (s : Step) → AreWhole m → exchanges_of m s + rule_exchanges m s ≤ 512
-exchanges_few m (Attach seat group prio) whole = omega arith
-exchanges_few m (Submit seat session op range payload) whole = omega (arith, submit_few (merge_in m seat session op range), rules_few (is_bfq m.scheduler) 5 (omega arith))
-exchanges_few m (Reap seat session) whole = omega arith
-exchanges_few m Dispatch whole = omega (arith, rules_few (is_bfq m.scheduler) 31 (omega arith))
-exchanges_few m (Finish tag issue outcome) whole = omega (arith, finish_few outcome (m.flight tag) (whole.flying tag))
-exchanges_few m (GroupMake parent weight) whole = omega arith
-exchanges_few m (GroupDrop group) whole = omega arith
-exchanges_few m (SetWeight group weight) whole = omega arith
+-- a dispatch makes three of its own
+dispatch_few : (requests : List WholeRequest) → dispatch_exchanges requests ≤ 3
+dispatch_few [] = omega arith
+dispatch_few (request ∷ requests) = omega arith
+
+-- a switch begins the times of no more than 48 entities again
+switch_few : (m : Plain) (scheduler : Scheduler) → switch_exchanges m scheduler ≤ 113
+switch_few m PlainScheduler = omega arith
+switch_few m BfqScheduler = omega (arith, count_by-le-length (λ entity. is_some (m.bfq.parent entity)) (numbers 0 48))
+
+-- so no step makes more than 512, where no outbox has more than 32 bios
+pub exchanges_few : (m : Plain) (s : Step) → AreWhole m → ((seat : ℕ) → length (m.outbox seat) ≤ 32) → exchanges_of m s + rule_exchanges m s ≤ 512
+exchanges_few m (Attach seat group prio) whole short = omega arith
+exchanges_few m (Submit seat session op range payload) whole short = omega (arith, submit_few (merge_in m seat session op range), rules_few (is_bfq m.scheduler) 5 (omega arith))
+exchanges_few m (Reap seat session) whole short = omega arith
+exchanges_few m (Leave seat why) whole short = omega (arith, short seat)
+exchanges_few m Dispatch whole short = omega (arith, dispatch_few m.requeued, rules_few (is_empty m.requeued && is_bfq m.scheduler) 31 (omega arith))
+exchanges_few m (Finish tag issue outcome) whole short =
+    omega (arith, finish_few outcome (m.flight tag) (whole.flying tag), rules_few (is_of_leaver m (m.flight tag)) 2 (omega arith))
+exchanges_few m (Requeue tag issue) whole short = omega arith
+exchanges_few m (GroupMake parent weight) whole short = omega arith
+exchanges_few m (GroupDrop group) whole short = omega arith
+exchanges_few m (SetWeight group weight) whole short = omega arith
+exchanges_few m Freeze whole short = omega arith
+exchanges_few m Thaw whole short = omega arith
+exchanges_few m (Switch scheduler) whole short = omega (arith, switch_few m scheduler)
+exchanges_few m Tick whole short = omega arith
 
 -- a machine before its first step has no request
 pub opening-whole : (l : Limits) → AreWhole (opening l)
-opening-whole l = record { queued = λ seat. All-nil IsWhole; flying = λ tag flight e. cc }
+opening-whole l = record { queued = λ seat. All-nil IsWhole; requeued = All-nil IsWhole; flying = λ tag flight e. cc }

@@ -65,7 +65,7 @@ results_more Stored t slot slots bio bios =
 results_more (Failed kind) t slot slots bio bios = refl
 
 -- the bio in the first slot is the first of the bios
-bios_at-cons : (bios : List (Option Bio)) (slot : ℕ) (slots : List ℕ) (bio : Bio) → at bios slot ≡ Some bio → bios_at bios (slot ∷ slots) ≡ bio ∷ bios_at bios slots
+pub bios_at-cons : (bios : List (Option Bio)) (slot : ℕ) (slots : List ℕ) (bio : Bio) → at bios slot ≡ Some bio → bios_at bios (slot ∷ slots) ≡ bio ∷ bios_at bios slots
 bios_at-cons bios slot slots bio here = ap (λ o. cons_option o (bios_at bios slots)) here
 
 -- so one bio and then the others is all of them
@@ -79,7 +79,7 @@ completed_more outcome t u slot slots bio ready here now =
     ∙ ap (with_results outcome t (slot ∷ slots)) (sym (bios_at-cons t.bios slot slots bio here))
 
 -- the sectors of the first slot and of the others
-total_cons : (bios : List (Option Bio)) (slot : ℕ) (slots : List ℕ) (bio : Bio) → at bios slot ≡ Some bio → total_count bios (slot ∷ slots) ≡ bio.range.count + total_count bios slots
+pub total_cons : (bios : List (Option Bio)) (slot : ℕ) (slots : List ℕ) (bio : Bio) → at bios slot ≡ Some bio → total_count bios (slot ∷ slots) ≡ bio.range.count + total_count bios slots
 total_cons bios slot slots bio here = sum_by-cons (count_at bios) slot slots ∙ ap (λ o. count_of_bio o + total_count bios slots) here
 
 -- a bio of the same range in its place

@@ -40,7 +40,7 @@ sum_once k from (suc count) lo hi =
     ]
 
 -- an entry makes a list longer by one
-length-insert_in : (e : ℕ × ℕ) (xs : List (ℕ × ℕ)) → length (insert_in e xs) ≡ length xs + 1
+pub length-insert_in : (e : ℕ × ℕ) (xs : List (ℕ × ℕ)) → length (insert_in e xs) ≡ length xs + 1
 length-insert_in e [] = refl
 length-insert_in e (x ∷ xs) = elim (nat_lt x.0 e.0) as (λ b. length (cond b (x ∷ insert_in e xs) (e ∷ x ∷ xs)) ≡ suc (length xs) + 1) [
   | true ↦ omega (arith, length-insert_in e xs)

@@ -21,11 +21,11 @@ use Rattle.bfq_select.specs.Rules.{activate, stands}
 use Rattle.sector_core.specs.declared.config.Scheduler.{Scheduler}
 use Rattle.plain_machine.specs.declared.answer.Reply.{Reply}
 use Rattle.plain_machine.specs.declared.answer.Code.TheVariants.{NoSession, StaleSession, BadCount, BadLength, OutOfRange, TooManyBios, BadSeat, SeatTaken, NoGroup, BadPrio, VtimeFull, NothingQueued, NoTag, NotInFlight, BadOutcome, HistoryFull}
-use Rattle.plain_machine.specs.declared.answer.Cause.TheVariants.{RequestsFull, NotCompleted}
+use Rattle.plain_machine.specs.declared.answer.Cause.TheVariants.{Frozen, RequestsFull, NotCompleted}
 use Rattle.plain_machine.specs.declared.answer.Reply.TheVariants.{Attached, Queued, Completed, Issued, Finished}
 use Rattle.plain_machine.specs.declared.answer.Answer.{Answer}
 use Rattle.plain_machine.specs.declared.answer.Answer.TheVariants.{Accepted, Refused, NotYet}
-use Rattle.plain_machine.specs.Step.{Limits, Outcome_of, unless, attach, attached, accepted, accepted_if, is_bfq, shape, woken, sent_by, unreaped, payload_length, queued, in_flight, submitted, submit, merge_in, needs_request, with_unreaped, reap, next_queue, lowest_free, sent, dispatch_to, dispatch, fits, size_of, range_of, after_outcome, delivered, completed, finished, finish, MayGiveWay}
+use Rattle.plain_machine.specs.Step.{Limits, Outcome_of, unless, has_session, attach, attached, accepted, accepted_if, is_bfq, shape, woken, sent_by, unreaped, payload_length, requests_of, submitted, submit, merge_in, needs_request, with_unreaped, reap, next_queue, lowest_free, sent, dispatch_to, dispatch, fits, size_of, range_of, dispatch_of, after_finish, finished, finish, MayGiveWay}
 
 lt_16 : (seat : ℕ) → seat < 16 → nat_le 16 seat ≡ false
 lt_16 seat h = grind (arith, nat_tests)
@@ -126,9 +126,15 @@ module _ (l : Limits) (m : Plain) (n : ℕ) (room : Bool) (seat session : ℕ) (
   pub submit_nobody : seat < 16 → m.seat seat ≡ None → submit l m n room seat session op range payload ≡ (m, Refused NoSession)
   submit_nobody h none = let e = lt_16 seat h in rw (e, none) refl
 
-  module _ (s : Seat) (h : seat < 16) (sits : m.seat seat ≡ Some s) where
+  pub submit_leaver : (s : Seat) → seat < 16 → m.seat seat ≡ Some s → s.leaving ≡ true → submit l m n room seat session op range payload ≡ (m, Refused NoSession)
+  submit_leaver s h sits leaves =
+      let e1 = lt_16 seat h in
+      let e2 : has_session (m.seat seat) ≡ false = ap has_session sits ∙ ap not leaves in
+      rw (e1, e2) refl
+
+  module _ (s : Seat) (h : seat < 16) (sits : m.seat seat ≡ Some s) (stays : s.leaving ≡ false) where
     pub submit_stale : s.session ≢ session → submit l m n room seat session op range payload ≡ (m, Refused StaleSession)
-    submit_stale other = let e1 = lt_16 seat h in let e2 = other_number s.session session other in rw (e1, sits, e2) refl
+    submit_stale other = let e1 = lt_16 seat h in let e2 = other_number s.session session other in rw (e1, sits, stays, e2) refl
 
     module _ (same : s.session ≡ session) where
       pub submit_count : ((range.count ≡ 0) ⊎ (64 < range.count)) → submit l m n room seat session op range payload ≡ (m, Refused BadCount)
@@ -136,7 +142,7 @@ module _ (l : Limits) (m : Plain) (n : ℕ) (room : Bool) (seat session : ℕ) (
           let e1 = lt_16 seat h in
           let e2 = same_number s.session session same in
           let e3 : (nat_eq range.count 0 || nat_lt 64 range.count) ≡ true = bad_count range.count bad in
-          rw (e1, sits, e2, e3) refl
+          rw (e1, sits, stays, e2, e3) refl
 
       module _ (some_sectors : 1 ≤ range.count) (few_sectors : range.count ≤ 64) where
         pub submit_length : length payload ≢ payload_length op range.count → submit l m n room seat session op range payload ≡ (m, Refused BadLength)
@@ -145,7 +151,7 @@ module _ (l : Limits) (m : Plain) (n : ℕ) (room : Bool) (seat session : ℕ) (
             let e2 = same_number s.session session same in
             let e3 = neither (nat_eq range.count 0) (nat_lt 64 range.count) (not_zero range.count some_sectors) (not_lt range.count 64 few_sectors) in
             let e4 = other_number (length payload) (payload_length op range.count) other in
-            rw (e1, sits, e2, e3, e4) refl
+            rw (e1, sits, stays, e2, e3, e4) refl
 
         module _ (fits_payload : length payload ≡ payload_length op range.count) where
           pub submit_range : l.sectors < range.start + range.count → submit l m n room seat session op range payload ≡ (m, Refused OutOfRange)
@@ -155,22 +161,31 @@ module _ (l : Limits) (m : Plain) (n : ℕ) (room : Bool) (seat session : ℕ) (
               let e3 = neither (nat_eq range.count 0) (nat_lt 64 range.count) (not_zero range.count some_sectors) (not_lt range.count 64 few_sectors) in
               let e4 = same_number (length payload) (payload_length op range.count) fits_payload in
               let e5 = is_lt l.sectors (range.start + range.count) past in
-              rw (e1, sits, e2, e3, e4, e5) refl
+              rw (e1, sits, stays, e2, e3, e4, e5) refl
 
-          pub submit_many : range.start + range.count ≤ l.sectors → 32 ≤ s.unreaped → submit l m n room seat session op range payload ≡ (m, Refused TooManyBios)
-          submit_many in_image many =
+          pub submit_frozen : range.start + range.count ≤ l.sectors → m.frozen ≡ true → submit l m n room seat session op range payload ≡ (m, NotYet Frozen)
+          submit_frozen in_image frozen =
+              let e1 = lt_16 seat h in
+              let e2 = same_number s.session session same in
+              let e3 = neither (nat_eq range.count 0) (nat_lt 64 range.count) (not_zero range.count some_sectors) (not_lt range.count 64 few_sectors) in
+              let e4 = same_number (length payload) (payload_length op range.count) fits_payload in
+              let e5 = not_lt (range.start + range.count) l.sectors in_image in
+              rw (e1, sits, stays, e2, e3, e4, e5, frozen) refl
+
+          pub submit_many : range.start + range.count ≤ l.sectors → m.frozen ≡ false → 32 ≤ s.unreaped → submit l m n room seat session op range payload ≡ (m, Refused TooManyBios)
+          submit_many in_image thawed many =
               let e1 = lt_16 seat h in
               let e2 = same_number s.session session same in
               let e3 = neither (nat_eq range.count 0) (nat_lt 64 range.count) (not_zero range.count some_sectors) (not_lt range.count 64 few_sectors) in
               let e4 = same_number (length payload) (payload_length op range.count) fits_payload in
               let e5 = not_lt (range.start + range.count) l.sectors in_image in
               let e6 = is_le 32 s.unreaped many in
-              rw (e1, sits, e2, e3, e4, e5, e6) refl
+              rw (e1, sits, stays, e2, e3, e4, e5, thawed, e6) refl
 
 module _ (l : Limits) (m : Plain) (n : ℕ) (room : Bool) (seat session : ℕ) (op : Op) (range : Range) (payload : List ℕ) (s : Seat)
-    (h : seat < 16) (sits : m.seat seat ≡ Some s) (same : s.session ≡ session) (some_sectors : 1 ≤ range.count) (few_sectors : range.count ≤ 64)
-    (fits_payload : length payload ≡ payload_length op range.count) (in_image : range.start + range.count ≤ l.sectors) (few : s.unreaped < 32) where
-  pub submit_full : (needs_request m seat session op range && nat_le l.requests (queued m + in_flight l m)) ≡ true
+    (h : seat < 16) (sits : m.seat seat ≡ Some s) (stays : s.leaving ≡ false) (same : s.session ≡ session) (some_sectors : 1 ≤ range.count) (few_sectors : range.count ≤ 64)
+    (fits_payload : length payload ≡ payload_length op range.count) (in_image : range.start + range.count ≤ l.sectors) (thawed : m.frozen ≡ false) (few : s.unreaped < 32) where
+  pub submit_full : (needs_request m seat session op range && nat_le l.requests (requests_of l m)) ≡ true
       → submit l m n room seat session op range payload ≡ (m, NotYet RequestsFull)
   submit_full full =
       let e1 = lt_16 seat h in
@@ -179,9 +194,9 @@ module _ (l : Limits) (m : Plain) (n : ℕ) (room : Bool) (seat session : ℕ) (
       let e5 = same_number (length payload) (payload_length op range.count) fits_payload in
       let e6 = not_lt (range.start + range.count) l.sectors in_image in
       let e7 = not_le s.unreaped 32 few in
-      rw (e1, sits, e3, e4, e5, e6, e7, full) refl
+      rw (e1, sits, stays, e3, e4, e5, e6, thawed, e7, full) refl
 
-  pub submit_goes : (needs_request m seat session op range && nat_le l.requests (queued m + in_flight l m)) ≡ false
+  pub submit_goes : (needs_request m seat session op range && nat_le l.requests (requests_of l m)) ≡ false
       → submit l m n room seat session op range payload ≡ accepted_if room m (option_map (λ next. (next, Queued n)) (woken m seat (submitted m n seat session op range payload)))
   submit_goes free =
       let e1 = lt_16 seat h in
@@ -190,13 +205,13 @@ module _ (l : Limits) (m : Plain) (n : ℕ) (room : Bool) (seat session : ℕ) (
       let e5 = same_number (length payload) (payload_length op range.count) fits_payload in
       let e6 = not_lt (range.start + range.count) l.sectors in_image in
       let e7 = not_le s.unreaped 32 few in
-      rw (e1, sits, e3, e4, e5, e6, e7, free) refl
+      rw (e1, sits, stays, e3, e4, e5, e6, thawed, e7, free) refl
 
   -- a bio that joins a request goes into a queue that is not empty, and wakes nobody
   pub submit_joins : (found : WholeRequest × Bool) → merge_in m seat session op range ≡ Some found → submit l m n room seat session op range payload
       ≡ accepted room m (submitted m n seat session op range payload) (Queued n)
   submit_joins found some =
-      submit_goes (ap (λ o. is_none o && nat_le l.requests (queued m + in_flight l m)) some)
+      submit_goes (ap (λ o. is_none o && nat_le l.requests (requests_of l m)) some)
       ∙ ap (λ o. accepted_if room m (option_map (λ next. (next, Queued n)) o))
       (not_woken m seat (submitted m n seat session op range payload) (joined_queue (m.queue seat) session op range found some))
 
@@ -210,7 +225,7 @@ pub Answers-by : (f g : Plain → Outcome_of) (t u : Tables) (r : Result Answer 
 Answers-by f g t u (Ok a) e h = h ∙ sym e
 Answers-by f g t u (Err w) e h = let P : Plain × Answer → Type 0 = λ o. MayGiveWay o.1 in subst P (sym e) h
 
-module _ (m : Plain) (room : Bool) (seat session : ℕ) (s : Seat) (h : seat < 16) (sits : m.seat seat ≡ Some s) (same : s.session ≡ session) (some_owed : s.unreaped ≢ 0) where
+module _ (m : Plain) (room : Bool) (seat session : ℕ) (s : Seat) (h : seat < 16) (sits : m.seat seat ≡ Some s) (stays : s.leaving ≡ false) (same : s.session ≡ session) (some_owed : s.unreaped ≢ 0) where
   owed : nat_eq s.unreaped 0 ≡ false
   owed = not_zero s.unreaped (omega arith)
 
@@ -219,7 +234,7 @@ module _ (m : Plain) (room : Bool) (seat session : ℕ) (s : Seat) (h : seat < 1
       let e1 = lt_16 seat h in
       let e3 = same_number s.session session same in
       let e4 = owed in
-      rw (none, e1, sits, e3, e4) refl
+      rw (none, e1, sits, stays, e3, e4) refl
 
   pub reap_goes : (bio : Bio) (bios : List Bio) → m.outbox seat ≡ bio ∷ bios → reap m room seat session
       ≡ accepted room m (record m { seat = put m.seat seat (option_map (with_unreaped (unreaped m seat - 1)) (m.seat seat)); outbox = put m.outbox seat bios }) (Completed bio.serial (unwrap_or bio.result Written))
@@ -227,35 +242,45 @@ module _ (m : Plain) (room : Bool) (seat session : ℕ) (s : Seat) (h : seat < 1
       let e1 = lt_16 seat h in
       let e3 = same_number s.session session same in
       let e4 = owed in
-      rw (first, e1, sits, e3, e4) refl
+      rw (first, e1, sits, stays, e3, e4) refl
 
   pub reap_does : (bio : Bio) (bios : List Bio) → m.outbox seat ≡ bio ∷ bios → room ≡ true → reap m room seat session
       ≡ (record m { seat = put m.seat seat (option_map (with_unreaped (unreaped m seat - 1)) (m.seat seat)); outbox = put m.outbox seat bios }, Accepted (Completed bio.serial (unwrap_or bio.result Written)))
   reap_does bio bios first e = reap_goes bio bios first
       ∙ ap (λ b. accepted b m (record m { seat = put m.seat seat (option_map (with_unreaped (unreaped m seat - 1)) (m.seat seat)); outbox = put m.outbox seat bios }) (Completed bio.serial (unwrap_or bio.result Written))) e
 
-module _ (l : Limits) (m : Plain) (n : ℕ) (room : Bool) where
+-- Dispatch where nothing is in the dispatch list
+module _ (l : Limits) (m : Plain) (n : ℕ) (room : Bool) (none_again : m.requeued ≡ []) where
   pub dispatch_idle : next_queue m ≡ None → dispatch l m n room ≡ (m, Refused NothingQueued)
-  dispatch_idle none = ap (λ q. dispatch_to l m n room q (lowest_free l m)) none
+  dispatch_idle none = ap (dispatch_of l m n room) none_again ∙ ap (λ q. dispatch_to l m n room q (lowest_free l m)) none
 
   pub dispatch_full : (seat : ℕ) → next_queue m ≡ Some seat → lowest_free l m ≡ None → dispatch l m n room ≡ (m, Refused NoTag)
-  dispatch_full seat next none = ap (λ q. dispatch_to l m n room q (lowest_free l m)) next ∙ ap (dispatch_to l m n room (Some seat)) none
+  dispatch_full seat next none = ap (dispatch_of l m n room) none_again ∙ ap (λ q. dispatch_to l m n room q (lowest_free l m)) next ∙ ap (dispatch_to l m n room (Some seat)) none
 
   -- a queue and a tag are there, and the scheduler decides
   pub dispatch_by : (seat tag : ℕ) (scheduler : Scheduler) → next_queue m ≡ Some seat → lowest_free l m ≡ Some tag → m.scheduler ≡ scheduler
       → dispatch l m n room ≡ sent_by l m n room seat tag scheduler
   dispatch_by seat tag scheduler next lowest is =
-      ap (λ q. dispatch_to l m n room q (lowest_free l m)) next ∙ ap (dispatch_to l m n room (Some seat)) lowest ∙ ap (sent_by l m n room seat tag) is
+      ap (dispatch_of l m n room) none_again ∙ ap (λ q. dispatch_to l m n room q (lowest_free l m)) next ∙ ap (dispatch_to l m n room (Some seat)) lowest ∙ ap (sent_by l m n room seat tag) is
 
+module _ (l : Limits) (m : Plain) (n : ℕ) (room : Bool) where
   module _ (seat tag : ℕ) (r : WholeRequest) (rs : List WholeRequest) (first : m.queue seat ≡ r ∷ rs) where
     sent_goes : sent m n room seat tag (m.queue seat)
         ≡ accepted room m (record m { queue = put m.queue seat rs; flight = put m.flight tag (Some (record { issue = n; request = r })); served = seat }) (Issued tag n r.op (range_of r.bios))
     sent_goes = ap (sent m n room seat tag) first
 
-    pub sent_does : room ≡ true → sent m n room seat tag (m.queue seat)
+    sent_does : room ≡ true → sent m n room seat tag (m.queue seat)
         ≡ (record m { queue = put m.queue seat rs; flight = put m.flight tag (Some (record { issue = n; request = r })); served = seat }, Accepted (Issued tag n r.op (range_of r.bios)))
     sent_does e = sent_goes
         ∙ ap (λ b. accepted b m (record m { queue = put m.queue seat rs; flight = put m.flight tag (Some (record { issue = n; request = r })); served = seat }) (Issued tag n r.op (range_of r.bios))) e
+
+    -- with the range as it was read
+    pub sent_made : (then_is : Plain) (range : Range) → then_is ≡ (let p : Plain = record m { queue = put m.queue seat rs; flight = put m.flight tag (Some (record { issue = n; request = r })); served = seat } in p)
+        → range ≡ range_of r.bios → room ≡ true → (then_is, Accepted (Issued tag n r.op range)) ≡ sent m n room seat tag (m.queue seat)
+    sent_made then_is range same read e =
+        ap (λ x. (x, Accepted (Issued tag n r.op range))) same
+        ∙ ap (λ x. (let p : Plain = record m { queue = put m.queue seat rs; flight = put m.flight tag (Some (record { issue = n; request = r })); served = seat } in p, Accepted (Issued tag n r.op x))) read
+        ∙ sym (sent_does e)
 
     pub sent_late : room ≡ false → sent m n room seat tag (m.queue seat) ≡ (m, Refused HistoryFull)
     sent_late e = sent_goes
@@ -308,35 +333,18 @@ module _ (l : Limits) (m : Plain) (room : Bool) (tag issue : ℕ) (outcome : Out
       rw (e1, here, e2, bad) refl
 
   pub finish_goes : (f : Flight) → m.flight tag ≡ Some f → f.issue ≡ issue → fits f.request.op (size_of f.request.bios) outcome ≡ true
-      → finish l m room tag issue outcome ≡ finished m room tag outcome f.request
+      → finish l m room tag issue outcome ≡ finished l m room tag outcome f.request
   finish_goes f here same good =
       let e1 = not_past in
       let e2 = same_number f.issue issue same in
       rw (e1, here, e2, good) refl
 
-  -- the machine after a finished request
-  after_finish : WholeRequest → Plain
-  after_finish r = record m {
-    overlay = after_outcome outcome m.overlay r.bios;
-    outbox = delivered m.seat m.outbox r.session (completed outcome m.overlay r.bios);
-    flight = put m.flight tag None;
-  }
-
   module _ (f : Flight) (here : m.flight tag ≡ Some f) (same : f.issue ≡ issue) (good : fits f.request.op (size_of f.request.bios) outcome ≡ true) where
-    pub finish_does : room ≡ true → finish l m room tag issue outcome ≡ (
-      record m {
-        overlay = after_outcome outcome m.overlay f.request.bios;
-        outbox = delivered m.seat m.outbox f.request.session (completed outcome m.overlay f.request.bios);
-        flight = put m.flight tag None;
-      },
-      Accepted (Finished (length f.request.bios)),
-    )
-    unfolding after_finish
-    finish_does e = finish_goes f here same good ∙ ap (λ b. accepted b m (after_finish f.request) (Finished (length f.request.bios))) e
+    pub finish_does : room ≡ true → finish l m room tag issue outcome ≡ (after_finish l m tag outcome f.request, Accepted (Finished (length f.request.bios)))
+    finish_does e = finish_goes f here same good ∙ ap (λ b. accepted b m (after_finish l m tag outcome f.request) (Finished (length f.request.bios))) e
 
     pub finish_late : room ≡ false → finish l m room tag issue outcome ≡ (m, Refused HistoryFull)
-    unfolding after_finish
-    finish_late e = finish_goes f here same good ∙ ap (λ b. accepted b m (after_finish f.request) (Finished (length f.request.bios))) e
+    finish_late e = finish_goes f here same good ∙ ap (λ b. accepted b m (after_finish l m tag outcome f.request) (Finished (length f.request.bios))) e
 
     pub finish_accepts : room ≡ true → MayGiveWay (finish l m room tag issue outcome).1
     finish_accepts e = let P : Plain × Answer → Type 0 = λ o. MayGiveWay o.1 in subst P (sym (finish_does e)) tt

@@ -1,7 +1,6 @@
 -- The bios of a request get their results and go to the outbox of its session's seat.
-use Rattle.std.proofs.Common.{◌≡◌, inl, inr, ℕ, ◌+◌, ◌*◌, ◌<◌, ◌≤◌, List, [], ◌++◌, cond, true, false, Some, None, length, get_or, refl, sym, ap, ◌∙◌, subst, arith, length-append}
+use Rattle.std.proofs.Common.{◌≡◌, inl, inr, ℕ, ◌+◌, ◌*◌, ◌<◌, ◌≤◌, List, [], ◌++◌, true, false, Some, None, length, get_or, refl, sym, ap, ◌∙◌, subst, arith, length-append}
 use Rattle.std.specs.Prelude.{All, sum_by}
-use Rattle.std.proofs.Math.Path.{fun_ext}
 use Rattle.std.proofs.lemmas.Bool.{cases_eq, cases_lt, eq-eqb, ne_eqb}
 use Rattle.std.proofs.lemmas.List.Elements.{All-append, All-same, filter_map-append}
 use Rattle.sector_core.specs.declared.bio.Bio.{Bio}
@@ -10,13 +9,14 @@ use Rattle.request_pool.specs.declared.Request.{Request}
 use Rattle.change_record.specs.declared.change.Seat.{Seat}
 use Rattle.change_record.specs.Tables.{Tables}
 use Rattle.process_queue.specs.Merge.{bios_at}
-use Rattle.change_record.specs.Machine.{meaning, outbox_at}
-use Rattle.plain_machine.specs.Step.{Limits, completed, delivered, is_session}
+use Rattle.change_record.specs.Machine.{meaning, outbox_at, put}
+use Rattle.plain_machine.specs.Step.{Limits, completed, is_session, seat_of}
 use Rattle.dispatch_core.specs.WellFormed.{at, one, times, named, WellFormed, Seated, Kept, IsSlotOf, IsBio, IsWaiting, IsCompleted, IsOwned}
 use Rattle.dispatch_core.specs.Changes.{finished_tables}
 use Rattle.dispatch_core.proofs.Sides.{CanFinish}
+use Rattle.dispatch_core.proofs.QueueLists.{find_first}
 use Rattle.dispatch_core.proofs.Times.{Apart, Apart_from_times, set_cases, at_within, times-append, times_here, filter_map_same}
-use Rattle.dispatch_core.proofs.Keeping.{outbox_same, outbox_other, outbox_past, waiting_same, completed_same, waiting_apart, sessions_same, owned_by, by_request, by_outbox, requests_set, outboxes_set, outbox_named, request_named, requests_named}
+use Rattle.dispatch_core.proofs.Keeping.{put_from, outbox_same, outbox_other, outbox_past, waiting_same, completed_same, waiting_apart, sessions_same, owned_by, by_request, by_outbox, requests_set, outboxes_set, outbox_named, request_named, requests_named}
 use Rattle.dispatch_core.proofs.Room.{Distinct, room}
 use Rattle.dispatch_core.proofs.Written.{one-le, AreTaken, length-bios_at, All-bios_at, with_bios_apart, bios_at-with_bios, with_bios_each, one-with_bios, taken-with_bios, completed_written, length-completed, completed_done, completed_bios}
 
@@ -42,11 +42,11 @@ module _ (l : Limits) (n : ℕ) (t : Tables) (tag issue slot seat : ℕ) (entry 
   waits = subst (λ j. All (IsWaiting t.bios request.op j) slots) owned_here owned.bios
 
   -- they are in slots of the seat
-  slots_of : All (IsSlotOf seat) slots
+  pub slots_of : All (IsSlotOf seat) slots
   slots_of k d lt = (waits k d lt).slot_of
 
   -- which are taken
-  slots_taken : AreTaken t.bios slots
+  pub slots_taken : AreTaken t.bios slots
   slots_taken k d lt = ap one (waits k d lt).here
 
   -- the outbox is in its table
@@ -77,6 +77,36 @@ module _ (l : Limits) (n : ℕ) (t : Tables) (tag issue slot seat : ℕ) (entry 
       let few = room (32 * seat) 32 (box ++ slots) both_distinct (λ k d lt. let of = both_of k d lt in (of.least, of.most)) in
       omega (arith, few, length-append box slots)
 
+  -- a slot of another request
+  pub other_apart : (k : ℕ) (r : Request) → (k ≡ slot → ⊥) → at t.requests k ≡ Some r → (i d : ℕ) → i < length r.bios.items → Apart (get_or r.bios.items i d) slots
+  other_apart k r other h i d lt =
+      let q = get_or r.bios.items i d in
+      let once : sum_by (by_request q) t.requests + sum_by (by_outbox q) t.outboxes ≡ one (at t.bios q) = w.kept.once q in
+      let few : one (at t.bios q) ≤ 1 = one-le (at t.bios q) in
+      let here : 1 ≤ times q r.bios.items = times_here r.bios.items i d lt in
+      let both : times q slots + times q r.bios.items ≤ sum_by (by_request q) t.requests = requests_named q t.requests slot k request r other can.here h in
+      Apart_from_times q slots (omega (arith, once, few, here, both))
+
+  -- a slot of an outbox
+  pub outbox_apart : (j : ℕ) → j < 16 → (i d : ℕ) → i < length (outbox_at t.outboxes j) → Apart (get_or (outbox_at t.outboxes j) i d) slots
+  outbox_apart j h i d lt m c le = waiting_apart t.bios request.op seat j (get_or slots m c) (get_or (outbox_at t.outboxes j) i d) (waits m c le) (w.kept.outbox j h i d lt)
+
+  -- the session sits at no other seat
+  pub no_session : (j : ℕ) → (j ≡ seat → ⊥) → is_session request.session (at t.seats j) ≡ false
+  no_session j other = (elim (at t.seats j) as (λ o. at t.seats j ≡ o → is_session request.session o ≡ false) [
+    | None ↦ λ e. refl
+    | Some s ↦ λ e. ne_eqb s.session request.session (λ p. other (w.seated.apart j seat s entry e can.sits (p ∙ sym can.session)))
+  ]) refl
+
+  -- the session sits at this seat
+  pub session_here : is_session request.session (at t.seats seat) ≡ true
+  session_here = ap (is_session request.session) can.sits ∙ eq-eqb entry.session request.session can.session
+
+  -- so this is the seat of the session
+  pub seat_found : seat_of (meaning t) request.session ≡ Some seat
+  seat_found = find_first (λ k. is_session request.session (at t.seats k)) 0 16 seat (omega arith) (omega (arith, can.within)) session_here
+      (λ j _ lt. no_session j (λ e. absurd (omega (arith, e, lt))))
+
   module _ (outcome : Outcome) where
     -- the bios with their results
     abbrev results : List Bio
@@ -95,26 +125,24 @@ module _ (l : Limits) (n : ℕ) (t : Tables) (tag issue slot seat : ℕ) (entry 
     results_are = bios_at-with_bios t.bios slots results distinct slots_taken length-results
 
     -- the seats keep their rules
-    pub seated : Seated (n + 1) now
-    seated = record {
+    pub seated : entry.leaving ≡ false → Seated (n + 1) now
+    seated stays = record {
       early = λ k s h. let early = w.seated.early k s h in omega arith;
       apart = w.seated.apart;
       counted = λ k h. w.seated.counted k h ∙ sym (taken-with_bios seat k t.bios slots results can.within w.sized.bios slots_of slots_taken);
+      left = λ k s h leaves. elim (cases_eq k seat) [
+        | inl e ↦
+            let both : Some entry ≡ Some s = sym can.sits ∙ sym (ap (at t.seats) e) ∙ h in
+            let is : entry ≡ s = cc in
+            let no : false ≡ true = sym stays ∙ ap (λ (x : Seat). x.leaving) is ∙ leaves in
+            absurd cc
+        | inr other ↦ outbox_other t.outboxes seat k (box ++ slots) other ∙ w.seated.left k s h leaves
+      ];
     }
 
     -- each bio lies within the image
     kept_bio : (q : ℕ) (b : Bio) → at now.bios q ≡ Some b → IsBio l b
     kept_bio = with_bios_each (IsBio l) t.bios slots results slots_taken (completed_bios l outcome t.overlay (bios_at t.bios slots) (All-bios_at (IsBio l) t.bios slots slots_taken w.kept.bio)) w.kept.bio
-
-    -- a slot of another request
-    other_apart : (k : ℕ) (r : Request) → (k ≡ slot → ⊥) → at t.requests k ≡ Some r → (i d : ℕ) → i < length r.bios.items → Apart (get_or r.bios.items i d) slots
-    other_apart k r other h i d lt =
-        let q = get_or r.bios.items i d in
-        let once : sum_by (by_request q) t.requests + sum_by (by_outbox q) t.outboxes ≡ one (at t.bios q) = w.kept.once q in
-        let few : one (at t.bios q) ≤ 1 = one-le (at t.bios q) in
-        let here : 1 ≤ times q r.bios.items = times_here r.bios.items i d lt in
-        let both : times q slots + times q r.bios.items ≤ sum_by (by_request q) t.requests = requests_named q t.requests slot k request r other can.here h in
-        Apart_from_times q slots (omega (arith, once, few, here, both))
 
     -- every other request is owned
     kept_request : (k : ℕ) (r : Request) → at now.requests k ≡ Some r → IsOwned now r
@@ -126,10 +154,6 @@ module _ (l : Limits) (n : ℕ) (t : Tables) (tag issue slot seat : ℕ) (entry 
           (λ j all i d lt. waiting_same t.bios now.bios r.op j (get_or r.bios.items i d) (with_bios_apart t.bios slots results (get_or r.bios.items i d) (other_apart k r other.0 was i d lt)) (all i d lt))
           (w.kept.request k r was)
     ]
-
-    -- a slot of an outbox
-    outbox_apart : (j : ℕ) → j < 16 → (i d : ℕ) → i < length (outbox_at t.outboxes j) → Apart (get_or (outbox_at t.outboxes j) i d) slots
-    outbox_apart j h i d lt m c le = waiting_apart t.bios request.op seat j (get_or slots m c) (get_or (outbox_at t.outboxes j) i d) (waits m c le) (w.kept.outbox j h i d lt)
 
     -- the outboxes have the bios that they had
     outbox_keeps : (j : ℕ) → j < 16 → All (λ q. at now.bios q ≡ at t.bios q) (outbox_at t.outboxes j)
@@ -173,34 +197,14 @@ module _ (l : Limits) (n : ℕ) (t : Tables) (tag issue slot seat : ℕ) (entry 
     outbox_bios : (j : ℕ) → j < 16 → bios_at now.bios (outbox_at t.outboxes j) ≡ bios_at t.bios (outbox_at t.outboxes j)
     outbox_bios j h = filter_map_same (at now.bios) (at t.bios) (outbox_at t.outboxes j) (outbox_keeps j h)
 
-    -- the session sits at no other seat
-    no_session : (j : ℕ) → (j ≡ seat → ⊥) → is_session request.session (at t.seats j) ≡ false
-    no_session j other = (elim (at t.seats j) as (λ o. at t.seats j ≡ o → is_session request.session o ≡ false) [
-      | None ↦ λ e. refl
-      | Some s ↦ λ e. ne_eqb s.session request.session (λ p. other (w.seated.apart j seat s entry e can.sits (p ∙ sym can.session)))
-    ]) refl
-
-    -- the session sits at this seat
-    session_here : is_session request.session (at t.seats seat) ≡ true
-    session_here = ap (is_session request.session) can.sits ∙ eq-eqb entry.session request.session can.session
-
     -- what it means for the outboxes
-    pub outbox_is : (meaning now).outbox ≡ delivered (meaning t).seat (meaning t).outbox request.session results
-    outbox_is = fun_ext (λ j. elim (cases_eq j seat) [
-      | inl e ↦
-          let here : bios_at now.bios (outbox_at now.outboxes seat) ≡ bios_at t.bios box ++ results =
-          ap (bios_at now.bios) (outbox_same t.outboxes seat (box ++ slots) outbox_within) ∙ filter_map-append (at now.bios) box slots
-          ∙ ap (λ xs. xs ++ bios_at now.bios slots) (outbox_bios seat can.within) ∙ ap (λ xs. bios_at t.bios box ++ xs) results_are in
-          let there : delivered (meaning t).seat (meaning t).outbox request.session results seat ≡ bios_at t.bios box ++ results =
-          ap (λ b. cond b (bios_at t.bios box ++ results) (bios_at t.bios box)) session_here in
-          ap (meaning now).outbox e ∙ here ∙ sym there ∙ ap (delivered (meaning t).seat (meaning t).outbox request.session results) (sym e)
-      | inr other ↦
-          let there : delivered (meaning t).seat (meaning t).outbox request.session results j ≡ (meaning t).outbox j =
-          ap (λ b. cond b ((meaning t).outbox j ++ results) ((meaning t).outbox j)) (no_session j other) in
-          ap (bios_at now.bios) (outbox_other t.outboxes seat j (box ++ slots) other) ∙ elim (cases_lt j 16) [
-            | inl h ↦ outbox_bios j h
-            | inr past ↦
-                let none : outbox_at t.outboxes j ≡ [] = outbox_past t.outboxes j (omega (arith, w.sized.outboxes)) in
-                ap (bios_at now.bios) none ∙ sym (ap (bios_at t.bios) none)
-          ] ∙ sym there
-    ])
+    pub outbox_is : (meaning now).outbox ≡ put (meaning t).outbox seat ((meaning t).outbox seat ++ completed outcome t.overlay (bios_at t.bios request.bios.items))
+    outbox_is = put_from (meaning t).outbox (meaning now).outbox seat (bios_at t.bios box ++ results)
+        (ap (bios_at now.bios) (outbox_same t.outboxes seat (box ++ slots) outbox_within) ∙ filter_map-append (at now.bios) box slots
+        ∙ ap (λ xs. xs ++ bios_at now.bios slots) (outbox_bios seat can.within) ∙ ap (λ xs. bios_at t.bios box ++ xs) results_are)
+        (λ j other. ap (bios_at now.bios) (outbox_other t.outboxes seat j (box ++ slots) other) ∙ elim (cases_lt j 16) [
+          | inl h ↦ outbox_bios j h
+          | inr past ↦
+              let none : outbox_at t.outboxes j ≡ [] = outbox_past t.outboxes j (omega (arith, past, w.sized.outboxes)) in
+              ap (bios_at now.bios) none ∙ sym (ap (bios_at t.bios) none)
+        ])

@@ -136,11 +136,11 @@ module _ (l : Limits) (n : ℕ) (t : Tables) (entity weight : ℕ) (w : WellForm
 
   pub weighed-well : WellFormed l (n + 1) (after t (Pending entity weight))
   weighed-well = WellFormed-later l n (after t (Pending entity weight))
-      (well_with l n t t.heads t.trees t.parents (set t.weights entity weight) t.budgets t.slot w weighed-ruled)
+      (well_with l n t t.heads t.trees t.parents (set t.weights entity weight) t.budgets t.slot w weighed-ruled w.young)
 
 -- without an entity
 module _ (l : Limits) (n : ℕ) (t : Tables) (entity : ℕ) (w : WellFormed l n t) (within : entity < 48) where
-  abbrev without : Tables
+  abbrev pub without : Tables
   without = after (after t (TreeMember (group_of (bfq_of t) entity) entity None)) (GroupEntry entity None)
 
   dropped-bfq : bfq_of without ≡ without_entity entity (bfq_of t)
@@ -154,7 +154,7 @@ module _ (l : Limits) (n : ℕ) (t : Tables) (entity : ℕ) (w : WellFormed l n 
   pub dropped-meaning : meaning (after (after t (TreeMember (group_of (bfq_of t) entity) entity None)) (GroupEntry entity None)) ≡ record (meaning t) { bfq = without_entity entity (bfq_of t) }
   dropped-meaning = ap (λ b. let m : Plain = record (meaning t) { bfq = b } in m) dropped-bfq
 
-  dropped-ruled : Ruled l without
+  pub dropped-ruled : Ruled l without
   dropped-ruled =
       let s = w.ruled.sized in
       let group = group_of (bfq_of t) entity in
@@ -173,7 +173,7 @@ module _ (l : Limits) (n : ℕ) (t : Tables) (entity : ℕ) (w : WellFormed l n 
   dropped-well =
       let group = group_of (bfq_of t) entity in
       WellFormed-later l n without
-      (well_with l n t t.heads (set t.trees group (with_member (tree_at t group) entity None)) (set t.parents entity None) t.weights t.budgets t.slot w dropped-ruled)
+      (well_with l n t t.heads (set t.trees group (with_member (tree_at t group) entity None)) (set t.parents entity None) t.weights t.budgets t.slot w dropped-ruled w.young)
 
 -- with a new group
 module _ (l : Limits) (n : ℕ) (t : Tables) (group parent weight : ℕ) (w : WellFormed l n t) (g_within : group < 32) (p_within : parent < 32) where
@@ -227,4 +227,4 @@ module _ (l : Limits) (n : ℕ) (t : Tables) (group parent weight : ℕ) (w : We
 
   pub made-well : WellFormed l (n + 1) (after (entered l t (16 + group) parent weight) (Vtime group l.first_vtime))
   made-well = WellFormed-later l n made
-      (well_with l n t t.heads made.trees made.parents made.weights t.budgets t.slot w made-ruled)
+      (well_with l n t t.heads made.trees made.parents made.weights t.budgets t.slot w made-ruled w.young)

@@ -20,7 +20,7 @@ use Rattle.dispatch_core.specs.Changes.{joined_slots, joined_request, joined_tab
 use Rattle.dispatch_core.proofs.Sides.{CanJoin}
 use Rattle.dispatch_core.proofs.Times.{set_cases, at_within, same, same_is, same_not, times-cons, times-append, bios_at-set}
 use Rattle.dispatch_core.proofs.SlotCounts.{counted_set}
-use Rattle.dispatch_core.proofs.Keeping.{put-set, outbox_past, waiting_set, completed_set, free_apart, IsBio_set, sessions_set, early_set, apart_set, owned_by, by_request, by_outbox, requests_set}
+use Rattle.dispatch_core.proofs.Keeping.{put-set, outbox_past, waiting_set, completed_set, free_apart, IsBio_set, sessions_set, left_set, early_set, apart_set, owned_by, by_request, by_outbox, requests_set}
 
 -- a slot stands in a request's list as often as before, and once more where it is the new one
 times-joined : (q place : ℕ) (front : Bool) (slots : List ℕ) → times q (joined_slots front place slots) ≡ same place q + times q slots
@@ -73,6 +73,7 @@ module _ (l : Limits) (n : ℕ) (t : Tables) (seat : ℕ) (entry : Seat) (slot p
     early = early_set n t.seats seat now_entry seat_within (let early = w.seated.early seat entry can.may.sits in omega arith) w.seated.early;
     apart = apart_set t.seats seat now_entry seat_within w.seated.apart (λ j a h e. w.seated.apart j seat a entry h can.may.sits e);
     counted = counted_set t.seats t.bios seat place now_entry (Some bio) can.may.within w.sized.seats w.sized.bios can.may.place_of change w.seated.counted;
+    left = left_set t.seats t.outboxes seat now_entry seat_within (w.seated.left seat entry can.may.sits) w.seated.left;
   } where
     -- how many bios the seat had
     was : option_map_or (λ s. s.unreaped) (at t.seats seat) 0 ≡ entry.unreaped

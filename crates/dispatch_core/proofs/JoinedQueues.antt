@@ -23,6 +23,7 @@ use Rattle.dispatch_core.proofs.Sides.{CanJoin}
 use Rattle.dispatch_core.proofs.QueueLists.{within_of, same_queue}
 use Rattle.dispatch_core.proofs.Counts.{taken-set}
 use Rattle.dispatch_core.proofs.QueueFacts.{put_is, bios_at_other, whole_with, whole_same, flight_same, unnamed_free, unlinked_borne}
+use Rattle.dispatch_core.proofs.Requeued.{requeued_still, requeued_same, requeued_apart, unrequeued_linked}
 use Rattle.dispatch_core.proofs.Queues.{moved, counted_again}
 use Rattle.dispatch_core.proofs.Joins.{change_read, queue_distinct}
 use Rattle.dispatch_core.proofs.Merges.{tests_agree}
@@ -92,6 +93,10 @@ module _ (l : Limits) (n : ℕ) (t : Tables) (seat : ℕ) (entry : Seat) (slot p
           (counted_again t now seat entry (entry.unreaped + 1) can.may.sits refl)
     ];
     apart = w.placed.apart;
+    again = w.placed.again;
+    requeued = λ k link e.
+        let q = w.placed.requeued k link e in
+        requeued_still n t now k link q (some_still (at t.requests k) (at now.requests k) (one_there t.requests slot k request joined can.here) q.here);
     tag = λ tag issue e.
         let h = w.placed.tag tag issue e in
         (omega (arith, h.0), some_still (at t.requests issue.slot) (at now.requests issue.slot) (one_there t.requests slot issue.slot request joined can.here) h.1);
@@ -132,6 +137,10 @@ module _ (l : Limits) (n : ℕ) (t : Tables) (seat : ℕ) (entry : Seat) (slot p
       let both : Some m ≡ Some can.link = sym e ∙ ap (at t.links) f ∙ can.linked in
       let same_link : m ≡ can.link = cc in
       other (sym h ∙ ap (λ (x : Link). x.seat) same_link ∙ can.link_seat))))
+
+  -- the dispatch list stays
+  pub requeued_is : (meaning now).requeued ≡ (meaning t).requeued
+  requeued_is = requeued_same t now refl (λ k link e. whole_away k (requeued_apart t slot k link (unrequeued_linked n t slot can.link w.placed can.linked) e))
 
   -- what is in flight stays
   pub flight_is : (meaning now).flight ≡ (meaning t).flight

@@ -154,6 +154,18 @@ apart_set seats seat v within apart new j k a b p q e = elim (set_cases seats se
   ]
 ]
 
+-- a seat that is leaving has an empty outbox, also where another entry was written
+pub left_set : (seats : List (Option Seat)) (outboxes : List (ArrayVec ℕ)) (seat : ℕ) (v : Seat) → seat < length seats → (v.leaving ≡ true → outbox_at outboxes seat ≡ [])
+    → ((k : ℕ) (s : Seat) → at seats k ≡ Some s → s.leaving ≡ true → outbox_at outboxes k ≡ [])
+    → (k : ℕ) (s : Seat) → at (set seats seat (Some v)) k ≡ Some s → s.leaving ≡ true → outbox_at outboxes k ≡ []
+left_set seats outboxes seat v within new all k s h leaves = elim (set_cases seats seat k (Some v) within) [
+  | inl here ↦
+      let both : Some v ≡ Some s = sym here.1 ∙ h in
+      let e : v ≡ s = cc in
+      ap (outbox_at outboxes) here.0 ∙ new (ap (λ (x : Seat). x.leaving) e ∙ leaves)
+  | inr other ↦ all k s (sym other.1 ∙ h) leaves
+]
+
 -- a request's session still sits at its seat, and its bios still wait there
 pub owned_by : (t u : Tables) (r : Request) → KeepsSessions t.seats u.seats
     → ((seat : ℕ) → All (IsWaiting t.bios r.op seat) r.bios.items → All (IsWaiting u.bios r.op seat) r.bios.items) → IsOwned t r → IsOwned u r

@@ -1,28 +1,33 @@
 -- Each step leaves a machine for later serials, and means what the plain step does.
-use Rattle.std.proofs.Common.{◌≡◌, ℕ, ◌+◌, ◌-◌, ◌<◌, List, [], ◌∷◌, length, Option, Some, None, Bool, set, refl, sym, ap, ◌∙◌, arith, length-set}
+use Rattle.std.proofs.Common.{◌≡◌, ℕ, ◌+◌, ◌-◌, ◌<◌, List, Option, Some, None, Bool, sym, ap, ◌∙◌, arith, length-set}
 use Rattle.sector_core.specs.declared.range.Range.{Range}
 use Rattle.sector_core.specs.declared.bio.Op.{Op}
 use Rattle.sector_core.specs.declared.bio.Bio.{Bio}
-use Rattle.sector_core.specs.declared.bio.Outcome.{Outcome}
 use Rattle.request_pool.specs.declared.Request.{Request}
 use Rattle.change_record.specs.declared.change.Seat.{Seat}
+use Rattle.change_record.specs.declared.change.InService.{InService}
 use Rattle.change_record.specs.Tables.{Tables}
 use Rattle.process_queue.specs.declared.merge.Place.{Place}
 use Rattle.process_queue.specs.Queue.{queue_slots}
 use Rattle.process_queue.specs.Merge.{bios_at, merge_place}
 use Rattle.change_record.specs.Machine.{WholeRequest, Plain, meaning, put}
-use Rattle.plain_machine.specs.Step.{Limits, attached, submitted, merge_in, queue_with, new_bio, unreaped, with_unreaped, completed, delivered, after_outcome}
+use Rattle.plain_machine.specs.Step.{Limits, attached, submitted, merge_in, queue_with, new_bio, unreaped, with_unreaped}
 use Rattle.std.specs.Option.{option_map}
 use Rattle.dispatch_core.specs.WellFormed.{WellFormed, IsSound}
-use Rattle.dispatch_core.specs.Changes.{attached_tables, submitted_tables, joined_tables, reaped_tables, sent_tables, finished_tables, with_bios}
-use Rattle.dispatch_core.proofs.Sides.{CanAttach, CanSubmit, CanJoin, CanReap, CanSend, CanFinish}
-use Rattle.dispatch_core.proofs.Bios.{attached-seated, attached-kept, attached-seat, submitted-seated, submitted-kept, submitted-seat, submitted-outbox, reaped-seated, reaped-kept, reaped-seat, reaped-outbox, sent-seated, sent-kept, finished-seated, finished-kept, finished-outbox}
+use Rattle.dispatch_core.specs.Changes.{attached_tables, submitted_tables, joined_tables, reaped_tables, sent_tables}
+use Rattle.dispatch_core.proofs.Sides.{CanAttach, CanSubmit, CanJoin, CanReap, CanSend}
+use Rattle.dispatch_core.proofs.Bios.{attached-seated, attached-kept, attached-seat, submitted-seated, submitted-kept, submitted-seat, submitted-outbox, reaped-seated, reaped-kept, reaped-seat, reaped-outbox, sent-seated, sent-kept}
 use Rattle.dispatch_core.proofs.QueueFacts.{whole_with}
 use Rattle.dispatch_core.proofs.Merges.{merge_found, merge_some}
-use Rattle.dispatch_core.proofs.Ruling.{ruled_like, ruled_attached, attached-bfq, put_set}
+use Rattle.dispatch_core.proofs.Requeued.{requeued_still}
+use Rattle.dispatch_core.proofs.Ruling.{IsYoung, ruled_like, ruled_attached, attached-bfq, put_set}
 use Rattle.dispatch_core.proofs.Joined as join
 use Rattle.dispatch_core.proofs.JoinedQueues as join_queue
-use Rattle.dispatch_core.proofs.Queues.{whole, attached-placed, submitted-placed, submitted-queue, submitted-flight, reaped-placed, reaped-queue, reaped-flight, sent-placed, sent-queue, sent-flight, finished-placed, finished-queue, finished-flight}
+use Rattle.dispatch_core.proofs.Queues.{whole, attached-placed, submitted-placed, submitted-queue, submitted-requeued, submitted-flight, reaped-placed, reaped-queue, reaped-requeued, reaped-flight, sent-placed, sent-queue, sent-flight}
+
+-- a queue in service that is younger than the steps are many stays so
+pub young_later : (n : ℕ) (o : Option InService) → IsYoung n o → IsYoung (n + 1) o
+young_later n o young slot e = let h = young slot e in omega arith
 
 -- serials that are earlier stay earlier
 pub WellFormed-later : (l : Limits) (n : ℕ) (t : Tables) → WellFormed l n t → WellFormed l (n + 1) t
@@ -32,6 +37,7 @@ WellFormed-later l n t w = record {
     early = λ k s e. let h = w.seated.early k s e in omega arith;
     apart = w.seated.apart;
     counted = w.seated.counted;
+    left = w.seated.left;
   };
   kept = w.kept;
   placed = record {
@@ -45,11 +51,14 @@ WellFormed-later l n t w = record {
       session = q.session;
     };
     apart = w.placed.apart;
+    again = w.placed.again;
     tag = λ tag issue e. let h = w.placed.tag tag issue e in (omega (arith, h.0), h.1);
+    requeued = λ slot link e. let q = w.placed.requeued slot link e in requeued_still n t t slot link q q.here;
     once = w.placed.once;
     counted = w.placed.counted;
   };
   ruled = w.ruled;
+  young = young_later n t.slot w.young;
   first = let h = w.first in omega arith;
   served = w.served;
 }
@@ -58,11 +67,6 @@ WellFormed-later l n t w = record {
 pub IsSound-later : (l : Limits) (n : ℕ) (t : Tables) → IsSound l n t → IsSound l (n + 1) t
 IsSound-later l n t h = (WellFormed-later l n t h.0, h.1)
 
-length-with_bios : (table : List (Option Bio)) (slots : List ℕ) (bios : List Bio) → length (with_bios table slots bios) ≡ length table
-length-with_bios table [] bios = refl
-length-with_bios table (slot ∷ slots) [] = refl
-length-with_bios table (slot ∷ slots) (bio ∷ bios) = length-with_bios (set table slot (Some bio)) slots bios ∙ length-set table slot (Some bio)
-
 pub attached-well : (l : Limits) (n : ℕ) (t : Tables) (seat group prio : ℕ) → WellFormed l n t → CanAttach t seat → group < 32 → WellFormed l (n + 1) (attached_tables l t n seat group prio)
 attached-well l n t seat group prio w can there = record {
   sized = record {
@@ -70,6 +74,7 @@ attached-well l n t seat group prio w can there = record {
     bios = w.sized.bios;
     tags = w.sized.tags;
     links = w.sized.links;
+    requeued = w.sized.requeued;
     outboxes = w.sized.outboxes;
     seats = length-set t.seats seat _ ∙ w.sized.seats;
     few_tags = w.sized.few_tags;
@@ -80,6 +85,7 @@ attached-well l n t seat group prio w can there = record {
   kept = attached-kept l n t seat group prio w can;
   placed = attached-placed l n t seat group prio w can;
   ruled = ruled_attached l n t seat group prio w can.within there;
+  young = young_later n t.slot w.young;
   first = let h = w.first in omega arith;
   served = w.served;
 }
@@ -90,8 +96,10 @@ attached-meaning l n t seat group prio w can there i = record {
   overlay = t.overlay;
   seat = attached-seat l n t seat group prio w can i;
   queue = (meaning t).queue;
+  requeued = (meaning t).requeued;
   outbox = (meaning t).outbox;
   flight = (meaning t).flight;
+  frozen = t.frozen;
   served = t.served;
   head = put_set t.heads seat 0 0 (omega (arith, can.within, w.ruled.heads)) i;
   bfq = attached-bfq l n t seat group prio w can.within there i;
@@ -106,6 +114,7 @@ submitted-well l n t seat entry slot place session op range payload w can = reco
     bios = length-set t.bios place _ ∙ w.sized.bios;
     tags = w.sized.tags;
     links = length-set t.links slot _ ∙ w.sized.links;
+    requeued = w.sized.requeued;
     outboxes = w.sized.outboxes;
     seats = length-set t.seats seat _ ∙ w.sized.seats;
     few_tags = w.sized.few_tags;
@@ -116,6 +125,7 @@ submitted-well l n t seat entry slot place session op range payload w can = reco
   kept = submitted-kept l n t seat entry slot place session op range payload w can;
   placed = submitted-placed l n t seat entry slot place session op range payload w can;
   ruled = ruled_like l t (submitted_tables t n seat entry slot place session op range payload) w.ruled;
+  young = young_later n t.slot w.young;
   first = let h = w.first in omega arith;
   served = w.served;
 }
@@ -139,8 +149,10 @@ submitted-meaning l n t seat entry slot place session op range payload w can alo
       overlay = t.overlay;
       seat = submitted-seat l n t seat entry slot place session op range payload w can i;
       queue = submitted-queue l n t seat entry slot place session op range payload w can i;
+      requeued = submitted-requeued l n t seat entry slot place session op range payload w can i;
       outbox = submitted-outbox l n t seat entry slot place session op range payload w can i;
       flight = submitted-flight l n t seat entry slot place session op range payload w can i;
+      frozen = t.frozen;
       served = t.served;
       head = (meaning t).head;
       bfq = (meaning t).bfq;
@@ -156,6 +168,7 @@ joined-well l n t seat entry slot place session op range payload request front w
     bios = length-set t.bios place _ ∙ w.sized.bios;
     tags = w.sized.tags;
     links = w.sized.links;
+    requeued = w.sized.requeued;
     outboxes = w.sized.outboxes;
     seats = length-set t.seats seat _ ∙ w.sized.seats;
     few_tags = w.sized.few_tags;
@@ -166,6 +179,7 @@ joined-well l n t seat entry slot place session op range payload request front w
   kept = join.kept l n t seat entry slot place session op range payload request front w can;
   placed = join_queue.placed l n t seat entry slot place session op range payload request front w can;
   ruled = ruled_like l t (joined_tables t n seat entry slot place request front range payload) w.ruled;
+  young = young_later n t.slot w.young;
   first = let h = w.first in omega arith;
   served = w.served;
 }
@@ -180,8 +194,10 @@ joined-meaning l n t seat entry place session op range payload request found w c
       overlay = t.overlay;
       seat = join.seat_is l n t seat entry found.slot place session op range payload request found.front w can i;
       queue = join_queue.queue_is l n t seat entry found.slot place session op range payload request found.front w can (merge_found t seat session op range found joins) i;
+      requeued = join_queue.requeued_is l n t seat entry found.slot place session op range payload request found.front w can i;
       outbox = join.outbox_is l n t seat entry found.slot place session op range payload request found.front w can i;
       flight = join_queue.flight_is l n t seat entry found.slot place session op range payload request found.front w can i;
+      frozen = t.frozen;
       served = t.served;
       head = (meaning t).head;
       bfq = (meaning t).bfq;
@@ -197,6 +213,7 @@ reaped-well l n t seat entry place rest bio w can = record {
     bios = length-set t.bios place _ ∙ w.sized.bios;
     tags = w.sized.tags;
     links = w.sized.links;
+    requeued = w.sized.requeued;
     outboxes = length-set t.outboxes seat _ ∙ w.sized.outboxes;
     seats = length-set t.seats seat _ ∙ w.sized.seats;
     few_tags = w.sized.few_tags;
@@ -207,6 +224,7 @@ reaped-well l n t seat entry place rest bio w can = record {
   kept = reaped-kept l n t seat entry place rest bio w can;
   placed = reaped-placed l n t seat entry place rest bio w can;
   ruled = ruled_like l t (reaped_tables t seat entry place rest) w.ruled;
+  young = young_later n t.slot w.young;
   first = let h = w.first in omega arith;
   served = w.served;
 }
@@ -218,6 +236,7 @@ sent-well l n t seat slot tag request w can = record {
     bios = w.sized.bios;
     tags = length-set t.tags tag _ ∙ w.sized.tags;
     links = length-set t.links slot _ ∙ w.sized.links;
+    requeued = w.sized.requeued;
     outboxes = w.sized.outboxes;
     seats = w.sized.seats;
     few_tags = w.sized.few_tags;
@@ -228,30 +247,9 @@ sent-well l n t seat slot tag request w can = record {
   kept = sent-kept l n t seat slot tag request w can;
   placed = sent-placed l n t seat slot tag request w can;
   ruled = ruled_like l t (sent_tables t n seat slot tag) w.ruled;
+  young = young_later n t.slot w.young;
   first = let h = w.first in omega arith;
   served = can.within;
-}
-
-pub finished-well : (l : Limits) (n : ℕ) (t : Tables) (tag issue slot seat : ℕ) (entry : Seat) (request : Request) (outcome : Outcome) → WellFormed l n t → CanFinish t tag issue slot seat entry request
-    → WellFormed l (n + 1) (finished_tables t tag slot seat request.bios.items outcome)
-finished-well l n t tag issue slot seat entry request outcome w can = record {
-  sized = record {
-    requests = length-set t.requests slot _ ∙ w.sized.requests;
-    bios = length-with_bios t.bios request.bios.items _ ∙ w.sized.bios;
-    tags = length-set t.tags tag _ ∙ w.sized.tags;
-    links = w.sized.links;
-    outboxes = length-set t.outboxes seat _ ∙ w.sized.outboxes;
-    seats = w.sized.seats;
-    few_tags = w.sized.few_tags;
-    few_requests = w.sized.few_requests;
-    small_image = w.sized.small_image;
-  };
-  seated = finished-seated l n t tag issue slot seat entry request outcome w can;
-  kept = finished-kept l n t tag issue slot seat entry request outcome w can;
-  placed = finished-placed l n t tag issue slot seat entry request outcome w can;
-  ruled = ruled_like l t (finished_tables t tag slot seat request.bios.items outcome) w.ruled;
-  first = let h = w.first in omega arith;
-  served = w.served;
 }
 
 pub reaped-meaning : (l : Limits) (n : ℕ) (t : Tables) (seat : ℕ) (entry : Seat) (place : ℕ) (rest : List ℕ) (bio : Bio) → WellFormed l n t → CanReap t seat entry place rest bio
@@ -263,8 +261,10 @@ reaped-meaning l n t seat entry place rest bio w can i = record {
   overlay = t.overlay;
   seat = reaped-seat l n t seat entry place rest bio w can i;
   queue = reaped-queue l n t seat entry place rest bio w can i;
+  requeued = reaped-requeued l n t seat entry place rest bio w can i;
   outbox = reaped-outbox l n t seat entry place rest bio w can i;
   flight = reaped-flight l n t seat entry place rest bio w can i;
+  frozen = t.frozen;
   served = t.served;
   head = (meaning t).head;
   bfq = (meaning t).bfq;
@@ -281,27 +281,11 @@ sent-meaning l n t seat slot tag request w can i = record {
   overlay = t.overlay;
   seat = (meaning t).seat;
   queue = sent-queue l n t seat slot tag request w can i;
+  requeued = (meaning t).requeued;
   outbox = (meaning t).outbox;
   flight = sent-flight l n t seat slot tag request w can i;
+  frozen = t.frozen;
   served = seat;
-  head = (meaning t).head;
-  bfq = (meaning t).bfq;
-  scheduler = t.scheduler;
-}
-
-pub finished-meaning : (l : Limits) (n : ℕ) (t : Tables) (tag issue slot seat : ℕ) (entry : Seat) (request : Request) (outcome : Outcome) → WellFormed l n t → CanFinish t tag issue slot seat entry request
-    → meaning (finished_tables t tag slot seat request.bios.items outcome) ≡ record (meaning t) {
-      overlay = after_outcome outcome t.overlay (bios_at t.bios request.bios.items);
-      outbox = delivered (meaning t).seat (meaning t).outbox request.session (completed outcome t.overlay (bios_at t.bios request.bios.items));
-      flight = put (meaning t).flight tag None;
-    }
-finished-meaning l n t tag issue slot seat entry request outcome w can i = record {
-  overlay = after_outcome outcome t.overlay (bios_at t.bios request.bios.items);
-  seat = (meaning t).seat;
-  queue = finished-queue l n t tag issue slot seat entry request outcome w can i;
-  outbox = finished-outbox l n t tag issue slot seat entry request outcome w can i;
-  flight = finished-flight l n t tag issue slot seat entry request outcome w can i;
-  served = t.served;
   head = (meaning t).head;
   bfq = (meaning t).bfq;
   scheduler = t.scheduler;

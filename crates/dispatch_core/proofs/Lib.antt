@@ -6,6 +6,13 @@ pub mod Submits
 pub mod Reaps
 pub mod Room
 pub mod Written
+pub mod Dropped
+pub mod Dropping
+pub mod Gone
+pub mod Freed
+pub mod Lessened
+pub mod Leaves
+pub mod LeaveSteps
 pub mod Finishes
 pub mod Bios
 pub mod QueueLists
@@ -34,3 +41,13 @@ pub mod Recorded
 pub mod Bounds
 pub mod Places
 pub mod Grouping
+pub mod Requeues
+pub mod SentAgain
+pub mod Ended
+pub mod FinishLaws
+pub mod Modes
+pub mod Requeued
+pub mod Waking
+pub mod Outboxes
+pub mod Begun
+pub mod Switches

@@ -47,12 +47,14 @@ module _ (l : Limits) (n : ℕ) (t : Tables) (seat slot tag head : ℕ) (request
         link = λ k link e. moved n t u k link (w.placed.link k link (kept_of t.links slot k can.link link can.linked e).1) refl (λ _ s f. record { now = s; there = f; session = refl });
         apart = λ i j a b e f same.
             w.placed.apart i j a b (kept_of t.links slot i can.link a can.linked e).1 (kept_of t.links slot j can.link b can.linked f).1 same;
+        again = w.placed.again;
         tag = λ j issue e. elim (set_cases t.tags tag j (Some issue_new) issue ht e) [
           | inl g ↦
               let P : Issue → Type 0 = λ x. (x.issue < n + 1) × IsSome (at t.requests x.slot) in
               subst P (same_Some issue_new issue g.1) (omega arith, is_some_of (at t.requests slot) request can.here)
           | inr g ↦ let h = w.placed.tag j issue g.1 in (omega (arith, h.0), h.1)
         ];
+        requeued = λ k link e. let q = w.placed.requeued k link e in record { early = let h = q.early in omega arith; number = q.number; here = q.here };
         once = λ k.
             let put : count_by (bears k) u.tags + borne k (at t.tags tag) ≡ count_by (bears k) t.tags + borne k (Some issue_new) =
             sum_by-set (borne k) t.tags tag (Some issue_new) None ht in
@@ -84,13 +86,14 @@ module _ (l : Limits) (n : ℕ) (t : Tables) (seat slot tag head : ℕ) (request
           bios = w.sized.bios;
           tags = length-set t.tags tag _ ∙ w.sized.tags;
           links = length-set t.links slot _ ∙ w.sized.links;
+          requeued = w.sized.requeued;
           outboxes = w.sized.outboxes;
           seats = w.sized.seats;
           few_tags = w.sized.few_tags;
           few_requests = w.sized.few_requests;
           small_image = w.sized.small_image;
         };
-        seated = record { early = λ k s h. let early = w.seated.early k s h in omega arith; apart = w.seated.apart; counted = w.seated.counted };
+        seated = record { early = λ k s h. let early = w.seated.early k s h in omega arith; apart = w.seated.apart; counted = w.seated.counted; left = w.seated.left };
         kept = record {
           bio = w.kept.bio;
           request = λ k q e. let o = w.kept.request k q e in record { seat = o.seat; entry = o.entry; within = o.within; sits = o.sits; session = o.session; bios = o.bios; some_bios = o.some_bios };
@@ -100,6 +103,7 @@ module _ (l : Limits) (n : ℕ) (t : Tables) (seat slot tag head : ℕ) (request
         placed = next-placed;
         ruled = ruled_of l t (sent_next_tables t n seat slot tag head) r (length-set t.heads seat head ∙ r.heads)
             (record { trees = r.sized.trees; parents = r.sized.parents; weights = r.sized.weights; budgets = r.sized.budgets; groups = r.sized.groups; seat = r.sized.seat }) r.bounded;
+        young = λ s e. let h = w.young s e in omega arith;
         first = let h = w.first in omega arith;
         served = w.served;
       }
@@ -138,8 +142,10 @@ module _ (l : Limits) (n : ℕ) (t : Tables) (seat slot tag head : ℕ) (request
     overlay = t.overlay;
     seat = (meaning t).seat;
     queue = next-queue i;
+    requeued = (meaning t).requeued;
     outbox = (meaning t).outbox;
     flight = next-flight i;
+    frozen = t.frozen;
     served = t.served;
     head = put_set t.heads seat head 0 (omega (arith, (w.placed.link slot can.link can.linked).within, can.link_seat, w.ruled.heads)) i;
     bfq = (meaning t).bfq;

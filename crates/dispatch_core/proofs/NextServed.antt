@@ -23,6 +23,7 @@ use Rattle.dispatch_core.proofs.Sectors.{range_is, request_taken}
 use Rattle.dispatch_core.proofs.QueueLists.{queue_empty}
 use Rattle.dispatch_core.proofs.QueueFacts.{whole_with, linked_some}
 use Rattle.dispatch_core.proofs.Ruling.{served-meaning, served-well}
+use Rattle.dispatch_core.proofs.NextSlot.{expire_slot, charge_young, no_slot_young}
 use Rattle.dispatch_core.proofs.NextFound.{next_some, next_find, next_linked}
 use Rattle.dispatch_core.proofs.NextSent.{CanSendNext, next-well, next-queue_now, next-meaning}
 
@@ -106,7 +107,7 @@ module _ (l : Limits) (n tag : ℕ) (t : Tables) (slot : InService) (place : ℕ
 
     -- they hold together
     known_well : WellFormed l n known
-    known_well = subst (WellFormed l n) others (served-well l n t charged others w sized bounded)
+    known_well = subst (WellFormed l n) others (served-well l n t charged others w sized bounded (charge_young sent_range.count n (bfq_of t) (bfq_of charged) made w.young))
 
     -- the request can be sent
     can : CanSendNext l known slot.seat place tag request
@@ -176,8 +177,9 @@ module _ (l : Limits) (n tag : ℕ) (t : Tables) (slot : InService) (place : ℕ
             ∙ ap (λ m. let p : Plain = record m { bfq = bfq_of last } in p) served_meaning))
 
         -- the machine then holds together
-        pub last_well : WellFormed l (n + 1) last
-        last_well = served-well l (n + 1) out last last_others served_well last_sized last_bounded
+        pub last_well : expire Emptying l.max_budget false (bfq_of out) ≡ Some (bfq_of last) → WellFormed l (n + 1) last
+        last_well expires = served-well l (n + 1) out last last_others served_well last_sized last_bounded
+            (no_slot_young (n + 1) last.slot (expire_slot Emptying l.max_budget false (bfq_of out) (bfq_of last) expires))
 
 -- the rules before it
 module _ (l : Limits) (n tag : ℕ) (t : Tables) where

@@ -1,5 +1,5 @@
 -- Which queue is in service after a rule of bfq, and what it has been served.
-use Rattle.std.proofs.Common.{◌≡◌, ℕ, zero, suc, ◌-◌, ◌≤◌, List, [], ◌∷◌, Option, None, Some, Bool, true, false, cond, is_some, nat_le, nat_lt, All, refl, sym, ap, ◌∙◌, subst, arith}
+use Rattle.std.proofs.Common.{◌≡◌, ℕ, zero, suc, ◌+◌, ◌-◌, ◌<◌, ◌≤◌, List, [], ◌∷◌, Option, None, Some, Bool, true, false, cond, is_some, nat_le, nat_lt, All, refl, sym, ap, ◌∙◌, subst, arith}
 use Rattle.std.specs.List.{find}
 use Rattle.std.specs.Option.{option_map_or, option_and_then}
 use Rattle.std.proofs.lemmas.Option.{same_Some}
@@ -10,10 +10,10 @@ use Rattle.change_record.specs.declared.change.InService.{InService}
 use Rattle.change_record.specs.Tables.{Tables}
 use Rattle.change_record.specs.Machine.{Bfq, WholeRequest, Plain, meaning, bfq_of}
 use Rattle.bfq_select.specs.Service.{OnlyServes}
-use Rattle.dispatch_core.proofs.Ruling.{served-meaning}
+use Rattle.dispatch_core.proofs.Ruling.{IsYoung, served-meaning}
 use Rattle.process_queue.specs.Next.{starts, wanted, has_start}
 use Rattle.bfq_select.specs.declared.expiry.Expiry.{Expiry}
-use Rattle.bfq_select.specs.Rules.{top, put_vtime, along, finish_from, stamped, stamp, picked, jumped, in_service, on_pick, taken, select_from, select, ended, is_backlogged, rested, expire_one, out_of_service, expire}
+use Rattle.bfq_select.specs.Rules.{top, put_vtime, group_of, along, finish_from, stamped, stamp, picked, jumped, in_service, on_pick, taken, select_from, select, risen, charge_one, served_more, charge, ended, is_backlogged, rested, expire_one, out_of_service, expire}
 use Rattle.plain_machine.specs.Step.{shape, size_of, next_request, next_size}
 use Rattle.plain_machine.specs.Whole.{IsWhole, AreWhole}
 
@@ -54,9 +54,35 @@ expire_slot cause most queued b c e =
       | Some slot ↦ λ f. along_slot (expire_one slot.service queued) (expire_one_slot slot.service queued) (path b.parent slot.seat) (out_of_service cause most slot b) c f
     ] e
 
--- nothing has been served in a slot
+-- a charge leaves the slot at each entity
+charge_one_slot : (sectors entity : ℕ) (b c : Bfq) → charge_one sectors entity b ≡ Some c → c.slot ≡ b.slot
+charge_one_slot sectors entity b c e =
+    let vtime : ℕ = risen sectors (group_of b entity) b in
+    elim (nat_le vtime top) as (λ t. cond t (Some (put_vtime (group_of b entity) vtime b)) None ≡ Some c → c.slot ≡ b.slot) [
+      | true ↦ λ f. ap (λ (x : Bfq). x.slot) (sym (same_Some (put_vtime (group_of b entity) vtime b) c f))
+      | false ↦ λ f. cc
+    ] e
+
+-- the queue in service is as old after a charge as before
+pub charge_young : (sectors n : ℕ) (b c : Bfq) → charge sectors b ≡ Some c → IsYoung n b.slot → IsYoung n c.slot
+charge_young sectors n b c e young =
+    elim b.slot as (λ o. b.slot ≡ o → option_and_then (λ (slot : InService). along (charge_one sectors) (path b.parent slot.seat) (served_more sectors slot b)) o ≡ Some c → IsYoung n c.slot) [
+      | None ↦ λ _ f. cc
+      | Some slot ↦ λ is f s g.
+          let more : InService = record slot { service = slot.service + sectors } in
+          let kept : c.slot ≡ Some more = along_slot (charge_one sectors) (charge_one_slot sectors) (path b.parent slot.seat) (served_more sectors slot b) c f in
+          let age : slot.age ≡ s.age = ap (λ (x : InService). x.age) (same_Some more s (sym kept ∙ g)) in
+          let before : slot.age < n = young slot is in
+          omega (arith, age, before)
+    ] refl e
+
+-- where no queue is in service none is old
+pub no_slot_young : (n : ℕ) (o : Option InService) → o ≡ None → IsYoung n o
+no_slot_young n o none slot e = absurd cc
+
+-- nothing has been served in a slot, and no tick has passed
 abbrev IsFresh : Option InService → Type 0
-IsFresh o = (slot : InService) → o ≡ Some slot → slot.service ≡ 0
+IsFresh o = (slot : InService) → o ≡ Some slot → (slot.service ≡ 0) × (slot.age ≡ 0)
 
 -- a jump of the virtual time leaves the slot
 jumped_slot : (group : ℕ) (b : Bfq) → (jumped group b).slot ≡ b.slot
@@ -74,7 +100,10 @@ taken_fresh : (choose : ℕ → Bfq → Bfq) → ((h : ℕ) (c : Bfq) → IsFres
     → IsFresh (taken choose group b entity).slot
 taken_fresh choose keeps group b entity fresh =
     elim (nat_lt entity 16) as (λ t. IsFresh (let c : Bfq = cond t (record (in_service group entity b) { slot = Some (record { seat = entity; service = 0; age = 0 }) }) (choose (entity - 16) (in_service group entity b)) in c.slot)) [
-      | true ↦ λ slot e. ap (λ (s : InService). s.service) (sym (same_Some _ slot e))
+      | true ↦ λ slot e.
+          let new : InService = record { seat = entity; service = 0; age = 0 } in
+          let same : new ≡ slot = same_Some new slot e in
+          (ap (λ (s : InService). s.service) (sym same), ap (λ (s : InService). s.age) (sym same))
       | false ↦ keeps (entity - 16) (in_service group entity b) fresh
     ]
 
@@ -95,7 +124,13 @@ select_from_fresh (suc levels) group b fresh =
 
 -- a queue that was selected has been served nothing yet
 pub select_fresh : (b : Bfq) (slot : InService) → b.slot ≡ None → (select b).slot ≡ Some slot → slot.service ≡ 0
-select_fresh b slot none e = select_from_fresh 5 0 b (λ s f. cc) slot e
+select_fresh b slot none e = (select_from_fresh 5 0 b (λ s f. cc) slot e).0
+
+-- and is young
+pub select_young : (n : ℕ) (b : Bfq) → 1 ≤ n → b.slot ≡ None → IsYoung n (select b).slot
+select_young n b first none slot e =
+    let age : slot.age ≡ 0 = (select_from_fresh 5 0 b (λ s f. cc) slot e).1 in
+    omega (arith, age, first)
 
 -- what is found in a list is one of it
 find_all : {A : Type 0} (P : A → Type 0) (passes : A → Bool) (xs : List A) (a : A) → All P xs → find passes xs ≡ Some a → P a
@@ -123,5 +158,5 @@ next_small m seat whole =
 -- requests stay whole where only bfq differs
 pub served_whole : (t u : Tables) → OnlyServes t u → AreWhole (meaning t) → AreWhole (meaning u)
 served_whole t u others whole =
-    let still : AreWhole (record (meaning t) { bfq = bfq_of u }) = record { queued = whole.queued; flying = whole.flying } in
+    let still : AreWhole (record (meaning t) { bfq = bfq_of u }) = record { queued = whole.queued; requeued = whole.requeued; flying = whole.flying } in
     subst AreWhole (sym (served-meaning t u others)) still

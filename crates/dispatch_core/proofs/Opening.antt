@@ -58,6 +58,9 @@ none_some o a e f = cc
 queue_empty : (making : Making) (k : ℕ) → (meaning (empty_tables making)).queue k ≡ []
 queue_empty making k = ap (λ p. filter_map (whole_at (empty_tables making).requests (empty_tables making).bios) (map (λ e. e.1) p)) (placed-replicate making.requests k 0)
 
+requeued_empty : (making : Making) → (meaning (empty_tables making)).requeued ≡ []
+requeued_empty making = ap (λ p. filter_map (whole_at (empty_tables making).requests (empty_tables making).bios) (map (λ e. e.1) p)) (placed-replicate making.requests 0 0)
+
 outbox_empty : (making : Making) (k : ℕ) → (meaning (empty_tables making)).outbox k ≡ []
 outbox_empty making k = ap (bios_at (empty_tables making).bios) (outbox-replicate 16 k)
 
@@ -134,8 +137,10 @@ opening_is l i =
       overlay = map.empty;
       seat = fun_ext {f = (meaning t).seat} {g = λ _. None} (λ k. at-replicate {A = Seat} 16 k) i;
       queue = fun_ext {f = (meaning t).queue} {g = λ _. []} (queue_empty (for_limits l)) i;
+      requeued = requeued_empty (for_limits l) i;
       outbox = fun_ext {f = (meaning t).outbox} {g = λ _. []} (outbox_empty (for_limits l)) i;
       flight = fun_ext {f = (meaning t).flight} {g = λ _. None} (flight_none (for_limits l)) i;
+      frozen = false;
       served = 15;
       head = fun_ext {f = (meaning t).head} {g = λ _. 0} heads_zero i;
       bfq = bfq_opening l i;
@@ -148,12 +153,12 @@ named_none making slot =
     let g : ArrayVec ℕ → ℕ = λ outbox. times slot outbox.items in
     omega (arith, sum_by-replicate f making.requests None, sum_by-replicate g 16 (record { items = [] }), mul-zero making.requests)
 
-borne_none : (making : Making) (slot : ℕ) → count_by (bears slot) (replicate making.tags None) + one (at (replicate {A = Option Link} making.requests None) slot) ≡ 0
+borne_none : (making : Making) (slot : ℕ) → count_by (bears slot) (replicate making.tags None) + one (at (replicate {A = Option Link} making.requests None) slot) + one (at (replicate {A = Option Link} making.requests None) slot) ≡ 0
 borne_none making slot =
     let f : Option Issue → ℕ = λ o. cond (bears slot o) 1 0 in
     omega (arith, sum_by-replicate f making.tags None, mul-zero making.tags, ap one (at-replicate {A = Link} making.requests slot))
 
-both_none : (making : Making) → taken (replicate {A = Option Link} making.requests None) + taken (replicate {A = Option Issue} making.tags None) ≡ 0
+both_none : (making : Making) → taken (replicate {A = Option Link} making.requests None) + taken (replicate {A = Option Issue} making.tags None) + taken (replicate {A = Option Link} making.requests None) ≡ 0
 both_none making = omega (arith, none_taken Link making.requests, none_taken Issue making.tags)
 
 -- the budgets of a new machine are within their limits
@@ -209,6 +214,7 @@ opening-well l small few short vtime least first most = let making = for_limits 
     bios = refl;
     tags = length-replicate making.tags None;
     links = length-replicate making.requests None;
+    requeued = length-replicate making.requests None;
     outboxes = refl;
     seats = refl;
     few_tags = few;
@@ -219,6 +225,7 @@ opening-well l small few short vtime least first most = let making = for_limits 
     early = λ k s e. absurd (none_some _ s (at-replicate 16 k) e);
     apart = λ j k a b e f same. absurd (none_some _ a (at-replicate 16 j) e);
     counted = λ k h. ap (λ o. option_map_or (λ (s : Seat). s.unreaped) o 0) (at-replicate {A = Seat} 16 k) ∙ sym (seat_empty k);
+    left = λ k s e leaves. absurd (none_some _ s (at-replicate 16 k) e);
   };
   kept = record {
     bio = λ k b e. absurd (none_some _ b (at-replicate 512 k) e);
@@ -229,11 +236,14 @@ opening-well l small few short vtime least first most = let making = for_limits 
   placed = record {
     link = λ k x e. absurd (none_some _ x (at-replicate making.requests k) e);
     apart = λ i j a b e f same. absurd (none_some _ a (at-replicate making.requests i) e);
+    again = λ i j a b e f same. absurd (none_some _ a (at-replicate making.requests i) e);
+    requeued = λ k x e. absurd (none_some _ x (at-replicate making.requests k) e);
     tag = λ k x e. absurd (none_some _ x (at-replicate making.tags k) e);
     once = λ slot. borne_none making slot ∙ sym (ap one (at-replicate {A = Request} making.requests slot));
     counted = none_taken Request making.requests ∙ sym (both_none making);
   };
   ruled = ruled_opening l vtime least first most;
+  young = λ slot e. absurd cc;
   first = omega arith;
   served = omega arith;
 }

@@ -22,12 +22,13 @@ use Rattle.change_record.specs.declared.change.Seat.{Seat}
 use Rattle.change_record.specs.Tables.{Tables}
 use Rattle.process_queue.specs.Merge.{bios_at}
 use Rattle.change_record.specs.Machine.{WholeRequest, Flight, meaning, whole_at, put}
-use Rattle.plain_machine.specs.Step.{Limits, queued, in_flight, next_queue, lowest_free, with_unreaped}
+use Rattle.plain_machine.specs.Step.{Limits, requests_of, next_queue, lowest_free, with_unreaped}
 use Rattle.dispatch_core.specs.WellFormed.{at, one, taken, bears, WellFormed, Placed, IsQueued}
 use Rattle.dispatch_core.specs.Changes.{attached_tables, submitted_tables, reaped_tables, sent_tables, finished_tables}
 use Rattle.dispatch_core.proofs.Sides.{CanAttach, CanSubmit, CanReap, CanSend, CanFinish}
 use Rattle.dispatch_core.proofs.QueueLists.{within_of, freed, kept_of, same_queue, queue-put_last, queue-put_other, queue-taken_first, queue-taken_other, first_linked, queue_empty, find_agree, find_first, find_none, find_passes}
 use Rattle.dispatch_core.proofs.Counts.{taken_all, taken_less, taken-set}
+use Rattle.dispatch_core.proofs.Requeued.{requeued_still, requeued_same, requeued_is, requeued_apart, unrequeued_free, unrequeued_borne}
 use Rattle.dispatch_core.proofs.QueueFacts.{put_is, some_of, is_some_of, set_cases, bios_at_other, bios_at_with, whole_same, flight_of, flight_same, unnamed_free, unnamed_outbox, unnamed_other, unlinked_free, unlinked_borne, other_slot, borne, linked_some, queued_is, flight_some, in_flight_is}
 
 -- a request as the plain machine has it
@@ -51,18 +52,18 @@ pub no_flight : (t : Tables) (tag : ℕ) → at t.tags tag ≡ None → (meaning
 no_flight t tag none = ap (flight_of t.requests t.bios) none
 
 -- where no request is free, those queued and in flight are as many as there may be
-pub requests_full : (l : Limits) (n : ℕ) (t : Tables) → WellFormed l n t → AllTaken t.requests → nat_le l.requests (queued (meaning t) + in_flight l (meaning t)) ≡ true
+pub requests_full : (l : Limits) (n : ℕ) (t : Tables) → WellFormed l n t → AllTaken t.requests → nat_le l.requests (requests_of l (meaning t)) ≡ true
 requests_full l n t w all =
     let e : taken t.requests ≡ length t.requests = taken_all t.requests all in
-    le-leb l.requests (queued (meaning t) + in_flight l (meaning t))
-    (omega (arith, e, w.sized.requests, w.placed.counted, queued_is n t w.placed, in_flight_is l n t w.placed w.sized.tags))
+    le-leb l.requests (requests_of l (meaning t))
+    (omega (arith, e, w.sized.requests, w.placed.counted, queued_is n t w.placed, in_flight_is l n t w.placed w.sized.tags, requeued_is n t w.placed))
 
 -- and where one is free, they are fewer
-pub requests_free : (l : Limits) (n : ℕ) (t : Tables) (slot : ℕ) → WellFormed l n t → IsFirstFree t.requests slot → nat_le l.requests (queued (meaning t) + in_flight l (meaning t)) ≡ false
+pub requests_free : (l : Limits) (n : ℕ) (t : Tables) (slot : ℕ) → WellFormed l n t → IsFirstFree t.requests slot → nat_le l.requests (requests_of l (meaning t)) ≡ false
 requests_free l n t slot w free =
     let h : taken t.requests < length t.requests = taken_less t.requests slot free.within free.is_free in
-    lt-leb l.requests (queued (meaning t) + in_flight l (meaning t))
-    (omega (arith, h, w.sized.requests, w.placed.counted, queued_is n t w.placed, in_flight_is l n t w.placed w.sized.tags))
+    lt-leb l.requests (requests_of l (meaning t))
+    (omega (arith, h, w.sized.requests, w.placed.counted, queued_is n t w.placed, in_flight_is l n t w.placed w.sized.tags, requeued_is n t w.placed))
 
 -- the next queue of the plain machine is that of the next waiting seat
 pub next_queue_is : (l : Limits) (n : ℕ) (t : Tables) → WellFormed l n t → next_queue (meaning t) ≡ next_seat t.served t.links
@@ -173,6 +174,8 @@ attached-placed l n t seat group prio w can =
     record {
       link = λ slot link e. moved n t (attached_tables l t n seat group prio) slot link (w.placed.link slot link e) refl same;
       apart = w.placed.apart;
+      again = w.placed.again;
+      requeued = λ slot link e. let q = w.placed.requeued slot link e in requeued_still n t (attached_tables l t n seat group prio) slot link q q.here;
       tag = λ tag issue e. let h = w.placed.tag tag issue e in (omega (arith, h.0), h.1);
       once = w.placed.once;
       counted = w.placed.counted;
@@ -189,6 +192,7 @@ submitted-placed l n t seat entry slot place session op range payload w can =
     let request_new : Request = record { session = session; op = op; bios = record { items = place ∷ [] } } in
     let entry_new : Seat = with_unreaped (entry.unreaped + 1) entry in
     let free : (at t.links slot ≡ None) × (count_by (bears slot) t.tags ≡ 0) = unlinked_free n t slot w.placed can.slot_free in
+    let none : at t.requeued slot ≡ None = unrequeued_free n t slot w.placed can.slot_free in
     let hl : slot < length t.links = omega (arith, can.slot_within, w.sized.links) in
     let hr : slot < length t.requests = omega (arith, can.slot_within, w.sized.requests) in
     let queued_new : IsQueued (n + 1) u slot link_new = record {
@@ -229,6 +233,11 @@ submitted-placed l n t seat entry slot place session op range payload w can =
           | inr h ↦ w.placed.apart i j a b g.1 h.1 same
         ]
       ];
+      again = w.placed.again;
+      requeued = λ k link e.
+          let q = w.placed.requeued k link e in
+          let some : IsSome (at t.requests k) = q.here in
+          requeued_still n t u k link q (ap is_some (get_or-set_other t.requests slot k (Some request_new) None (requeued_apart t slot k link none e)) ∙ some);
       tag = λ tag issue e.
           let h = w.placed.tag tag issue e in
           let some : IsSome (at t.requests issue.slot) = h.1 in
@@ -239,9 +248,10 @@ submitted-placed l n t seat entry slot place session op range payload w can =
             let a : one (at u.links k) ≡ 1 = ap one (ap (at u.links) same ∙ get_or-set_same t.links slot (Some link_new) None hl) in
             let b : one (at u.requests k) ≡ 1 = ap one (ap (at u.requests) same ∙ get_or-set_same t.requests slot (Some request_new) None hr) in
             let c : count_by (bears k) t.tags ≡ 0 = ap (λ i. count_by (bears i) t.tags) same ∙ free.1 in
-            omega (arith, a, b, c)
+            let d : one (at t.requeued k) ≡ 0 = ap one (ap (at t.requeued) same ∙ none) in
+            omega (arith, a, b, c, d)
         | inr other ↦
-            ap (λ o. count_by (bears k) t.tags + one o) (get_or-set_other t.links slot k (Some link_new) None other) ∙ w.placed.once k
+            ap (λ o. count_by (bears k) t.tags + one o + one (at t.requeued k)) (get_or-set_other t.links slot k (Some link_new) None other) ∙ w.placed.once k
             ∙ sym (ap one (get_or-set_other t.requests slot k (Some request_new) None other))
       ];
       counted =
@@ -295,6 +305,14 @@ submitted-queue l n t seat entry slot place session op range payload w can =
     (λ j m e f. let h : m.serial < n = (w.placed.link j m e).early in omega (arith, h, f)) (λ f. other (sym f)))
     ∙ same q)
 
+-- the dispatch list stays
+pub submitted-requeued : (l : Limits) (n : ℕ) (t : Tables) (seat : ℕ) (entry : Seat) (slot place session : ℕ) (op : Op) (range : Range) (payload : List ℕ)
+    → WellFormed l n t → CanSubmit l t seat entry slot place session op range payload
+    → (meaning (submitted_tables t n seat entry slot place session op range payload)).requeued ≡ (meaning t).requeued
+submitted-requeued l n t seat entry slot place session op range payload w can =
+    requeued_same t (submitted_tables t n seat entry slot place session op range payload) refl (λ k link e.
+    submitted-whole l n t seat entry slot place session op range payload w can k (requeued_apart t slot k link (unrequeued_free n t slot w.placed can.slot_free) e))
+
 -- what is in flight stays
 pub submitted-flight : (l : Limits) (n : ℕ) (t : Tables) (seat : ℕ) (entry : Seat) (slot place session : ℕ) (op : Op) (range : Range) (payload : List ℕ)
     → WellFormed l n t → CanSubmit l t seat entry slot place session op range payload
@@ -316,6 +334,8 @@ reaped-placed l n t seat entry place rest bio w can =
     record {
       link = λ slot link e. moved n t u slot link (w.placed.link slot link e) refl (counted_again t u seat entry (entry.unreaped - 1) can.sits refl);
       apart = w.placed.apart;
+      again = w.placed.again;
+      requeued = λ slot link e. let q = w.placed.requeued slot link e in requeued_still n t u slot link q q.here;
       tag = λ tag issue e. let h = w.placed.tag tag issue e in (omega (arith, h.0), h.1);
       once = w.placed.once;
       counted = w.placed.counted;
@@ -333,6 +353,12 @@ pub reaped-queue : (l : Limits) (n : ℕ) (t : Tables) (seat : ℕ) (entry : Sea
     → (meaning (reaped_tables t seat entry place rest)).queue ≡ (meaning t).queue
 reaped-queue l n t seat entry place rest bio w can =
     fun_ext (λ q. same_queue _ (whole_at t.requests t.bios) q t.links (λ k m e _. reaped-whole l n t seat entry place rest bio w can k))
+
+-- the dispatch list stays
+pub reaped-requeued : (l : Limits) (n : ℕ) (t : Tables) (seat : ℕ) (entry : Seat) (place : ℕ) (rest : List ℕ) (bio : Bio) → WellFormed l n t → CanReap t seat entry place rest bio
+    → (meaning (reaped_tables t seat entry place rest)).requeued ≡ (meaning t).requeued
+reaped-requeued l n t seat entry place rest bio w can =
+    requeued_same t (reaped_tables t seat entry place rest) refl (λ k _ _. reaped-whole l n t seat entry place rest bio w can k)
 
 -- what is in flight stays
 pub reaped-flight : (l : Limits) (n : ℕ) (t : Tables) (seat : ℕ) (entry : Seat) (place : ℕ) (rest : List ℕ) (bio : Bio) → WellFormed l n t → CanReap t seat entry place rest bio
@@ -354,6 +380,8 @@ sent-placed l n t seat slot tag request w can =
       link = λ k link e. moved n t u k link (w.placed.link k link (kept_of t.links slot k linked.0 link linked.1 e).1) refl (λ _ s f. record { now = s; there = f; session = refl });
       apart = λ i j a b e f same.
           w.placed.apart i j a b (kept_of t.links slot i linked.0 a linked.1 e).1 (kept_of t.links slot j linked.0 b linked.1 f).1 same;
+      again = w.placed.again;
+      requeued = λ k link e. let q = w.placed.requeued k link e in requeued_still n t u k link q q.here;
       tag = λ j issue e. elim (set_cases t.tags tag j (Some issue_new) issue ht e) [
         | inl g ↦
             let P : Issue → Type 0 = λ x. (x.issue < n + 1) × IsSome (at t.requests x.slot) in
@@ -422,6 +450,12 @@ finished-placed l n t tag issue slot seat entry request outcome w can =
           let other : k ≢ slot = λ f. let g : at t.links k ≡ None = ap (at t.links) f ∙ free in cc in
           moved n t u k link (w.placed.link k link e) (get_or-set_other t.requests slot k None None other) (λ _ s f. record { now = s; there = f; session = refl });
       apart = w.placed.apart;
+      again = w.placed.again;
+      requeued = λ k link e.
+          let q = w.placed.requeued k link e in
+          let some : IsSome (at t.requests k) = q.here in
+          let none : at t.requeued slot ≡ None = unrequeued_borne n t tag gone w.placed can.borne in
+          requeued_still n t u k link q (ap is_some (get_or-set_other t.requests slot k None None (requeued_apart t slot k link none e)) ∙ some);
       tag = λ j b e.
           let h = w.placed.tag j b (kept_of t.tags tag j gone b can.borne e).1 in
           let some : IsSome (at t.requests b.slot) = h.1 in
@@ -458,6 +492,14 @@ finished-queue l n t tag issue slot seat entry request outcome w can =
     let free : at t.links slot ≡ None = unlinked_borne n t tag (record { issue = issue; slot = slot }) w.placed can.borne in
     fun_ext (λ q. same_queue _ (whole_at t.requests t.bios) q t.links (λ k m e _.
     finished-whole l n t tag issue slot seat entry request outcome w can k (λ f. let g : at t.links k ≡ None = ap (at t.links) f ∙ free in cc)))
+
+-- the dispatch list stays
+pub finished-requeued : (l : Limits) (n : ℕ) (t : Tables) (tag issue slot seat : ℕ) (entry : Seat) (request : Request) (outcome : Outcome) → WellFormed l n t → CanFinish t tag issue slot seat entry request
+    → (meaning (finished_tables t tag slot seat request.bios.items outcome)).requeued ≡ (meaning t).requeued
+finished-requeued l n t tag issue slot seat entry request outcome w can =
+    let none : at t.requeued slot ≡ None = unrequeued_borne n t tag (record { issue = issue; slot = slot }) w.placed can.borne in
+    requeued_same t (finished_tables t tag slot seat request.bios.items outcome) refl (λ k link e.
+    finished-whole l n t tag issue slot seat entry request outcome w can k (requeued_apart t slot k link none e))
 
 -- the tag is free, and the other tags bear what they bore
 pub finished-flight : (l : Limits) (n : ℕ) (t : Tables) (tag issue slot seat : ℕ) (entry : Seat) (request : Request) (outcome : Outcome) → WellFormed l n t → CanFinish t tag issue slot seat entry request

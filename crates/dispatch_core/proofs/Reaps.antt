@@ -1,5 +1,5 @@
 -- The first completed bio of a seat leaves its outbox and its slot.
-use Rattle.std.proofs.Common.{◌≡◌, inl, inr, ℕ, ◌+◌, ◌-◌, ◌<◌, ◌≤◌, List, [], ◌∷◌, Some, None, length, get_or, refl, sym, ap, ◌∙◌, subst, arith}
+use Rattle.std.proofs.Common.{true, ◌≡◌, inl, inr, ℕ, ◌+◌, ◌-◌, ◌<◌, ◌≤◌, List, [], ◌∷◌, Some, None, length, get_or, refl, sym, ap, ◌∙◌, subst, arith}
 use Rattle.std.specs.Prelude.{All, sum_by}
 use Rattle.std.specs.Option.{option_map, option_map_or}
 use Rattle.std.proofs.lemmas.Bool.{cases_eq, cases_lt}
@@ -103,7 +103,20 @@ module _ (l : Limits) (n : ℕ) (t : Tables) (seat : ℕ) (entry : Seat) (place 
     early = early_set n t.seats seat now_entry seat_within (let early = w.seated.early seat entry can.sits in omega arith) w.seated.early;
     apart = apart_set t.seats seat now_entry seat_within w.seated.apart (λ j a h e. w.seated.apart j seat a entry h can.sits e);
     counted = counted_set t.seats t.bios seat place now_entry None can.within w.sized.seats w.sized.bios done.slot_of change w.seated.counted;
+    left = left_reap;
   } where
+    -- a seat that is leaving has no bio to be reaped
+    left_reap : (k : ℕ) (s : Seat) → at now.seats k ≡ Some s → s.leaving ≡ true → outbox_at now.outboxes k ≡ []
+    left_reap k s h leaves = elim (set_cases t.seats seat k (Some now_entry) seat_within) [
+      | inl here ↦
+          let both : Some now_entry ≡ Some s = sym here.1 ∙ h in
+          let e : now_entry ≡ s = cc in
+          let none : outbox_at t.outboxes seat ≡ [] = w.seated.left seat entry can.sits (ap (λ (x : Seat). x.leaving) e ∙ leaves) in
+          let full : [] ≡ place ∷ rest = sym none ∙ can.outbox in
+          absurd cc
+      | inr other ↦ outbox_other t.outboxes seat k rest other.0 ∙ w.seated.left k s (sym other.1 ∙ h) leaves
+    ]
+
     -- how many bios the seat had
     was : option_map_or (λ s. s.unreaped) (at t.seats seat) 0 ≡ entry.unreaped
     was = ap (λ o. option_map_or (λ s. s.unreaped) o 0) can.sits

@@ -65,22 +65,27 @@ abbrev pub with_bfq : Tables → List ℕ → List Service → List (Option ℕ)
 with_bfq t heads trees parents weights budgets slot =
     record t { heads = heads; trees = trees; parents = parents; weights = weights; budgets = budgets; slot = slot }
 
+-- a queue in service is no older than this
+abbrev pub IsYoung : ℕ → Option InService → Type 0
+IsYoung n o = (slot : InService) → o ≡ Some slot → slot.age < n
+
 -- all else holds of them as before
 pub well_with : (l : Limits) (n : ℕ) (t : Tables) (heads : List ℕ) (trees : List Service) (parents : List (Option ℕ)) (weights budgets : List ℕ) (slot : Option InService)
-    → WellFormed l n t → Ruled l (with_bfq t heads trees parents weights budgets slot) → WellFormed l n (with_bfq t heads trees parents weights budgets slot)
-well_with l n t heads trees parents weights budgets slot w ruled = record {
+    → WellFormed l n t → Ruled l (with_bfq t heads trees parents weights budgets slot) → IsYoung n slot → WellFormed l n (with_bfq t heads trees parents weights budgets slot)
+well_with l n t heads trees parents weights budgets slot w ruled young = record {
   sized = record {
     requests = w.sized.requests;
     bios = w.sized.bios;
     tags = w.sized.tags;
     links = w.sized.links;
+    requeued = w.sized.requeued;
     outboxes = w.sized.outboxes;
     seats = w.sized.seats;
     few_tags = w.sized.few_tags;
     few_requests = w.sized.few_requests;
     small_image = w.sized.small_image;
   };
-  seated = record { early = w.seated.early; apart = w.seated.apart; counted = w.seated.counted };
+  seated = record { early = w.seated.early; apart = w.seated.apart; counted = w.seated.counted; left = w.seated.left };
   kept = record {
     bio = w.kept.bio;
     request = λ k r e. let o = w.kept.request k r e in record { seat = o.seat; entry = o.entry; within = o.within; sits = o.sits; session = o.session; bios = o.bios; some_bios = o.some_bios };
@@ -90,11 +95,14 @@ well_with l n t heads trees parents weights budgets slot w ruled = record {
   placed = record {
     link = λ k link e. let q = w.placed.link k link e in record { early = q.early; within = q.within; request = q.request; here = q.here; entry = q.entry; sits = q.sits; session = q.session };
     apart = w.placed.apart;
+    again = w.placed.again;
     tag = w.placed.tag;
+    requeued = λ k link e. let q = w.placed.requeued k link e in record { early = q.early; number = q.number; here = q.here };
     once = w.placed.once;
     counted = w.placed.counted;
   };
   ruled = ruled;
+  young = young;
   first = w.first;
   served = w.served;
 }
@@ -105,8 +113,8 @@ served-meaning t u others =
     ap meaning others ∙ ap (λ b. let m : Plain = record (meaning t) { bfq = b } in m) (sym (ap bfq_of others))
 
 -- and they hold together as before
-pub served-well : (l : Limits) (n : ℕ) (t u : Tables) → OnlyServes t u → WellFormed l n t → IsSized u → IsBounded (bfq_of u) → WellFormed l n u
-served-well l n t u others w sized bounded =
+pub served-well : (l : Limits) (n : ℕ) (t u : Tables) → OnlyServes t u → WellFormed l n t → IsSized u → IsBounded (bfq_of u) → IsYoung n u.slot → WellFormed l n u
+served-well l n t u others w sized bounded young =
     let v : Tables = with_bfq t t.heads u.trees t.parents t.weights u.budgets u.slot in
     let ruled : Ruled l v = record {
       heads = w.ruled.heads;
@@ -117,7 +125,7 @@ served-well l n t u others w sized bounded =
       first_budget = w.ruled.first_budget;
       most_budget = w.ruled.most_budget;
     } in
-    subst (WellFormed l n) (sym others) (well_with l n t t.heads u.trees t.parents t.weights u.budgets u.slot w ruled)
+    subst (WellFormed l n) (sym others) (well_with l n t t.heads u.trees t.parents t.weights u.budgets u.slot w ruled young)
 
 -- one step of the rules after another
 pub serves_then : (t u v : Tables) → OnlyServes t u → OnlyServes u v → OnlyServes t v

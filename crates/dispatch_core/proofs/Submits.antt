@@ -20,7 +20,7 @@ use Rattle.dispatch_core.specs.Changes.{submitted_tables}
 use Rattle.dispatch_core.proofs.Sides.{CanSubmit}
 use Rattle.dispatch_core.proofs.Times.{set_cases, at_within, same, same_is, same_not, times-cons, bios_at-set}
 use Rattle.dispatch_core.proofs.SlotCounts.{counted_set}
-use Rattle.dispatch_core.proofs.Keeping.{put-set, outbox_past, waiting_set, completed_set, free_apart, IsBio_set, sessions_set, early_set, apart_set, owned_by, by_request, by_outbox, requests_set}
+use Rattle.dispatch_core.proofs.Keeping.{put-set, outbox_past, waiting_set, completed_set, free_apart, IsBio_set, sessions_set, left_set, early_set, apart_set, owned_by, by_request, by_outbox, requests_set}
 
 module _ (l : Limits) (n : ℕ) (t : Tables) (seat : ℕ) (entry : Seat) (slot place session : ℕ) (op : Op) (range : Range) (payload : List ℕ)
     (w : WellFormed l n t) (can : CanSubmit l t seat entry slot place session op range payload) where
@@ -58,6 +58,7 @@ module _ (l : Limits) (n : ℕ) (t : Tables) (seat : ℕ) (entry : Seat) (slot p
     early = early_set n t.seats seat now_entry seat_within (let early = w.seated.early seat entry can.sits in omega arith) w.seated.early;
     apart = apart_set t.seats seat now_entry seat_within w.seated.apart (λ j a h e. w.seated.apart j seat a entry h can.sits e);
     counted = counted_set t.seats t.bios seat place now_entry (Some bio) can.within w.sized.seats w.sized.bios can.place_of change w.seated.counted;
+    left = left_set t.seats t.outboxes seat now_entry seat_within (w.seated.left seat entry can.sits) w.seated.left;
   } where
     -- how many bios the seat had
     was : option_map_or (λ s. s.unreaped) (at t.seats seat) 0 ≡ entry.unreaped

@@ -31,7 +31,7 @@ abbrev pub AreTaken : List (Option Bio) → List ℕ → Type 0
 AreTaken table slots = All (λ s. one (at table s) ≡ 1) slots
 
 -- a taken place is within its table
-taken_within : {A : Type 0} (xs : List (Option A)) (k : ℕ) → one (at xs k) ≡ 1 → k < length xs
+pub taken_within : {A : Type 0} (xs : List (Option A)) (k : ℕ) → one (at xs k) ≡ 1 → k < length xs
 taken_within xs k e = let found = some_of (at xs k) e in at_within xs k found.0 found.1
 
 -- they are taken still after one of them was written
@@ -42,7 +42,7 @@ taken_still table s b slots within h k d lt = elim (set_cases table s (get_or sl
 ]
 
 -- the first slot is taken
-head_taken : (table : List (Option Bio)) (s : ℕ) (slots : List ℕ) → AreTaken table (s ∷ slots) → one (at table s) ≡ 1
+pub head_taken : (table : List (Option Bio)) (s : ℕ) (slots : List ℕ) → AreTaken table (s ∷ slots) → one (at table s) ≡ 1
 head_taken table s slots h = All-head (λ q. one (at table q) ≡ 1) s slots h
 
 -- and the others are, after the first was written

@@ -1,5 +1,5 @@
 -- What each step does to the tables, place by place (our profile).
-use Rattle.std.specs.Prelude.{ℕ, ◌+◌, ◌-◌, Bool, List, [], ◌∷◌, ◌++◌, Option, None, Some, slice_set, if◌then◌else◌}
+use Rattle.std.specs.Prelude.{ℕ, ◌+◌, ◌-◌, nat_le, Bool, true, false, List, [], ◌∷◌, ◌++◌, length, Option, None, Some, unwrap_or, slice_set, if◌then◌else◌}
 use Rattle.std.specs.Option.{option_map_or}
 use Rattle.sector_core.specs.declared.range.Range.{Range}
 use Rattle.sector_core.specs.declared.bio.Op.{Op}
@@ -28,7 +28,7 @@ entered l t entity group weight = record t {
 
 abbrev pub attached_tables : Limits → Tables → ℕ → ℕ → ℕ → ℕ → Tables
 attached_tables l t n seat group prio = record (entered l t seat group (prio_weight prio)) {
-  seats = slice_set t.seats seat (Some (record { session = n; prio = prio; unreaped = 0 }));
+  seats = slice_set t.seats seat (Some (record { session = n; prio = prio; unreaped = 0; leaving = false }));
   heads = slice_set t.heads seat 0;
   budgets = slice_set t.budgets seat l.first_budget;
 }
@@ -72,6 +72,20 @@ sent_tables t n seat slot tag = record t {
   served = seat;
 }
 
+-- the first of the dispatch list leaves it, and a tag bears it
+abbrev pub sent_again_tables : Tables → ℕ → ℕ → ℕ → Tables
+sent_again_tables t n slot tag = record t {
+  requeued = slice_set t.requeued slot None;
+  tags = slice_set t.tags tag (Some (record { issue = n; slot = slot }));
+}
+
+-- a request goes to the end of the dispatch list
+abbrev pub requeued_tables : Tables → ℕ → ℕ → ℕ → Tables
+requeued_tables t n slot tag = record t {
+  tags = slice_set t.tags tag None;
+  requeued = slice_set t.requeued slot (Some (record { seat = 0; serial = n }));
+}
+
 -- under bfq the queue's head is the end of what was sent
 abbrev pub sent_next_tables : Tables → ℕ → ℕ → ℕ → ℕ → ℕ → Tables
 sent_next_tables t n seat slot tag head = record t {
@@ -94,3 +108,46 @@ finished_tables t tag slot seat slots outcome = record t {
   tags = slice_set t.tags tag None;
   outboxes = slice_set t.outboxes seat (record { items = outbox_at t.outboxes seat ++ slots });
 }
+
+-- the slots without the bios in them
+abbrev pub without_bios : List (Option Bio) → List ℕ → List (Option Bio)
+without_bios table [] = table
+without_bios table (slot ∷ slots) = without_bios (slice_set table slot None) slots
+
+-- a seat that is leaving, with fewer bios
+abbrev pub leaving_entry : Seat → ℕ → Seat
+leaving_entry entry count = record entry { unreaped = entry.unreaped - count; leaving = true }
+
+-- its session and its entity are gone
+abbrev pub gone_tables : Tables → ℕ → Tables
+gone_tables t seat = record t {
+  seats = slice_set t.seats seat None;
+  trees = slice_set t.trees (unwrap_or (at t.parents seat) 0) (with_member (tree_at t (unwrap_or (at t.parents seat) 0)) seat None);
+  parents = slice_set t.parents seat None;
+}
+
+-- so many bios of a session that leaves are dropped; with the last of them its seat is free
+abbrev pub fewer_tables : Tables → ℕ → Seat → ℕ → Tables
+fewer_tables t seat entry count =
+    if nat_le entry.unreaped count then gone_tables t seat else record t { seats = slice_set t.seats seat (Some (leaving_entry entry count)) }
+
+-- a session leaves: the bios of its outbox are dropped
+abbrev pub left_tables : Tables → ℕ → Seat → List ℕ → Tables
+left_tables t seat entry slots = fewer_tables (record t {
+  bios = without_bios t.bios slots;
+  outboxes = slice_set t.outboxes seat (record { items = [] });
+}) seat entry (length slots)
+
+-- a request of a session that leaves is finished, and its bios are dropped
+abbrev pub dropped_tables : Tables → ℕ → ℕ → ℕ → Seat → List ℕ → Outcome → Tables
+dropped_tables t tag slot seat entry slots outcome = fewer_tables (record t {
+  overlay = after_outcome outcome t.overlay (bios_at t.bios slots);
+  bios = without_bios t.bios slots;
+  requests = slice_set t.requests slot None;
+  tags = slice_set t.tags tag None;
+}) seat entry (length slots)
+
+-- a request is finished: its bios go to the outbox of its session's seat, or are dropped where the session leaves
+abbrev pub ended_tables : Tables → ℕ → ℕ → ℕ → Seat → List ℕ → Outcome → Tables
+ended_tables t tag slot seat entry slots outcome =
+    if entry.leaving then dropped_tables t tag slot seat entry slots outcome else finished_tables t tag slot seat slots outcome

@@ -1,5 +1,5 @@
 -- What has been shown before the tables are changed (our profile).
-use Rattle.std.specs.Prelude.{◌≡◌, ℕ, ◌+◌, ◌*◌, ◌<◌, ◌≤◌, ◌^◌, List, length, All, Option, None, Some}
+use Rattle.std.specs.Prelude.{◌≡◌, ℕ, ◌+◌, ◌*◌, ◌<◌, ◌≤◌, ◌^◌, false, List, length, All, Option, None, Some}
 use Rattle.sector_core.specs.declared.range.Range.{Range}
 use Rattle.sector_core.specs.declared.bio.Op.{Op}
 use Rattle.sector_core.specs.declared.bio.Bio.{Bio}
@@ -38,7 +38,9 @@ pub record IsReady (bios : List (Option Bio)) (slots : List ℕ) (outcome : Outc
 pub record MaySubmit (l : Limits) (t : Tables) (seat : ℕ) (entry : Seat) (place session : ℕ) (op : Op) (range : Range) (payload : List ℕ) : Type 0 where
   pub within : seat < 16
   pub sits : at t.seats seat ≡ Some entry
+  pub stays : entry.leaving ≡ false
   pub session_is : entry.session ≡ session
+  pub thawed : t.frozen ≡ false
   pub few : entry.unreaped < 32
   pub some_sectors : 1 ≤ range.count
   pub few_sectors : range.count ≤ 64

@@ -27,6 +27,7 @@ sizes_of config sectors = record {
   scheduler = config.scheduler;
   first_budget = config.first_budget;
   max_budget = config.max_budget;
+  timeout = config.timeout;
   first_vtime = config.first_vtime;
 }
 

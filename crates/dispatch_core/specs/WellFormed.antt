@@ -1,5 +1,5 @@
 -- What joins the tables of a machine that steps have made: every link, index and count; and what their requests are (our profile).
-use Rattle.std.specs.Prelude.{◌≡◌, ℕ, ◌+◌, ◌*◌, ◌<◌, ◌≤◌, ◌==◌, Bool, ◌^◌, false, List, length, sum_by, count_by, Option, None, Some, is_some, IsSome, All, slice_index_or, if◌then◌else◌}
+use Rattle.std.specs.Prelude.{◌≡◌, ℕ, ◌+◌, ◌*◌, ◌<◌, ◌≤◌, ◌==◌, Bool, ◌^◌, true, false, List, [], length, sum_by, count_by, Option, None, Some, is_some, IsSome, All, slice_index_or, if◌then◌else◌}
 use Rattle.std.specs.Option.{option_map_or}
 use Rattle.sector_core.specs.declared.bio.Op.{Op}
 use Rattle.sector_core.specs.declared.bio.Bio.{Bio}
@@ -8,6 +8,7 @@ use Rattle.request_pool.specs.Slots.{seat_slots}
 use Rattle.tag_set.specs.declared.Issue.{Issue}
 use Rattle.process_queue.specs.declared.Link.{Link}
 use Rattle.change_record.specs.declared.change.Seat.{Seat}
+use Rattle.change_record.specs.declared.change.InService.{InService}
 use Rattle.change_record.specs.Tables.{Tables}
 use Rattle.change_record.specs.Machine.{meaning, outbox_at, bfq_of}
 use Rattle.bfq_select.specs.Service.{IsSized, IsBounded}
@@ -36,17 +37,20 @@ pub record Sized (l : Limits) (t : Tables) : Type 0 where
   pub bios : length t.bios ≡ 512
   pub tags : length t.tags ≡ l.tags
   pub links : length t.links ≡ l.requests
+  pub requeued : length t.requeued ≡ l.requests
   pub outboxes : length t.outboxes ≡ 16
   pub seats : length t.seats ≡ 16
   pub few_tags : l.tags ≤ 255
   pub few_requests : l.requests < 2 ^ 16
   pub small_image : l.sectors < 2 ^ 55
 
--- the seats: sessions are earlier serials, each at one seat, and each seat counts the taken slots of its bios
+-- the seats: sessions are earlier serials, each at one seat; each seat counts the taken slots of its bios, and one that is leaving has an
+-- empty outbox
 pub record Seated (n : ℕ) (t : Tables) : Type 0 where
   pub early : (k : ℕ) (s : Seat) → at t.seats k ≡ Some s → s.session < n
   pub apart : (j k : ℕ) (a b : Seat) → at t.seats j ≡ Some a → at t.seats k ≡ Some b → a.session ≡ b.session → j ≡ k
   pub counted : (k : ℕ) → k < 16 → option_map_or (λ s. s.unreaped) (at t.seats k) 0 ≡ taken (seat_slots k t.bios)
+  pub left : (k : ℕ) (s : Seat) → at t.seats k ≡ Some s → s.leaving ≡ true → outbox_at t.outboxes k ≡ []
 
 -- a slot of a seat's bios
 pub record IsSlotOf (seat slot : ℕ) : Type 0 where
@@ -110,13 +114,21 @@ pub record IsQueued (n : ℕ) (t : Tables) (slot : ℕ) (link : Link) : Type 0 w
   pub sits : at t.seats link.seat ≡ Some entry
   pub session : entry.session ≡ request.session
 
--- requests: each is queued or in flight, once
+-- a link of the dispatch list, which is the queue of number 0, is that of a request
+pub record IsRequeued (n : ℕ) (t : Tables) (slot : ℕ) (link : Link) : Type 0 where
+  pub early : link.serial < n
+  pub number : link.seat ≡ 0
+  pub here : IsSome (at t.requests slot)
+
+-- requests: each is queued, in the dispatch list or in flight, once
 pub record Placed (n : ℕ) (t : Tables) : Type 0 where
   pub link : (slot : ℕ) (link : Link) → at t.links slot ≡ Some link → IsQueued n t slot link
   pub apart : (i j : ℕ) (a b : Link) → at t.links i ≡ Some a → at t.links j ≡ Some b → a.serial ≡ b.serial → i ≡ j
+  pub again : (i j : ℕ) (a b : Link) → at t.requeued i ≡ Some a → at t.requeued j ≡ Some b → a.serial ≡ b.serial → i ≡ j
   pub tag : (tag : ℕ) (issue : Issue) → at t.tags tag ≡ Some issue → (issue.issue < n) × IsSome (at t.requests issue.slot)
-  pub once : (slot : ℕ) → count_by (bears slot) t.tags + one (at t.links slot) ≡ one (at t.requests slot)
-  pub counted : taken t.requests ≡ taken t.links + taken t.tags
+  pub requeued : (slot : ℕ) (link : Link) → at t.requeued slot ≡ Some link → IsRequeued n t slot link
+  pub once : (slot : ℕ) → count_by (bears slot) t.tags + one (at t.links slot) + one (at t.requeued slot) ≡ one (at t.requests slot)
+  pub counted : taken t.requests ≡ taken t.links + taken t.tags + taken t.requeued
 
 -- what the rules of bfq ask of the tables, and of what these were made for
 pub record Ruled (l : Limits) (t : Tables) : Type 0 where
@@ -134,6 +146,8 @@ pub record WellFormed (l : Limits) (n : ℕ) (t : Tables) : Type 0 where
   pub kept : Kept l t
   pub placed : Placed n t
   pub ruled : Ruled l t
+  -- the queue in service is no older than the steps are many
+  pub young : (slot : InService) → t.slot ≡ Some slot → slot.age < n
   pub first : 1 ≤ n
   pub served : t.served < 16
 

@@ -1,5 +1,5 @@
 // Attach: a session begins at a seat.
-ghost use Rattle.std.specs.Prelude.{◌≡◌, ◌+◌, ◌<◌, ◌≤◌, ◌^◌, [], IfOk, Some, length, slice_set};
+ghost use Rattle.std.specs.Prelude.{◌≡◌, ◌+◌, ◌<◌, ◌≤◌, ◌^◌, [], IfOk, false, Some, length, slice_set};
 ghost use Rattle.change_record.specs.Trail.{KeepsTrail};
 ghost use Rattle.plain_machine.specs.Step.{attach, prio_weight, of_sizes};
 ghost use Rattle.dispatch_core.specs.Relation.{Answers, Leaves};
@@ -62,7 +62,7 @@ fn weight_of(prio: u8) -> u32
 fn sit(sizes: Sizes, parts: &mut Parts, tape: &mut Tape, serial: u64, seat: u8, prio: u8)
     requires { 3 ≤ tape.old.room }
     ensures tables { parts.new.tables ≡ record parts.old.tables {
-      seats = slice_set parts.old.tables.seats seat (Some (record { session = serial; prio = prio; unreaped = 0 }));
+      seats = slice_set parts.old.tables.seats seat (Some (record { session = serial; prio = prio; unreaped = 0; leaving = false }));
       heads = slice_set parts.old.tables.heads seat 0;
       budgets = slice_set parts.old.tables.budgets seat sizes.first_budget;
     } }
@@ -75,6 +75,7 @@ fn sit(sizes: Sizes, parts: &mut Parts, tape: &mut Tape, serial: u64, seat: u8, 
         session: serial,
         prio,
         unreaped: 0,
+        leaving: false,
     };
     tape.exchange(
         parts,

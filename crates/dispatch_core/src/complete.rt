@@ -1,9 +1,9 @@
 // What becomes of the bios of a finished request.
-ghost use Rattle.std.specs.Prelude.{◌≡◌, ◌+◌, ◌*◌, ◌≤◌, ◌<◌, ◌^◌, [], ◌∷◌, IfOk, OnOk, IfSome, IsSome, Some, length};
+ghost use Rattle.std.specs.Prelude.{◌≡◌, ◌+◌, ◌*◌, ◌≤◌, ◌<◌, ◌^◌, [], ◌∷◌, None, IfOk, OnOk, IfSome, IsSome, Some, length};
 ghost use Rattle.change_record.specs.Trail.{KeepsTrail};
 ghost use Rattle.process_queue.specs.Merge.{bios_at};
 ghost use Rattle.plain_machine.specs.Step.{content, with_blocks, after_outcome, completed, result_of, rest_of_outcome};
-ghost use Rattle.dispatch_core.specs.Changes.{with_bios};
+ghost use Rattle.dispatch_core.specs.Changes.{with_bios, without_bios};
 ghost use Rattle.dispatch_core.specs.Counts.{blocks_put};
 ghost use Rattle.dispatch_core.specs.Ranges.{total_count};
 ghost use Rattle.dispatch_core.specs.Ready.{IsReady, HasBytes, HasPayload};
@@ -50,6 +50,55 @@ pub fn complete(
         rest = without_first(rest, count);
     }
     Ok(())
+}
+
+/// Drops every bio in these slots, and stores the blocks of a store.
+pub fn drop_all(
+    parts: &mut Parts,
+    tape: &mut Tape,
+    slots: &[Slot],
+    outcome: &Outcome,
+) -> Result<(), OutOfMemory>
+    requires ready { IsReady parts.old.tables.bios slots.now outcome.now }
+    requires room { total_count parts.old.tables.bios slots.now + length slots.now ≤ tape.old.room }
+    ensures tables { OnOk result (parts.new.tables ≡ record parts.old.tables {
+      overlay = after_outcome outcome.now parts.old.tables.overlay (bios_at parts.old.tables.bios slots.now);
+      bios = without_bios parts.old.tables.bios slots.now;
+    }) }
+    ensures trail { KeepsTrail tape.old.current parts.old.tables tape.new.current parts.new.tables }
+    ensures steps { tape.new.steps ≡ tape.old.steps }
+    ensures count { OnOk result (length tape.new.current ≡ length tape.old.current + (length slots.now + blocks_put outcome.now (total_count parts.old.tables.bios slots.now))) }
+    ensures room { tape.old.room ≤ tape.new.room + (total_count parts.old.tables.bios slots.now + length slots.now) }
+    ensures spare { tape.new.spare ≡ tape.old.spare }
+{
+    for slot in slots {
+        let bio = bio_without_result(parts, *slot)?;
+        put_blocks(parts, tape, &bio, outcome)?;
+        tape.exchange(
+            parts,
+            Change::BioSlot {
+                slot: *slot,
+                bio: None,
+            },
+        );
+    }
+    Ok(())
+}
+
+// The bio in a slot, without its result.
+fn bio_without_result(parts: &Parts, slot: Slot) -> Result<Bio, OutOfMemory>
+    requires { IsSome (at parts.now.tables.bios slot) }
+    ensures { IfOk result (λ copy. IfSome (at parts.now.tables.bios slot) (λ bio. copy ≡ record bio { result = None })) }
+{
+    let Some(bio) = parts.pool().bio(slot) else {
+        unreachable!()
+    };
+    Ok(Bio {
+        serial: bio.serial,
+        range: bio.range,
+        payload: bio.payload.clone()?,
+        result: None,
+    })
 }
 
 // The bio in a slot, with its result.

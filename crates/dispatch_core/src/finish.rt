@@ -1,14 +1,18 @@
 // Finish: every bio of the request gets its result and goes to its session's outbox.
-ghost use Rattle.std.specs.Prelude.{◌≡◌, ◌+◌, ◌≤◌, ◌<◌, ◌++◌, ◌≢◌, ℕ, IfOk, MatchOption, None, Some, length, slice_set, slice_index_or};
+ghost use Rattle.std.specs.Prelude.{◌≡◌, ◌+◌, ◌≤◌, ◌<◌, ◌++◌, ◌≢◌, ℕ, IfOk, MatchOption, OnOk, IfSome, IsSome, None, Some, length, slice_set, slice_index_or, if◌then◌else◌};
 ghost use Rattle.change_record.specs.Machine.{meaning, outbox_at};
 ghost use Rattle.change_record.specs.declared.change.Seat.{Seat};
 ghost use Rattle.change_record.specs.Trail.{KeepsTrail};
 ghost use Rattle.plain_machine.specs.Step.{finish, fits, of_sizes};
-ghost use Rattle.dispatch_core.specs.Counts.{finish_exchanges};
+ghost use Rattle.dispatch_core.specs.Changes.{ended_tables};
+ghost use Rattle.dispatch_core.specs.Counts.{finish_exchanges, blocks_put, is_of_leaver};
+ghost use Rattle.dispatch_core.specs.Ranges.{total_count};
+ghost use Rattle.dispatch_core.specs.Ready.{IsReady};
 ghost use Rattle.dispatch_core.specs.Relation.{Answers, Leaves};
-ghost use Rattle.dispatch_core.specs.WellFormed.{WellFormed};
+ghost use Rattle.dispatch_core.specs.WellFormed.{at, WellFormed};
 
-use crate::complete::complete;
+use crate::complete::{complete, drop_all};
+use crate::leave::owe_fewer;
 use crate::send::range_of_request;
 use crate::slots::{list_from, list_joined, outbox_slots};
 use crate::{Answer, Code, Reply, Sizes};
@@ -30,7 +34,7 @@ pub fn run_finish(
 ) -> Result<Answer, OutOfMemory>
     requires { WellFormed (of_sizes sizes) serial parts.old.tables }
     ensures answers { Answers (λ m. finish (of_sizes sizes) m room tag issue outcome.now) parts.old.tables result parts.new.tables }
-    ensures leaves { IfOk result (λ answer. Leaves (of_sizes sizes) serial (finish_exchanges outcome.now ((meaning parts.old.tables).flight tag)) 0 answer parts.old.tables tape.old.current parts.new.tables tape.new.current tape.new.spare) }
+    ensures leaves { IfOk result (λ answer. Leaves (of_sizes sizes) serial (finish_exchanges outcome.now ((meaning parts.old.tables).flight tag)) (if is_of_leaver (meaning parts.old.tables) ((meaning parts.old.tables).flight tag) then 2 else 0) answer parts.old.tables tape.old.current parts.new.tables tape.new.current tape.new.spare) }
     ensures trail { KeepsTrail tape.old.current parts.old.tables tape.new.current parts.new.tables }
     ensures steps { tape.new.steps ≡ tape.old.steps }
 {
@@ -59,10 +63,47 @@ pub fn run_finish(
     let slots = list_from(request.bios.as_slice());
     let slots = slots.as_slice();
     let bios = slots.len() as u32;
-    tape.reserve(size as usize + slots.len() + 3)?;
-    complete(alloc, parts, tape, slots, outcome)?;
-    deliver(parts, tape, tag, borne.slot, seat, slots);
+    tape.reserve(size as usize + slots.len() + 5)?;
+    end_request(alloc, parts, tape, tag, borne.slot, seat, slots, outcome)?;
     Ok(Answer::Accepted(Reply::Finished { bios }))
+}
+
+// The bios of a request get their results and go to the seat's outbox, or are dropped where its session leaves.
+fn end_request(
+    alloc: Global,
+    parts: &mut Parts,
+    tape: &mut Tape,
+    tag: u8,
+    slot: Slot,
+    seat: u8,
+    slots: &[Slot],
+    outcome: &Outcome,
+) -> Result<(), OutOfMemory>
+    requires ready { IsReady parts.old.tables.bios slots.now outcome.now }
+    requires room { total_count parts.old.tables.bios slots.now + length slots.now + 5 ≤ tape.old.room }
+    requires fits { length (outbox_at parts.old.tables.outboxes seat) + length slots.now ≤ 32 }
+    requires sits { IsSome (at parts.old.tables.seats seat) }
+    requires few { length slots.now ≤ 32 }
+    ensures tables { OnOk result (IfSome (at parts.old.tables.seats seat) (λ entry. parts.new.tables ≡ ended_tables parts.old.tables tag slot seat entry slots.now outcome.now)) }
+    ensures trail { KeepsTrail tape.old.current parts.old.tables tape.new.current parts.new.tables }
+    ensures steps { tape.new.steps ≡ tape.old.steps }
+    ensures least { OnOk result (length tape.old.current + (length slots.now + blocks_put outcome.now (total_count parts.old.tables.bios slots.now) + 3) ≤ length tape.new.current) }
+    ensures most { OnOk result (IfSome (at parts.old.tables.seats seat) (λ entry. length tape.new.current
+        ≤ length tape.old.current + (length slots.now + blocks_put outcome.now (total_count parts.old.tables.bios slots.now) + 3 + (if entry.leaving then 2 else 0)))) }
+    ensures spare { tape.new.spare ≡ tape.old.spare }
+{
+    let Some(entry) = parts.seat(seat) else {
+        unreachable!()
+    };
+    if entry.leaving {
+        drop_all(parts, tape, slots, outcome)?;
+        free_request(parts, tape, tag, slot);
+        owe_fewer(parts, tape, seat, entry, slots.len() as u8);
+        return Ok(());
+    }
+    complete(alloc, parts, tape, slots, outcome)?;
+    deliver(parts, tape, tag, slot, seat, slots);
+    Ok(())
 }
 
 // Whether the outcome is one of the operation and the size in sectors.
@@ -110,6 +151,23 @@ fn deliver(parts: &mut Parts, tape: &mut Tape, tag: u8, slot: Slot, seat: u8, sl
     ensures spare { tape.new.spare ≡ tape.old.spare }
 {
     let outbox = list_joined(outbox_slots(parts, seat), slots);
+    free_request(parts, tape, tag, slot);
+    tape.exchange(parts, Change::OutboxWhole { seat, outbox });
+}
+
+// Frees a request's slot and its tag.
+fn free_request(parts: &mut Parts, tape: &mut Tape, tag: u8, slot: Slot)
+    requires room { 2 ≤ tape.old.room }
+    ensures tables { parts.new.tables ≡ record parts.old.tables {
+      requests = slice_set parts.old.tables.requests slot None;
+      tags = slice_set parts.old.tables.tags tag None;
+    } }
+    ensures trail { KeepsTrail tape.old.current parts.old.tables tape.new.current parts.new.tables }
+    ensures steps { tape.new.steps ≡ tape.old.steps }
+    ensures count { length tape.new.current ≡ length tape.old.current + 2 }
+    ensures room { tape.old.room ≤ tape.new.room + 2 }
+    ensures spare { tape.new.spare ≡ tape.old.spare }
+{
     tape.exchange(
         parts,
         Change::RequestSlot {
@@ -118,5 +176,4 @@ fn deliver(parts: &mut Parts, tape: &mut Tape, tag: u8, slot: Slot, seat: u8, sl
         },
     );
     tape.exchange(parts, Change::Tag { tag, issue: None });
-    tape.exchange(parts, Change::OutboxWhole { seat, outbox });
 }

@@ -7,16 +7,22 @@ mod entering;
 mod finish;
 mod groups;
 mod join;
+mod leave;
 mod machine;
+mod mode;
 mod reap;
+mod requeue;
 mod send;
 mod serve;
 mod slots;
 mod start;
 mod submit;
+mod switch;
 
 pub use machine::{Machine, SectorView, View};
-pub use plain_machine::{Answer, Cause, Code, EntityView, Reply, RequestView, Sizes, Step, Work};
+pub use plain_machine::{
+    Answer, Cause, Code, EntityView, Reply, RequestView, Sizes, Step, Why, Work,
+};
 
 #[cfg(test)]
 mod tests;

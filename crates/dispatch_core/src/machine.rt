@@ -18,10 +18,14 @@ use crate::attach::run_attach;
 use crate::entering::{member_in, service_of, stands};
 use crate::finish::run_finish;
 use crate::groups::{run_group_drop, run_group_make, run_set_weight};
+use crate::leave::run_leave;
+use crate::mode::{run_freeze, run_thaw, run_tick};
 use crate::reap::run_reap;
+use crate::requeue::run_requeue;
 use crate::send::{range_of_request, run_dispatch};
 use crate::slots::outbox_slots;
 use crate::submit::run_submit;
+use crate::switch::run_switch;
 use crate::{Answer, Code, EntityView, RequestView, Sizes, Step, Work};
 use change_record::{Making, Parts, Tape};
 use plain_machine::requests_stay_whole;
@@ -65,6 +69,7 @@ impl Machine {
                 scheduler: config.scheduler,
                 first_budget: config.first_budget,
                 max_budget: config.max_budget,
+                timeout: config.timeout,
                 first_vtime: config.first_vtime,
             },
             parts: Parts::new(alloc, making_of(config))?,
@@ -202,6 +207,7 @@ fn perform(
         Step::Reap { seat, session } => return run_reap(
             sizes, parts, tape, serial, room, *seat, *session,
         ),
+        Step::Leave { seat, why: _ } => return run_leave(sizes, parts, tape, serial, room, *seat),
         Step::Dispatch => return run_dispatch(sizes, parts, tape, serial, room),
         Step::Finish {
             tag,
@@ -209,6 +215,9 @@ fn perform(
             outcome,
         } => return run_finish(
             alloc, sizes, parts, tape, serial, room, *tag, *issue, outcome,
+        ),
+        Step::Requeue { tag, issue } => return run_requeue(
+            sizes, parts, tape, serial, room, *tag, *issue,
         ),
         Step::GroupMake { parent, weight } => return run_group_make(
             sizes, parts, tape, serial, room, *parent, *weight,
@@ -219,6 +228,12 @@ fn perform(
         Step::SetWeight { group, weight } => return run_set_weight(
             sizes, parts, tape, serial, room, *group, *weight,
         ),
+        Step::Freeze => return run_freeze(sizes, parts, tape, serial, room),
+        Step::Thaw => return run_thaw(sizes, parts, tape, serial, room),
+        Step::Switch { scheduler } => return run_switch(
+            sizes, parts, tape, serial, room, *scheduler,
+        ),
+        Step::Tick => return run_tick(sizes, parts, tape, serial, room),
     }
 }
 
@@ -313,6 +328,14 @@ impl<'a> View<'a> {
     {
         let machine = self.machine;
         machine.parts.scheduler()
+    }
+
+    /// Whether submits wait.
+    pub fn frozen(&self) -> bool
+        ensures { result ≡ (plain_of self.now).frozen }
+    {
+        let machine = self.machine;
+        machine.parts.frozen()
     }
 
     /// The virtual time of a group; none where there is no such group.

@@ -34,6 +34,9 @@ pub fn run_reap(
     let Some(entry) = parts.seat(seat) else {
         return Ok(Answer::Refused(Code::NoSession));
     };
+    if entry.leaving {
+        return Ok(Answer::Refused(Code::NoSession));
+    }
     if entry.session != session {
         return Ok(Answer::Refused(Code::StaleSession));
     }

@@ -1,6 +1,7 @@
 // Dispatch: the next request is sent to the device under the lowest free tag.
 ghost use Rattle.std.specs.Prelude.{◌≡◌, ◌+◌, ◌≤◌, IfOk, Some, []};
 ghost use Rattle.sector_core.specs.Table.{IsFirstFree};
+ghost use Rattle.process_queue.specs.Queue.{first_slot};
 ghost use Rattle.soft_queue.specs.Turn.{next_seat};
 ghost use Rattle.dispatch_core.specs.Ranges.{start_at, count_at, first_start, total_count, HasFewSectors};
 ghost use Rattle.change_record.specs.Trail.{KeepsTrail};
@@ -8,7 +9,7 @@ ghost use Rattle.change_record.specs.Machine.{meaning};
 ghost use Rattle.plain_machine.specs.declared.step.Step.TheVariants.{Dispatch};
 ghost use Rattle.plain_machine.specs.Step.{dispatch, sent, of_sizes};
 ghost use Rattle.plain_machine.specs.Whole.{AreWhole};
-ghost use Rattle.dispatch_core.specs.Counts.{rule_exchanges};
+ghost use Rattle.dispatch_core.specs.Counts.{dispatch_exchanges, rule_exchanges};
 ghost use Rattle.dispatch_core.specs.Relation.{Answers, Leaves};
 ghost use Rattle.dispatch_core.specs.WellFormed.{WellFormed};
 
@@ -19,7 +20,7 @@ use request_pool::{Request, RequestPool};
 use sector_core::{OutOfMemory, Range, Scheduler, Slot};
 use tag_set::Issue;
 
-/// The request is sent under the lowest free tag; which one it is, is the scheduler's affair.
+/// The request is sent under the lowest free tag: the first of the dispatch list, or else the one that the scheduler chooses.
 pub fn run_dispatch(
     sizes: Sizes,
     parts: &mut Parts,
@@ -31,10 +32,13 @@ pub fn run_dispatch(
     requires whole { AreWhole (meaning parts.old.tables) }
     requires idle { tape.old.current ≡ [] }
     ensures answers { Answers (λ m. dispatch (of_sizes sizes) m serial room) parts.old.tables result parts.new.tables }
-    ensures leaves { IfOk result (λ answer. Leaves (of_sizes sizes) serial 3 (rule_exchanges (meaning parts.old.tables) Dispatch) answer parts.old.tables tape.old.current parts.new.tables tape.new.current tape.new.spare) }
+    ensures leaves { IfOk result (λ answer. Leaves (of_sizes sizes) serial (dispatch_exchanges (meaning parts.old.tables).requeued) (rule_exchanges (meaning parts.old.tables) Dispatch) answer parts.old.tables tape.old.current parts.new.tables tape.new.current tape.new.spare) }
     ensures trail { KeepsTrail tape.old.current parts.old.tables tape.new.current parts.new.tables }
     ensures steps { tape.new.steps ≡ tape.old.steps }
 {
+    if let Some(slot) = parts.requeued().first(0) {
+        return send_again(sizes, parts, tape, serial, room, slot);
+    }
     let Some(seat) = soft_queue::pick(parts.queues(), parts.served()) else {
         return Ok(Answer::Refused(Code::NothingQueued));
     };
@@ -45,6 +49,52 @@ pub fn run_dispatch(
         Scheduler::Plain => return send_first(sizes, parts, tape, serial, room, seat, tag),
         Scheduler::Bfq => return send_by_bfq(sizes, parts, tape, serial, room, tag),
     }
+}
+
+/// The first of the dispatch list goes before all others, at no cost.
+fn send_again(
+    sizes: Sizes,
+    parts: &mut Parts,
+    tape: &mut Tape,
+    serial: u64,
+    room: bool,
+    slot: Slot,
+) -> Result<Answer, OutOfMemory>
+    requires well { WellFormed (of_sizes sizes) serial parts.old.tables }
+    requires first { first_slot 0 parts.old.tables.requeued ≡ Some slot }
+    ensures answers { Answers (λ m. dispatch (of_sizes sizes) m serial room) parts.old.tables result parts.new.tables }
+    ensures leaves { IfOk result (λ answer. Leaves (of_sizes sizes) serial 2 0 answer parts.old.tables tape.old.current parts.new.tables tape.new.current tape.new.spare) }
+    ensures trail { KeepsTrail tape.old.current parts.old.tables tape.new.current parts.new.tables }
+    ensures steps { tape.new.steps ≡ tape.old.steps }
+{
+    let Some(tag) = parts.tags().lowest_free() else {
+        return Ok(Answer::Refused(Code::NoTag));
+    };
+    if !room {
+        return Ok(Answer::Refused(Code::HistoryFull));
+    }
+    let Some(request) = parts.pool().request(slot) else {
+        unreachable!()
+    };
+    let reply = Reply::Issued {
+        tag,
+        issue: serial,
+        op: request.op,
+        range: range_of_request(parts.pool(), request),
+    };
+    tape.reserve(2)?;
+    tape.exchange(parts, Change::Requeued { slot, link: None });
+    tape.exchange(
+        parts,
+        Change::Tag {
+            tag,
+            issue: Some(Issue {
+                issue: serial,
+                slot,
+            }),
+        },
+    );
+    Ok(Answer::Accepted(reply))
 }
 
 /// Scheduler none: of the next queue in turn the earliest request is sent.
@@ -92,7 +142,12 @@ fn send_first(
             }),
         },
     );
-    tape.exchange(parts, Change::Served { seat });
+    let mode = Change::Mode {
+        scheduler: parts.scheduler(),
+        frozen: parts.frozen(),
+        served: seat,
+    };
+    tape.exchange(parts, mode);
     Ok(Answer::Accepted(reply))
 }
 

@@ -50,7 +50,7 @@ pub fn send_by_bfq(
     }
 }
 
-// A queue without room in its budget expires; where none is in service now one is selected; and its next request is sent.
+// A queue that may be in service no longer expires; where none is in service now one is selected; and its next request is sent.
 fn serve(
     sizes: Sizes,
     parts: &mut Parts,
@@ -80,13 +80,13 @@ fn serve(
     send_next(sizes, parts, tape, serial, tag, slot)
 }
 
-// The queue in service expires where its budget has no room for its next request.
+// The queue in service expires where it has been so for too many ticks, or its budget has no room for its next request.
 fn make_room(sizes: Sizes, parts: &mut Parts, tape: &mut Tape, serial: u64) -> Result<(), VtimeFull>
     requires well { WellFormed (of_sizes sizes) serial parts.old.tables }
     requires whole { AreWhole (meaning parts.old.tables) }
     requires room { 7 ≤ tape.old.room }
     ensures made { MatchResult result (λ _. with_budget_in (of_sizes sizes) (meaning parts.old.tables) parts.old.tables.slot ≡ Some (bfq_of parts.new.tables)) (λ _. with_budget_in (of_sizes sizes) (meaning parts.old.tables) parts.old.tables.slot ≡ None) }
-    ensures well { WellFormed (of_sizes sizes) serial parts.new.tables }
+    ensures well { OnOk result (WellFormed (of_sizes sizes) serial parts.new.tables) }
     ensures others { OnlyServes parts.old.tables parts.new.tables }
     ensures fits { OnOk result ((slot : ServiceSlot) → parts.new.tables.slot ≡ Some slot → slot.service + next_size (meaning parts.old.tables) slot.seat ≤ (bfq_of parts.new.tables).budget slot.seat) }
     ensures trail { KeepsTrail tape.old.current parts.old.tables tape.new.current parts.new.tables }
@@ -100,7 +100,9 @@ fn make_room(sizes: Sizes, parts: &mut Parts, tape: &mut Tape, serial: u64) -> R
         return Ok(());
     };
     let size = next_size(parts, slot.seat);
-    if slot.service + size > parts.budget(slot.seat) {
+    if slot.age >= u64::from(sizes.timeout) {
+        expire(parts, tape, Expiry::Timeout, sizes.max_budget, true)?;
+    } else if slot.service + size > parts.budget(slot.seat) {
         expire(parts, tape, Expiry::Exhaustion, sizes.max_budget, true)?;
     }
     Ok(())

@@ -9,7 +9,7 @@ ghost use Rattle.dispatch_core.specs.WellFormed.{WellFormed};
 
 use crate::join::submit_joined;
 use crate::start::submit_new;
-use crate::{Answer, Code, Sizes};
+use crate::{Answer, Cause, Code, Sizes};
 use bytes::Bytes;
 use change_record::{Parts, Tape};
 use sector_core::{Op, OutOfMemory, Range};
@@ -40,6 +40,9 @@ pub fn run_submit(
     let Some(entry) = parts.seat(seat) else {
         return Ok(Answer::Refused(Code::NoSession));
     };
+    if entry.leaving {
+        return Ok(Answer::Refused(Code::NoSession));
+    }
     if entry.session != session {
         return Ok(Answer::Refused(Code::StaleSession));
     }
@@ -51,6 +54,9 @@ pub fn run_submit(
     }
     if !is_within(range, sizes.sectors) {
         return Ok(Answer::Refused(Code::OutOfRange));
+    }
+    if parts.frozen() {
+        return Ok(Answer::NotYet(Cause::Frozen));
     }
     if entry.unreaped >= 32 {
         return Ok(Answer::Refused(Code::TooManyBios));

@@ -4,14 +4,15 @@ use Rattle.sector_core.specs.First.{first_of}
 use Rattle.sector_core.specs.declared.bio.Outcome.{Outcome}
 use Rattle.sector_core.specs.declared.bio.Bio.{Bio}
 use Rattle.change_record.specs.Machine.{Plain, Flight, WholeRequest}
+use Rattle.change_record.specs.declared.change.InService.{InService}
 use Rattle.plain_machine.specs.declared.answer.Answer.{Answer}
 use Rattle.plain_machine.specs.declared.step.Step.{Step}
-use Rattle.plain_machine.specs.declared.step.Step.TheVariants.{Attach, Submit, Reap, Dispatch, Finish, GroupMake, GroupDrop, SetWeight}
-use Rattle.plain_machine.specs.declared.answer.Code.TheVariants.{BadSeat, SeatTaken, NoGroup, BadPrio, BadCount, BadLength, OutOfRange, TooManyBios, NothingOwed, BadTag, NotInFlight, BadOutcome, BadWeight, TooDeep, GroupInUse, HistoryFull}
-use Rattle.plain_machine.specs.declared.answer.Cause.TheVariants.{RequestsFull}
+use Rattle.plain_machine.specs.declared.step.Step.TheVariants.{Attach, Submit, Reap, Leave, Dispatch, Finish, Requeue, GroupMake, GroupDrop, SetWeight, Freeze, Thaw, Switch, Tick}
+use Rattle.plain_machine.specs.declared.answer.Code.TheVariants.{BadSeat, SeatTaken, NoGroup, BadPrio, BadCount, BadLength, OutOfRange, TooManyBios, NothingOwed, BadTag, NotInFlight, BadOutcome, BadWeight, TooDeep, GroupInUse, AlreadyFrozen, NotFrozen, NotDrained, SameScheduler, HistoryFull}
+use Rattle.plain_machine.specs.declared.answer.Cause.TheVariants.{Frozen, RequestsFull}
 use Rattle.plain_machine.specs.declared.answer.Answer.TheVariants.{Refused, NotYet}
 use Rattle.std.specs.Prelude.{◌+◌, ◌==◌, nat_le, nat_lt, not, ◌||◌, ◌&&◌, is_some, length}
-use Rattle.plain_machine.specs.Step.{Limits, Outcome_of, unless, seat_tests, payload_length, unreaped, queued, in_flight, fits, size_of, finished, needs_request, reaped, sent, sent_by, sent_by_bfq, accepted_if, woken, submitted, dispatch_to, next_queue, lowest_free, finish_of, made_group, free_group, group_tests, is_used, is_weight, step, IsAccepted}
+use Rattle.plain_machine.specs.Step.{Limits, Outcome_of, unless, seat_tests, payload_length, unreaped, requests_of, session_tests, is_same, requeue_of, requeued, dispatch_of, sent_again, ticked, fits, size_of, finished, needs_request, reaped, sent, sent_by, sent_by_bfq, accepted_if, woken, submitted, dispatch_to, next_queue, lowest_free, finish_of, made_group, free_group, group_tests, is_used, is_weight, step, IsAccepted}
 use Rattle.std.specs.Option.{option_map}
 use Rattle.sector_core.specs.declared.config.Scheduler.{Scheduler}
 use Rattle.sector_core.specs.declared.config.Scheduler.TheVariants.{Plain as PlainScheduler, Bfq as BfqScheduler}
@@ -60,12 +61,28 @@ no_group : (l : Limits) (m : Plain) (parent weight : ℕ) (group : Option ℕ) �
 no_group l m parent weight None h = h
 no_group l m parent weight (Some group) h = h
 
-no_finish : (m : Plain) (tag issue : ℕ) (outcome : Outcome) (f : Option Flight) → IsAccepted (finish_of m false tag issue outcome f).1 → ⊥
-no_finish m tag issue outcome None h = h
-no_finish m tag issue outcome (Some f) h = refuses (
+no_finish : (l : Limits) (m : Plain) (tag issue : ℕ) (outcome : Outcome) (f : Option Flight) → IsAccepted (finish_of l m false tag issue outcome f).1 → ⊥
+no_finish l m tag issue outcome None h = h
+no_finish l m tag issue outcome (Some f) h = refuses (
     (not (f.issue == issue), Refused NotInFlight)
     ∷ (not (fits f.request.op (size_of f.request.bios) outcome), Refused BadOutcome)
-    ∷ []) m (finished m false tag outcome f.request) ((λ h. h), ((λ h. h), tt)) (λ h. h) h
+    ∷ []) m (finished l m false tag outcome f.request) ((λ h. h), ((λ h. h), tt)) (λ h. h) h
+
+no_requeue : (m : Plain) (tag issue : ℕ) (f : Option Flight) → IsAccepted (requeue_of m false tag issue f).1 → ⊥
+no_requeue m tag issue None h = h
+no_requeue m tag issue (Some f) h = refuses ((not (f.issue == issue), Refused NotInFlight) ∷ []) m (requeued m false tag f.request) ((λ h. h), tt) (λ h. h) h
+
+no_sent_again : (m : Plain) (n : ℕ) (request : WholeRequest) (requests : List WholeRequest) (tag : Option ℕ) → IsAccepted (sent_again m n false request requests tag).1 → ⊥
+no_sent_again m n request requests None h = h
+no_sent_again m n request requests (Some tag) h = h
+
+no_dispatch_of : (l : Limits) (m : Plain) (n : ℕ) (requests : List WholeRequest) → IsAccepted (dispatch_of l m n false requests).1 → ⊥
+no_dispatch_of l m n [] h = no_dispatch l m n (next_queue m) (lowest_free l m) h
+no_dispatch_of l m n (request ∷ requests) h = no_sent_again m n request requests (lowest_free l m) h
+
+no_tick : (m : Plain) (slot : Option InService) → IsAccepted (ticked m false slot).1 → ⊥
+no_tick m None h = h
+no_tick m (Some slot) h = h
 
 pub no_room : (l : Limits) (m : Plain) (n : ℕ) (s : Step) → IsAccepted (step l m n false s).1 → ⊥
 no_room l m n (Attach seat group prio) h = refuses (
@@ -78,15 +95,18 @@ no_room l m n (Submit seat session op range payload) h = refuses (seat_tests m s
     (range.count == 0 || nat_lt 64 range.count, Refused BadCount)
     ∷ (not (length payload == payload_length op range.count), Refused BadLength)
     ∷ (nat_lt l.sectors (range.start + range.count), Refused OutOfRange)
+    ∷ (m.frozen, NotYet Frozen)
     ∷ (nat_le 32 (unreaped m seat), Refused TooManyBios)
-    ∷ (needs_request m seat session op range && nat_le l.requests (queued m + in_flight l m), NotYet RequestsFull)
+    ∷ (needs_request m seat session op range && nat_le l.requests (requests_of l m), NotYet RequestsFull)
     ∷ [])) m (accepted_if false m (option_map (λ next. (next, Queued n)) (woken m seat (submitted m n seat session op range payload))))
-    ((λ h. h), ((λ h. h), ((λ h. h), ((λ h. h), ((λ h. h), ((λ h. h), ((λ h. h), ((λ h. h), tt)))))))) (no_rule m _) h
+    ((λ h. h), ((λ h. h), ((λ h. h), ((λ h. h), ((λ h. h), ((λ h. h), ((λ h. h), ((λ h. h), ((λ h. h), tt))))))))) (no_rule m _) h
 no_room l m n (Reap seat session) h = refuses (seat_tests m seat session ++ (
     (unreaped m seat == 0, Refused NothingOwed)
     ∷ [])) m (reaped false m seat (m.outbox seat)) ((λ h. h), ((λ h. h), ((λ h. h), ((λ h. h), tt)))) (no_reap m seat (m.outbox seat)) h
-no_room l m n Dispatch h = no_dispatch l m n (next_queue m) (lowest_free l m) h
-no_room l m n (Finish tag issue outcome) h = refuses ((nat_le l.tags tag, Refused BadTag) ∷ []) m (finish_of m false tag issue outcome (m.flight tag)) ((λ h. h), tt) (no_finish m tag issue outcome (m.flight tag)) h
+no_room l m n (Leave seat why) h = refuses (session_tests m seat) m (m, Refused HistoryFull) ((λ h. h), ((λ h. h), tt)) (λ h. h) h
+no_room l m n Dispatch h = no_dispatch_of l m n m.requeued h
+no_room l m n (Finish tag issue outcome) h = refuses ((nat_le l.tags tag, Refused BadTag) ∷ []) m (finish_of l m false tag issue outcome (m.flight tag)) ((λ h. h), tt) (no_finish l m tag issue outcome (m.flight tag)) h
+no_room l m n (Requeue tag issue) h = refuses ((nat_le l.tags tag, Refused BadTag) ∷ []) m (requeue_of m false tag issue (m.flight tag)) ((λ h. h), tt) (no_requeue m tag issue (m.flight tag)) h
 no_room l m n (GroupMake parent weight) h = refuses (
     (not (stands m.bfq parent), Refused NoGroup)
     ∷ (not (is_weight weight), Refused BadWeight)
@@ -98,3 +118,11 @@ no_room l m n (GroupDrop group) h = refuses (group_tests m group ++ (
 no_room l m n (SetWeight group weight) h = refuses (group_tests m group ++ (
     (not (is_weight weight), Refused BadWeight)
     ∷ [])) m (m, Refused HistoryFull) ((λ h. h), ((λ h. h), ((λ h. h), tt))) (λ h. h) h
+no_room l m n Freeze h = refuses ((m.frozen, Refused AlreadyFrozen) ∷ []) m (m, Refused HistoryFull) ((λ h. h), tt) (λ h. h) h
+no_room l m n Thaw h = refuses ((not m.frozen, Refused NotFrozen) ∷ []) m (m, Refused HistoryFull) ((λ h. h), tt) (λ h. h) h
+no_room l m n (Switch scheduler) h = refuses (
+    (not m.frozen, Refused NotFrozen)
+    ∷ (nat_lt 0 (requests_of l m), Refused NotDrained)
+    ∷ (is_same scheduler m.scheduler, Refused SameScheduler)
+    ∷ []) m (m, Refused HistoryFull) ((λ h. h), ((λ h. h), ((λ h. h), tt))) (λ h. h) h
+no_room l m n Tick h = no_tick m m.bfq.slot h

@@ -1,6 +1,6 @@
 -- The text of a queue, a place at a time.
 use Rattle.std.proofs.Common.{◌≡◌, ℕ, zero, suc, ◌+◌, ◌<◌, List, [], ◌∷◌, ◌++◌, codes, length, drop, refl, sym, ap, ◌∙◌, arith, add-one, append_assoc}
-use Rattle.std.specs.Prelude.{Option, None, Some}
+use Rattle.std.specs.Prelude.{Option, None, Some, Result, Ok, Err, OnOk}
 use Rattle.sector_core.specs.declared.range.Range.{Range}
 use Rattle.change_record.specs.Machine.{WholeRequest}
 use Rattle.plain_machine.specs.Keeper.{State, machine_of}
@@ -68,3 +68,9 @@ pub one_more : (before after rest whole text more : List ℕ) → after ≡ befo
 one_more before after rest whole text more is next so_far =
     let joined_up : after ++ more ≡ before ++ 32 ∷ (text ++ more) = rw is (simp append_assoc) in
     joined_up ∙ ap (λ ys. before ++ ys) (sym next) ∙ so_far
+
+-- where the seat is free, ` none` is what was left to print
+pub told_free : {T E : Type 0} (result : Result T E) (before after rest whole : List ℕ) → OnOk result (after ≡ before ++ codes " none")
+    → rest ≡ codes " none" → before ++ rest ≡ whole → OnOk result (after ≡ whole)
+told_free (Ok done) before after rest whole put is so_far = put ∙ ap (λ ys. before ++ ys) (sym is) ∙ so_far
+told_free (Err error) before after rest whole put is so_far = tt

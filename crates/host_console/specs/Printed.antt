@@ -9,12 +9,13 @@ use Rattle.sector_core.specs.declared.bio.Outcome.{Outcome}
 use Rattle.sector_core.specs.declared.bio.Outcome.TheVariants as outcome
 use Rattle.sector_text.specs.Hex.{hex_of}
 use Rattle.script_line.specs.declared.line.Line.{Line}
-use Rattle.script_line.specs.declared.line.Line.TheVariants.{Attach, Read, Write, Reap, Dispatch, Finish, Hold, Release, Undo, Redo, Group, Drop, Weight, Sector, Queue, Cursor, Vtime, Entity}
+use Rattle.script_line.specs.declared.line.Line.TheVariants.{Attach, Read, Write, Reap, Leave, Dispatch, Finish, Requeue, Hold, Release, Undo, Redo, Group, Drop, Weight, Freeze, Thaw, Switch, Tick, Sector, Queue, Cursor, Vtime, Entity}
 use Rattle.script_line.specs.declared.line.Ending.{Ending}
 use Rattle.script_line.specs.declared.line.Ending.TheVariants.{Stored, Fill, Short, Fault}
 use Rattle.change_record.specs.Machine.{WholeRequest, Flight}
 use Rattle.plain_machine.specs.declared.answer.Answer.{Answer}
 use Rattle.plain_machine.specs.declared.step.Step.TheVariants as step
+use Rattle.plain_machine.specs.declared.step.Why.TheVariants as why
 use Rattle.plain_machine.specs.declared.call.Call.{Call}
 use Rattle.plain_machine.specs.declared.call.Call.TheVariants as call
 use Rattle.plain_machine.specs.Step.{size_of, range_of}
@@ -80,7 +81,7 @@ abbrev pub requests_text : List WholeRequest → List ℕ
 requests_text [] = []
 requests_text (request ∷ queue) = 32 ∷ (request_text (range_of request.bios) (length request.bios) ++ requests_text queue)
 
--- the queued requests of a seat, or that nobody sits there (our profile)
+-- the queued requests of a seat, or that the seat is free (our profile)
 abbrev pub queue_text : State → ℕ → List ℕ
 queue_text k seat = elim ((machine_of k).seat seat) [ None ↦ codes "queue none" | Some session ↦ codes "queue" ++ requests_text ((machine_of k).queue seat) ]
 
@@ -117,8 +118,10 @@ Prints before (Attach seat group prio) = Answers before (call.Do (step.Attach se
 Prints before (Read seat session start count) = Answers before (call.Do (step.Submit seat session op.Fetch (record { start = start; count = count }) []))
 Prints before (Write seat session start count byte) = Answers before (call.Do (step.Submit seat session op.Store (record { start = start; count = count }) (payload_of count byte)))
 Prints before (Reap seat session) = Answers before (call.Do (step.Reap seat session))
+Prints before (Leave seat) = Answers before (call.Do (step.Leave seat why.Ended))
 Prints before Dispatch = Answers before (call.Do step.Dispatch)
 Prints before (Finish tag issue ending) = Answers before (call.Do (step.Finish tag issue (outcome_of before tag issue ending)))
+Prints before (Requeue tag issue) = Answers before (call.Do (step.Requeue tag issue))
 Prints before Hold = Answers before call.Hold
 Prints before Release = Answers before call.Release
 Prints before (Undo k) = Answers before (call.Undo k)
@@ -126,6 +129,10 @@ Prints before (Redo k) = Answers before (call.Redo k)
 Prints before (Group parent weight) = Answers before (call.Do (step.GroupMake parent weight))
 Prints before (Drop group) = Answers before (call.Do (step.GroupDrop group))
 Prints before (Weight group weight) = Answers before (call.Do (step.SetWeight group weight))
+Prints before Freeze = Answers before (call.Do step.Freeze)
+Prints before Thaw = Answers before (call.Do step.Thaw)
+Prints before (Switch scheduler) = Answers before (call.Do (step.Switch scheduler))
+Prints before Tick = Answers before (call.Do step.Tick)
 Prints before (Sector number) = Shows before (sector_text before number)
 Prints before (Queue seat) = Shows before (queue_text before seat)
 Prints before Cursor = Shows before (cursor_text before)

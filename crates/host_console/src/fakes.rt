@@ -19,7 +19,7 @@ pub struct Full {
 }
 
 impl Keeps for Full {
-    ghost state = { λ full. record (opened (record { sectors = full.sectors; requests = 1; tags = 1; scheduler = Plain; first_budget = 256; max_budget = 256; first_vtime = 7 }) 0) { held = true } };
+    ghost state = { λ full. record (opened (record { sectors = full.sectors; requests = 1; tags = 1; scheduler = Plain; first_budget = 256; max_budget = 256; timeout = 8; first_vtime = 7 }) 0) { held = true } };
 
     fn call(&mut self, _alloc: Global, call: &Call) -> Answer {
         self.calls = self.calls.wrapping_add(1);
@@ -76,7 +76,7 @@ impl Keeps for Full {
 pub struct Waiting;
 
 impl Keeps for Waiting {
-    ghost state = { λ _. record (opened (record { sectors = 1024; requests = 2; tags = 1; scheduler = Plain; first_budget = 1024; max_budget = 4096; first_vtime = 5 }) 0) {
+    ghost state = { λ _. record (opened (record { sectors = 1024; requests = 2; tags = 1; scheduler = Plain; first_budget = 1024; max_budget = 4096; timeout = 8; first_vtime = 5 }) 0) {
       held = true;
       cursor = 5;
       last = 5;

@@ -29,6 +29,7 @@ mod group;
 mod keeps;
 mod query;
 mod run;
+mod steps;
 mod submit;
 mod teller;
 

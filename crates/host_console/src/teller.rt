@@ -7,6 +7,7 @@ use crate::answer::put_answer;
 use crate::filled::sectors_of;
 use crate::group::{make, unmake, weigh};
 use crate::query::{put_cursor, put_entity, put_queue, put_sector, put_vtime};
+use crate::steps::{freeze, leave, requeue, switch, thaw, tick};
 use crate::submit::{fetch, store};
 use plain_machine::{Call, Step};
 use script_line::{Ending, Line};
@@ -46,8 +47,10 @@ impl<K: Keeps> Console for Teller<K> {
                 self.step(alloc, step, out)
             }
             Line::Reap { seat, session } => self.step(alloc, Step::Reap { seat, session }, out),
+            Line::Leave { seat } => self.step(alloc, leave(seat), out),
             Line::Dispatch => self.step(alloc, Step::Dispatch, out),
             Line::Finish { tag, issue, ending } => self.finish(alloc, tag, issue, ending, out),
+            Line::Requeue { tag, issue } => self.step(alloc, requeue(tag, issue), out),
             Line::Hold => self.answer(alloc, &Call::Hold, out),
             Line::Release => self.answer(alloc, &Call::Release, out),
             Line::Undo { k } => self.answer(alloc, &Call::Undo { k }, out),
@@ -55,6 +58,10 @@ impl<K: Keeps> Console for Teller<K> {
             Line::Group { parent, weight } => self.step(alloc, make(parent, weight), out),
             Line::Drop { group } => self.step(alloc, unmake(group), out),
             Line::Weight { group, weight } => self.step(alloc, weigh(group, weight), out),
+            Line::Freeze => self.step(alloc, freeze(), out),
+            Line::Thaw => self.step(alloc, thaw(), out),
+            Line::Switch { scheduler } => self.step(alloc, switch(scheduler), out),
+            Line::Tick => self.step(alloc, tick(), out),
             Line::Sector { number } => self.tell_sector(number, out),
             Line::Queue { seat } => self.tell_queue(seat, out),
             Line::Cursor => self.tell_cursor(out),

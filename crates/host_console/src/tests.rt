@@ -139,11 +139,13 @@ write 0 1 5 1 65
 write 0 1 5 64 65
 write 0 1 5 65 65
 reap 0 1
+leave 0
 dispatch
 finish 0 3 stored
 finish 0 3 fill 65
 finish 0 3 short
 finish 0 3 fault
+requeue 0 3
 hold
 release
 undo 0
@@ -153,6 +155,11 @@ redo 4294967295
 group 0 200
 drop 1
 weight 1 1000
+freeze
+thaw
+switch none
+switch bfq
+tick
 sector 7
 sector 8
 queue 0
@@ -177,12 +184,19 @@ notyet 41
 notyet 41
 notyet 41
 notyet 41
+notyet 41
+notyet 41
 refused 29
 refused 33
 refused 30
 refused 31
 refused 30
 refused 32
+notyet 41
+notyet 41
+notyet 41
+notyet 41
+notyet 41
 notyet 41
 notyet 41
 notyet 41
@@ -196,7 +210,7 @@ vtime 255 none
 entity 0 none
 entity 255 none
 line 0 0 0
-bad line 31
+bad line 38
 ";
 
 #[test]
@@ -210,9 +224,9 @@ fn each_line_prints_one(rt: HostRuntime) {
     let mut written = Vec::new(rt.alloc());
     let mut script = SCRIPT;
     let end = run_keeper(rt.alloc(), &mut script, &mut written, &mut teller);
-    assert_eq!(rt; end, ScriptEnd::BadLine(31));
+    assert_eq!(rt; end, ScriptEnd::BadLine(38));
     assert_eq!(rt; written.as_slice(), TEXT);
-    assert_eq!(rt; teller.keeper.calls, 20);
+    assert_eq!(rt; teller.keeper.calls, 27);
 }
 
 #[test]

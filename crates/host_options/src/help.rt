@@ -23,11 +23,11 @@ EXAMPLE
 
 OPTIONS
     --scheduler NAME     the scheduler: bfq or none (bfq)
-    --nr-requests N      requests queued or in flight, 1 to 256 (64)
+    --nr-requests N      requests at most, 1 to 256 (64)
     --tags N             tags of the device, 1 to 64 (4)
     --first-budget N     sectors of a new queue's budget, 256 to --max-budget (1024)
     --max-budget N       sectors of the greatest budget, 256 to 65536 (4096)
-    --timeout N          no effect yet, 1 to 1000 (8)
+    --timeout N          ticks until a queue in service expires, 1 to 1000 (8)
     --history N          accepted calls at most, 1 to 16777216 (65536)
     --first-vtime N      virtual time at the start, 0 to 2^62 (0)
     --sectors N          sectors of the device in memory, 0 to 65536 (1024)
@@ -36,8 +36,10 @@ OPTIONS
 SCRIPT: one call a line, words joined by one space; an empty line or one that begins with # is skipped
     attach SEAT GROUP PRIO               read SEAT SESSION START COUNT
     write SEAT SESSION START COUNT BYTE  reap SEAT SESSION
-    dispatch                             finish TAG ISSUE stored|short|fault|fill BYTE
-    group PARENT WEIGHT                  drop GROUP, weight GROUP WEIGHT
+    leave SEAT                           dispatch
+    finish TAG ISSUE stored|short|fault|fill BYTE
+    requeue TAG ISSUE                    group PARENT WEIGHT
+    drop GROUP, weight GROUP WEIGHT      freeze, thaw, switch none|bfq, tick
     hold, release                        undo K, redo K
     sector NUMBER                        queue SEAT
     vtime GROUP                          entity NUMBER

@@ -193,6 +193,29 @@ fn help_names_each_option(rt: HostRuntime) {
 }
 
 #[test]
+fn help_names_each_step(rt: HostRuntime) {
+    for line in [
+        "attach SEAT",
+        "read SEAT",
+        "write SEAT",
+        "reap SEAT",
+        "leave SEAT",
+        "dispatch",
+        "finish TAG",
+        "requeue TAG",
+        "group PARENT",
+        "drop GROUP",
+        "weight GROUP",
+        "freeze",
+        "thaw",
+        "switch none|bfq",
+        "tick",
+    ] {
+        assert!(rt; help_text().contains(line), "{line}");
+    }
+}
+
+#[test]
 fn help_names_each_scheduler(rt: HostRuntime) {
     assert!(rt; help_text().contains("the scheduler: bfq or none (bfq)"));
 }

@@ -4,6 +4,8 @@ pub mod Debts
 pub mod Joins
 pub mod Counters
 pub mod Sendings
+pub mod Leavings
+pub mod Kept
 pub mod Served
 pub mod Stepped
 pub mod Serials

@@ -1,6 +1,6 @@
 -- Every step lets no virtual time fall of a group that stands before and after it.
-use Rattle.std.proofs.Common.{true, false, Bool, ◌≡◌, inl, inr, ℕ, ◌+◌, ◌≤◌, nat_lt, not, List, [], ◌∷◌, length, Option, Some, None, cond, refl, sym, ap, ◌∙◌, subst, arith, unwrap_or}
-use Rattle.std.specs.Option.{is_none, option_map, option_and_then}
+use Rattle.std.proofs.Common.{true, false, Bool, ◌≡◌, inl, inr, ℕ, ◌+◌, ◌≤◌, nat_le, nat_lt, not, ◌++◌, List, [], ◌∷◌, length, Option, Some, None, cond, refl, sym, ap, ◌∙◌, subst, arith, unwrap_or}
+use Rattle.std.specs.Option.{is_none, option_map, option_map_or, option_and_then}
 use Rattle.std.proofs.lemmas.Bool.{cases_eq}
 use Rattle.sector_core.specs.declared.bio.Bio.{Bio}
 use Rattle.sector_core.specs.declared.bio.BioResult.TheVariants.{Written}
@@ -12,20 +12,21 @@ use Rattle.sector_core.specs.declared.config.Scheduler.TheVariants.{Plain as Pla
 use Rattle.process_queue.specs.Queue.{is_empty}
 use Rattle.process_queue.specs.Next.{has_start}
 use Rattle.group_tree.specs.Groups.{entity_of}
-use Rattle.bfq_select.specs.declared.expiry.Expiry.TheVariants.{Exhaustion, Emptying}
+use Rattle.bfq_select.specs.declared.expiry.Expiry.TheVariants.{Exhaustion, Timeout, Emptying}
 use Rattle.bfq_select.specs.Rules.{vtime_of, stands, group_of, put_vtime, select, charge, expire}
 use Rattle.change_record.specs.declared.change.InService.{InService}
 use Rattle.change_record.specs.Exchange.{with_vtime}
 use Rattle.service_tree.specs.Members.{Service}
 use Rattle.change_record.specs.Machine.{WholeRequest, Flight, Bfq, Plain, put}
 use Rattle.plain_machine.specs.declared.answer.Reply.{Reply}
-use Rattle.plain_machine.specs.declared.answer.Reply.TheVariants.{Attached, Queued, Completed, Issued, Finished, Group, Done}
-use Rattle.plain_machine.specs.declared.step.Step.TheVariants.{Attach, Submit, Reap, Dispatch, Finish, GroupMake, GroupDrop, SetWeight}
-use Rattle.plain_machine.specs.Step.{Limits, accepted, accepted_if, attached, attach, submitted, woken, submit, reaped, reap, next_queue, lowest_free, range_of, next_request, next_size, with_budget_in, with_slot, without_first, without_empty, sent, sent_next, sent_in, sent_by_bfq, sent_by, dispatch_to, finished, finish_of, finish, shape, with_entity, free_group, made_group, group_make, without_entity, group_drop, set_weight}
+use Rattle.plain_machine.specs.declared.answer.Reply.TheVariants.{Attached, Queued, Completed, Left, Issued, Finished, Requeued, Group, Done}
+use Rattle.plain_machine.specs.declared.step.Step.TheVariants.{Attach, Submit, Reap, Leave, Dispatch, Finish, Requeue, GroupMake, GroupDrop, SetWeight, Freeze, Thaw, Switch, Tick}
+use Rattle.plain_machine.specs.Step.{Limits, accepted, accepted_if, attached, attach, submitted, woken, submit, reaped, reap, next_queue, lowest_free, range_of, next_request, next_size, with_budget_in, with_slot, without_first, without_empty, sent, sent_next, sent_in, sent_by_bfq, sent_by, dispatch_to, sent_again, dispatch_of, with_leaving, is_leaving, is_gone, without_gone, owed_fewer, left, leave, completed, after_outcome, delivered, seat_of, after_finish, finished, finish_of, finish, requeued, requeue_of, requeue, shape, with_entity, free_group, made_group, group_make, without_entity, group_drop, set_weight}
 use Rattle.plain_machine.specs.Times.{VtimesNeverFall, KeepsVtimes}
 use Rattle.plain_machine.proofs.Puts.{put_other, some_is, and_then_is, map_is, unless-keeps, accepted-keeps, accepted_if-keeps}
 use Rattle.plain_machine.proofs.Flights.{find-numbers}
-use Rattle.plain_machine.proofs.Sendings.{dispatched, done_with}
+use Rattle.plain_machine.proofs.Sendings.{dispatched, resent, given_back}
+use Rattle.plain_machine.proofs.Kept.{freeze-keeps, thaw-keeps, tick-keeps}
 use Rattle.plain_machine.proofs.Served.{woken-keeps}
 use Rattle.plain_machine.proofs.Times.{Rise, Rise-refl, Rise-trans, Rise-member, activate-rise, select-rise, charge-rise, expire-rise}
 
@@ -68,9 +69,13 @@ reap-vtimes m room seat session = unless-keeps (Since m.bfq) _ m (reaped room m 
 with_budget_in-rise : (l : Limits) (m : Plain) (slot : Option InService) (b : Bfq) → with_budget_in l m slot ≡ Some b → Rise m.bfq b
 with_budget_in-rise l m None b e = subst (Rise m.bfq) (some_is m.bfq b e) (Rise-refl m.bfq)
 with_budget_in-rise l m (Some slot) b e =
-    elim (nat_lt (m.bfq.budget slot.seat) (slot.service + next_size m slot.seat)) as (λ t. cond t (expire Exhaustion l.max_budget true m.bfq) (Some m.bfq) ≡ Some b → Rise m.bfq b) [
-      | true ↦ λ f. expire-rise Exhaustion l.max_budget true m.bfq b f
-      | false ↦ λ f. subst (Rise m.bfq) (some_is m.bfq b f) (Rise-refl m.bfq)
+    let full : Bool = nat_lt (m.bfq.budget slot.seat) (slot.service + next_size m slot.seat) in
+    elim (nat_le l.timeout slot.age) as (λ t. cond t (expire Timeout l.max_budget true m.bfq) (cond full (expire Exhaustion l.max_budget true m.bfq) (Some m.bfq)) ≡ Some b → Rise m.bfq b) [
+      | true ↦ λ f. expire-rise Timeout l.max_budget true m.bfq b f
+      | false ↦ λ f. elim full as (λ t. cond t (expire Exhaustion l.max_budget true m.bfq) (Some m.bfq) ≡ Some b → Rise m.bfq b) [
+        | true ↦ λ g. expire-rise Exhaustion l.max_budget true m.bfq b g
+        | false ↦ λ g. subst (Rise m.bfq) (some_is m.bfq b g) (Rise-refl m.bfq)
+      ] f
     ] e
 
 with_slot-rise : (b : Bfq) → Rise b (with_slot b)
@@ -116,16 +121,70 @@ dispatch_to-vtimes l m n room None tag = same m
 dispatch_to-vtimes l m n room (Some seat) None = same m
 dispatch_to-vtimes l m n room (Some seat) (Some tag) = sent_by-vtimes l m n room seat tag m.scheduler
 
+-- the first of the dispatch list costs nothing
+sent_again-vtimes : (m : Plain) (n : ℕ) (room : Bool) (r : WholeRequest) (rest : List WholeRequest) (tag : Option ℕ) → Since m.bfq (sent_again m n room r rest tag).0
+sent_again-vtimes m n room r rest None = same m
+sent_again-vtimes m n room r rest (Some tag) = accepted-keeps (Since m.bfq) room m (resent m n tag r rest) (Issued tag n r.op (range_of r.bios)) (same m) (same m)
+
+dispatch_of-vtimes : (l : Limits) (m : Plain) (n : ℕ) (room : Bool) (requests : List WholeRequest) → Since m.bfq (dispatch_of l m n room requests).0
+dispatch_of-vtimes l m n room [] = dispatch_to-vtimes l m n room (next_queue m) (lowest_free l m)
+dispatch_of-vtimes l m n room (r ∷ rest) = sent_again-vtimes m n room r rest (lowest_free l m)
+
+-- A seat that is free again: its entity goes from its group's members alone.
+without_gone-rise : (l : Limits) (seat : ℕ) (m : Plain) → Rise m.bfq (without_gone l seat m).bfq
+without_gone-rise l seat m =
+    elim (is_gone l m seat) as (λ t. Rise m.bfq (cond t (record m { seat = put m.seat seat None; bfq = without_entity seat m.bfq }) m).bfq) [
+      | true ↦ λ g. Rise-member m.bfq (group_of m.bfq seat) seat None g
+      | false ↦ Rise-refl m.bfq
+    ]
+
+-- Leave
+leave-vtimes : (l : Limits) (m : Plain) (room : Bool) (seat : ℕ) → Since m.bfq (leave l m room seat).0
+leave-vtimes l m room seat =
+    let marked : Plain = record m { seat = put m.seat seat (option_map with_leaving (m.seat seat)); outbox = put m.outbox seat [] } in
+    unless-keeps (Since m.bfq) _ m (accepted room m (left l m seat) Left) (same m)
+    (λ _. accepted-keeps (Since m.bfq) room m (left l m seat) Left (same m)
+    (rises m.bfq (left l m seat) (without_gone-rise l seat (owed_fewer seat (length (m.outbox seat)) marked))))
+
 -- Finish
-finish_of-vtimes : (m : Plain) (room : Bool) (tag issue : ℕ) (outcome : Outcome) (o : Option Flight) → Since m.bfq (finish_of m room tag issue outcome o).0
-finish_of-vtimes m room tag issue outcome None = same m
-finish_of-vtimes m room tag issue outcome (Some f) =
-    unless-keeps (Since m.bfq) _ m (finished m room tag outcome f.request) (same m)
-    (λ _. accepted-keeps (Since m.bfq) room m (done_with m tag outcome f.request) (Finished (length f.request.bios)) (same m) (same m))
+delivered-rise : (l : Limits) (bios : List Bio) (m : Plain) (seat : ℕ) → Rise m.bfq (delivered l bios m seat).bfq
+delivered-rise l bios m seat =
+    let fewer : Plain = owed_fewer seat (length bios) m in
+    elim (is_leaving (m.seat seat)) as (λ t. Rise m.bfq (cond t (without_gone l seat fewer) (record m { outbox = put m.outbox seat (m.outbox seat ++ bios) })).bfq) [
+      | true ↦ without_gone-rise l seat fewer
+      | false ↦ Rise-refl m.bfq
+    ]
+
+after_finish-rise : (l : Limits) (m : Plain) (tag : ℕ) (outcome : Outcome) (r : WholeRequest) → Rise m.bfq (after_finish l m tag outcome r).bfq
+after_finish-rise l m tag outcome r =
+    let next : Plain = record m { overlay = after_outcome outcome m.overlay r.bios; flight = put m.flight tag None } in
+    let bios : List Bio = completed outcome m.overlay r.bios in
+    elim (seat_of m r.session) as (λ o. Rise m.bfq (option_map_or (delivered l bios next) o next).bfq) [
+      | None ↦ Rise-refl m.bfq
+      | Some seat ↦ delivered-rise l bios next seat
+    ]
+
+finish_of-vtimes : (l : Limits) (m : Plain) (room : Bool) (tag issue : ℕ) (outcome : Outcome) (o : Option Flight) → Since m.bfq (finish_of l m room tag issue outcome o).0
+finish_of-vtimes l m room tag issue outcome None = same m
+finish_of-vtimes l m room tag issue outcome (Some f) =
+    let next : Plain = after_finish l m tag outcome f.request in
+    unless-keeps (Since m.bfq) _ m (finished l m room tag outcome f.request) (same m)
+    (λ _. accepted-keeps (Since m.bfq) room m next (Finished (length f.request.bios)) (same m) (rises m.bfq next (after_finish-rise l m tag outcome f.request)))
 
 finish-vtimes : (l : Limits) (m : Plain) (room : Bool) (tag issue : ℕ) (outcome : Outcome) → Since m.bfq (finish l m room tag issue outcome).0
 finish-vtimes l m room tag issue outcome =
-    unless-keeps (Since m.bfq) _ m (finish_of m room tag issue outcome (m.flight tag)) (same m) (λ _. finish_of-vtimes m room tag issue outcome (m.flight tag))
+    unless-keeps (Since m.bfq) _ m (finish_of l m room tag issue outcome (m.flight tag)) (same m) (λ _. finish_of-vtimes l m room tag issue outcome (m.flight tag))
+
+-- Requeue
+requeue_of-vtimes : (m : Plain) (room : Bool) (tag issue : ℕ) (o : Option Flight) → Since m.bfq (requeue_of m room tag issue o).0
+requeue_of-vtimes m room tag issue None = same m
+requeue_of-vtimes m room tag issue (Some f) =
+    unless-keeps (Since m.bfq) _ m (requeued m room tag f.request) (same m)
+    (λ _. accepted-keeps (Since m.bfq) room m (given_back m tag f.request) Requeued (same m) (same m))
+
+requeue-vtimes : (l : Limits) (m : Plain) (room : Bool) (tag issue : ℕ) → Since m.bfq (requeue l m room tag issue).0
+requeue-vtimes l m room tag issue =
+    unless-keeps (Since m.bfq) _ m (requeue_of m room tag issue (m.flight tag)) (same m) (λ _. requeue_of-vtimes m room tag issue (m.flight tag))
 
 -- GroupMake: the new group did not stand before; in its parent the members alone change.
 made_group-vtimes : (l : Limits) (m : Plain) (room : Bool) (parent weight : ℕ) (found : Option ℕ) → free_group m.bfq ≡ found → Since m.bfq (made_group l m room parent weight found).0
@@ -163,11 +222,17 @@ set_weight-vtimes m room group weight =
 
 -- the law
 pub step-vtimes : (l : Limits) (m : Plain) → KeepsVtimes l m
-step-vtimes l m n room (Attach seat group prio) = attach-vtimes l m n room seat group prio
-step-vtimes l m n room (Submit seat session op range payload) = submit-vtimes l m n room seat session op range payload
-step-vtimes l m n room (Reap seat session) = reap-vtimes m room seat session
-step-vtimes l m n room Dispatch = dispatch_to-vtimes l m n room (next_queue m) (lowest_free l m)
-step-vtimes l m n room (Finish tag issue outcome) = finish-vtimes l m room tag issue outcome
-step-vtimes l m n room (GroupMake parent weight) = group_make-vtimes l m room parent weight
-step-vtimes l m n room (GroupDrop group) = group_drop-vtimes m room group
-step-vtimes l m n room (SetWeight group weight) = set_weight-vtimes m room group weight
+step-vtimes l m n room (Attach seat group prio) other = attach-vtimes l m n room seat group prio
+step-vtimes l m n room (Submit seat session op range payload) other = submit-vtimes l m n room seat session op range payload
+step-vtimes l m n room (Reap seat session) other = reap-vtimes m room seat session
+step-vtimes l m n room (Leave seat why) other = leave-vtimes l m room seat
+step-vtimes l m n room Dispatch other = dispatch_of-vtimes l m n room m.requeued
+step-vtimes l m n room (Finish tag issue outcome) other = finish-vtimes l m room tag issue outcome
+step-vtimes l m n room (Requeue tag issue) other = requeue-vtimes l m room tag issue
+step-vtimes l m n room (GroupMake parent weight) other = group_make-vtimes l m room parent weight
+step-vtimes l m n room (GroupDrop group) other = group_drop-vtimes m room group
+step-vtimes l m n room (SetWeight group weight) other = set_weight-vtimes m room group weight
+step-vtimes l m n room Freeze other = freeze-keeps (Since m.bfq) m room (same m) (same m)
+step-vtimes l m n room Thaw other = thaw-keeps (Since m.bfq) m room (same m) (same m)
+step-vtimes l m n room (Switch scheduler) other = cc
+step-vtimes l m n room Tick other = tick-keeps (Since m.bfq) m room (same m) (λ slot. rises m.bfq (record m { bfq = record m.bfq { slot = slot } }) (Rise-refl m.bfq))

@@ -1,12 +1,11 @@
--- What a seat's running counter counts: the bios of its session that are queued, in flight, or completed and not yet reaped.
-use Rattle.std.specs.Prelude.{◌≡◌, ℕ, ◌+◌, ◌==◌, List, length, Option, Some, if◌then◌else◌}
-use Rattle.std.specs.List.{sum_by, filter_map}
-use Rattle.std.specs.Option.{option_map}
-use Rattle.soft_queue.specs.Turn.{numbers}
+-- What a seat's running counter counts: the bios of its session that are queued, in the dispatch list, in flight, or completed and not yet
+-- reaped.
+use Rattle.std.specs.Prelude.{◌≡◌, ℕ, ◌+◌, ◌==◌, List, length, Some, if◌then◌else◌}
+use Rattle.std.specs.List.{sum_by}
 use Rattle.change_record.specs.declared.change.Seat.{Seat}
 use Rattle.change_record.specs.Machine.{WholeRequest, Plain}
 use Rattle.plain_machine.specs.declared.call.Call.{Call}
-use Rattle.plain_machine.specs.Step.{Limits}
+use Rattle.plain_machine.specs.Step.{Limits, flying}
 use Rattle.plain_machine.specs.Keeper.{machine_of, replay}
 
 -- how many bios of a session a request has: all of its bios, or none
@@ -17,17 +16,9 @@ bios_in session request = if request.session == session then length request.bios
 abbrev pub bios_of : ℕ → List WholeRequest → ℕ
 bios_of session requests = sum_by (bios_in session) requests
 
--- the request that a tag bears
-abbrev pub request_at : Plain → ℕ → Option WholeRequest
-request_at m tag = option_map (λ flight. flight.request) (m.flight tag)
-
--- blk-mq: the requests in flight, in the order of their tags
-abbrev pub flying : Limits → Plain → List WholeRequest
-flying l m = filter_map (request_at m) (numbers 0 l.tags)
-
--- the bios that a session at a seat has queued, in flight, and completed in its outbox
+-- the bios that a session at a seat has queued, in the dispatch list, in flight, and completed in its outbox
 abbrev pub owed : Limits → Plain → ℕ → ℕ → ℕ
-owed l m seat session = bios_of session (m.queue seat) + bios_of session (flying l m) + length (m.outbox seat)
+owed l m seat session = bios_of session (m.queue seat) + bios_of session m.requeued + bios_of session (flying l m) + length (m.outbox seat)
 
 -- the counter of each seat that is taken is what its session is owed
 abbrev pub CountsOwed : Limits → Plain → Type 0

@@ -1,6 +1,6 @@
 -- The steps of the plain machine, in the order of the table of steps.
 use Rattle.std.specs.Prelude.{◌≡◌, ℕ, zero, suc, ◌+◌, ◌-◌, ◌*◌, ◌==◌, nat_le, nat_lt, Bool, true, false, not, ◌||◌, ◌&&◌, ◌⊎◌, List, [], ◌∷◌, ◌++◌, length, map, take, drop, sum, Option, None, Some, is_some, unwrap_or, if◌then◌else◌}
-use Rattle.std.specs.List.{find, count_by}
+use Rattle.std.specs.List.{find, count_by, filter, filter_map}
 use Rattle.std.specs.Option.{option_map, option_map_or, option_and_then, is_none}
 use Rattle.std.specs.FinMap as blocks
 use Rattle.sector_core.specs.First.{first_of}
@@ -27,20 +27,21 @@ use Rattle.sector_core.specs.declared.config.Scheduler.TheVariants.{Plain as Pla
 use Rattle.service_tree.specs.declared.member.State.TheVariants.{Idle}
 use Rattle.group_tree.specs.Groups.{entity_of, depth, most_levels}
 use Rattle.process_queue.specs.Next.{next_of, has_start}
-use Rattle.bfq_select.specs.declared.expiry.Expiry.TheVariants.{Exhaustion, Emptying}
-use Rattle.bfq_select.specs.Rules.{group_of, put_member, put_vtime, stands, activate, select, charge, expire}
-use Rattle.plain_machine.specs.declared.answer.Code.TheVariants.{BadSeat, SeatTaken, NoSession, StaleSession, NoGroup, BadPrio, BadCount, BadLength, OutOfRange, TooManyBios, NothingOwed, NothingQueued, NoTag, BadTag, NotInFlight, BadOutcome, RootGroup, BadWeight, TooDeep, GroupsFull, GroupInUse, VtimeFull, HistoryFull, OutOfMemory}
-use Rattle.plain_machine.specs.declared.answer.Cause.TheVariants.{RequestsFull, NotCompleted}
+use Rattle.bfq_select.specs.declared.expiry.Expiry.TheVariants.{Exhaustion, Timeout, Emptying}
+use Rattle.bfq_select.specs.Rules.{group_of, member_of, put_member, put_vtime, stands, activate, select, charge, expire}
+use Rattle.plain_machine.specs.declared.answer.Code.TheVariants.{BadSeat, SeatTaken, NoSession, StaleSession, NoGroup, BadPrio, BadCount, BadLength, OutOfRange, TooManyBios, NothingOwed, NothingQueued, NoTag, BadTag, NotInFlight, BadOutcome, RootGroup, BadWeight, TooDeep, GroupsFull, GroupInUse, AlreadyFrozen, NotFrozen, NotDrained, SameScheduler, NoneInService, VtimeFull, HistoryFull, OutOfMemory}
+use Rattle.plain_machine.specs.declared.answer.Cause.TheVariants.{Frozen, RequestsFull, NotCompleted}
 use Rattle.plain_machine.specs.declared.answer.Reply.{Reply}
-use Rattle.plain_machine.specs.declared.answer.Reply.TheVariants.{Attached, Queued, Completed, Issued, Finished, Group, Done}
+use Rattle.plain_machine.specs.declared.answer.Reply.TheVariants.{Attached, Queued, Completed, Left, Issued, Finished, Requeued, Group, Done}
 use Rattle.plain_machine.specs.declared.answer.Answer.{Answer}
 use Rattle.plain_machine.specs.declared.answer.Answer.TheVariants.{Accepted, Refused, NotYet}
 use Rattle.plain_machine.specs.declared.sizes.Sizes.{Sizes}
 use Rattle.plain_machine.specs.declared.step.Step.{Step}
-use Rattle.plain_machine.specs.declared.step.Step.TheVariants.{Attach, Submit, Reap, Dispatch, Finish, GroupMake, GroupDrop, SetWeight}
+use Rattle.plain_machine.specs.declared.step.Step.TheVariants.{Attach, Submit, Reap, Leave, Dispatch, Finish, Requeue, GroupMake, GroupDrop, SetWeight, Freeze, Thaw, Switch, Tick}
 
 -- blk-mq: what the queue was made for: the sectors of its image, its requests (`nr_requests`) and the tags of its device; the scheduler
--- that it begins with; bfq: the budget of a new queue and the greatest one; the virtual time at which all begins (our profile)
+-- that it begins with; bfq: the budget of a new queue and the greatest one; for how many ticks a queue may be in service; the virtual time
+-- at which all begins (our profile)
 pub record Limits : Type 0 where
   pub sectors : ℕ
   pub requests : ℕ
@@ -48,6 +49,7 @@ pub record Limits : Type 0 where
   pub scheduler : Scheduler
   pub first_budget : ℕ
   pub max_budget : ℕ
+  pub timeout : ℕ
   pub first_vtime : ℕ
 
 -- bfq before the first step: the root alone, without a member; a group's budget is always the greatest one (our profile)
@@ -66,8 +68,10 @@ opening l = record {
   overlay = blocks.empty;
   seat = λ _. None;
   queue = λ _. [];
+  requeued = [];
   outbox = λ _. [];
   flight = λ _. None;
+  frozen = false;
   served = 15;
   head = λ _. 0;
   bfq = opening_bfq l;
@@ -105,13 +109,23 @@ abbrev pub is_session : ℕ → Option Seat → Bool
 is_session session None = false
 is_session session (Some seat) = seat.session == session
 
--- a client's call names a seat that there is, that is taken, and by this session
+-- the session at a seat leaves: it makes no more calls, but some of its requests are not yet completed (our profile)
+abbrev pub is_leaving : Option Seat → Bool
+is_leaving None = false
+is_leaving (Some seat) = seat.leaving
+
+-- there is a session at a seat that makes calls
+abbrev pub has_session : Option Seat → Bool
+has_session None = false
+has_session (Some seat) = not seat.leaving
+
+-- a client's call names a seat that there is, at which there is a session
+abbrev pub session_tests : Plain → ℕ → List (Bool × Answer)
+session_tests m seat = (nat_le 16 seat, Refused BadSeat) ∷ (not (has_session (m.seat seat)), Refused NoSession) ∷ []
+
+-- and this one
 abbrev pub seat_tests : Plain → ℕ → ℕ → List (Bool × Answer)
-seat_tests m seat session =
-    (nat_le 16 seat, Refused BadSeat)
-    ∷ (is_none (m.seat seat), Refused NoSession)
-    ∷ (not (is_session session (m.seat seat)), Refused StaleSession)
-    ∷ []
+seat_tests m seat session = session_tests m seat ++ (not (is_session session (m.seat seat)), Refused StaleSession) ∷ []
 
 -- how many bios the session at a seat has submitted and not yet reaped
 abbrev pub unreaped : Plain → ℕ → ℕ
@@ -135,7 +149,7 @@ prio_weight prio = (8 - prio) * 10
 
 abbrev pub attached : Limits → Plain → ℕ → ℕ → ℕ → ℕ → Plain
 attached l m n seat group prio = record m {
-  seat = put m.seat seat (Some (record { session = n; prio = prio; unreaped = 0 }));
+  seat = put m.seat seat (Some (record { session = n; prio = prio; unreaped = 0; leaving = false }));
   head = put m.head seat 0;
   bfq = record (with_entity l seat group (prio_weight prio) m.bfq) { budget = put m.bfq.budget seat l.first_budget };
 }
@@ -156,12 +170,15 @@ abbrev pub payload_length : Op → ℕ → ℕ
 payload_length Fetch count = 0
 payload_length Store count = 512 * count
 
--- how many requests are queued, and how many in flight
+-- how many requests are queued, how many in flight, and how many there are, with those in the dispatch list
 abbrev pub queued : Plain → ℕ
 queued m = sum (map (λ seat. length (m.queue seat)) seats)
 
 abbrev pub in_flight : Limits → Plain → ℕ
 in_flight l m = count_by (λ tag. is_some (m.flight tag)) (numbers 0 l.tags)
+
+abbrev pub requests_of : Limits → Plain → ℕ
+requests_of l m = queued m + in_flight l m + length m.requeued
 
 -- what a merge asks of a request (our profile)
 abbrev pub shape : WholeRequest → Option Shape
@@ -210,8 +227,9 @@ submit l m n room seat session op range payload = unless (seat_tests m seat sess
     (range.count == 0 || nat_lt 64 range.count, Refused BadCount)
     ∷ (not (length payload == payload_length op range.count), Refused BadLength)
     ∷ (nat_lt l.sectors (range.start + range.count), Refused OutOfRange)
+    ∷ (m.frozen, NotYet Frozen)
     ∷ (nat_le 32 (unreaped m seat), Refused TooManyBios)
-    ∷ (needs_request m seat session op range && nat_le l.requests (queued m + in_flight l m), NotYet RequestsFull)
+    ∷ (needs_request m seat session op range && nat_le l.requests (requests_of l m), NotYet RequestsFull)
     ∷ [])) m
     (accepted_if room m (option_map (λ next. (next, Queued n)) (woken m seat (submitted m n seat session op range payload))))
 
@@ -230,8 +248,60 @@ reap m room seat session = unless (seat_tests m seat session ++ (
     ∷ [])) m
     (reaped room m seat (m.outbox seat))
 
--- Dispatch: a request is sent under the lowest free tag. Scheduler none (blk-mq): the earliest request of the first nonempty queue, in
--- turn from the seat after the last one. Scheduler bfq: the next request of the queue in service.
+-- An entity that is in no group any more.
+abbrev pub without_entity : ℕ → Bfq → Bfq
+without_entity entity b = record b {
+  service = put b.service (group_of b entity) (with_member (b.service (group_of b entity)) entity None);
+  parent = put b.parent entity None;
+}
+
+-- Leave: the session makes no more calls, and its outbox is dropped. Its queued requests still run, and their completions are dropped.
+-- The seat is free, and its entity gone, once no request of the session is left (our profile).
+
+-- the request that a tag bears
+abbrev pub request_at : Plain → ℕ → Option WholeRequest
+request_at m tag = option_map (λ flight. flight.request) (m.flight tag)
+
+-- blk-mq: the requests in flight, in the order of their tags
+abbrev pub flying : Limits → Plain → List WholeRequest
+flying l m = filter_map (request_at m) (numbers 0 l.tags)
+
+-- a request is of this session
+abbrev pub is_of : ℕ → WholeRequest → Bool
+is_of session request = request.session == session
+
+-- the requests of the session at a seat that are queued, in the dispatch list or in flight
+abbrev pub left_of : Limits → Plain → ℕ → ℕ → List WholeRequest
+left_of l m seat session = filter (is_of session) (m.queue seat ++ m.requeued ++ flying l m)
+
+-- a session leaves, and no request of it is left
+abbrev pub is_gone : Limits → Plain → ℕ → Bool
+is_gone l m seat = option_map_or (λ s. s.leaving && is_empty (left_of l m seat s.session)) (m.seat seat) false
+
+-- its seat is free then
+abbrev pub without_gone : Limits → ℕ → Plain → Plain
+without_gone l seat m = if is_gone l m seat then record m { seat = put m.seat seat None; bfq = without_entity seat m.bfq } else m
+
+abbrev pub with_leaving : Seat → Seat
+with_leaving seat = record seat { leaving = true }
+
+-- so many bios of the session at a seat are dropped: it is owed fewer
+abbrev pub owed_fewer : ℕ → ℕ → Plain → Plain
+owed_fewer seat count m = record m { seat = put m.seat seat (option_map (with_unreaped (unreaped m seat - count)) (m.seat seat)) }
+
+abbrev pub left : Limits → Plain → ℕ → Plain
+left l m seat =
+    without_gone l seat (owed_fewer seat (length (m.outbox seat)) (record m {
+      seat = put m.seat seat (option_map with_leaving (m.seat seat));
+      outbox = put m.outbox seat [];
+    }))
+
+abbrev pub leave : Limits → Plain → Bool → ℕ → Outcome_of
+leave l m room seat = unless (session_tests m seat) m (accepted room m (left l m seat) Left)
+
+-- Dispatch: a request is sent under the lowest free tag. The first of the dispatch list, where there is one, at no cost (blk-mq). Else,
+-- scheduler none (blk-mq): the earliest request of the first nonempty queue, in turn from the seat after the last one. Scheduler bfq: the
+-- next request of the queue in service.
 abbrev pub next_queue : Plain → Option ℕ
 next_queue m = find (λ seat. not (is_empty (m.queue seat))) (drop (m.served + 1) seats ++ take (m.served + 1) seats)
 
@@ -262,11 +332,14 @@ next_request m seat = next_of shape (m.queue seat) (m.head seat)
 abbrev pub next_size : Plain → ℕ → ℕ
 next_size m seat = option_map_or (λ request. size_of request.bios) (next_request m seat) 0
 
--- bfq: a queue in service whose budget has no room for its next request expires; it is not empty then
+-- bfq: a queue that has been in service for too many ticks expires, and so does one whose budget has no room for its next request; it is
+-- not empty then
 abbrev pub with_budget_in : Limits → Plain → Option InService → Option Bfq
 with_budget_in l m None = Some m.bfq
 with_budget_in l m (Some slot) =
-    if nat_lt (m.bfq.budget slot.seat) (slot.service + next_size m slot.seat) then expire Exhaustion l.max_budget true m.bfq else Some m.bfq
+    if nat_le l.timeout slot.age then expire Timeout l.max_budget true m.bfq
+    else if nat_lt (m.bfq.budget slot.seat) (slot.service + next_size m slot.seat) then expire Exhaustion l.max_budget true m.bfq
+    else Some m.bfq
 
 -- bfq: where no queue is in service now, one is selected
 abbrev pub with_slot : Bfq → Bfq
@@ -313,8 +386,21 @@ dispatch_to l m n room None tag = (m, Refused NothingQueued)
 dispatch_to l m n room (Some seat) None = (m, Refused NoTag)
 dispatch_to l m n room (Some seat) (Some tag) = sent_by l m n room seat tag m.scheduler
 
+-- blk-mq: the first of the dispatch list goes before all others, with no charge, no move of a head and no turn of a seat
+abbrev pub sent_again : Plain → ℕ → Bool → WholeRequest → List WholeRequest → Option ℕ → Outcome_of
+sent_again m n room request requests None = (m, Refused NoTag)
+sent_again m n room request requests (Some tag) = accepted room m
+    (record m {
+      requeued = requests;
+      flight = put m.flight tag (Some (record { issue = n; request = request }));
+    }) (Issued tag n request.op (range_of request.bios))
+
+abbrev pub dispatch_of : Limits → Plain → ℕ → Bool → List WholeRequest → Outcome_of
+dispatch_of l m n room [] = dispatch_to l m n room (next_queue m) (lowest_free l m)
+dispatch_of l m n room (request ∷ requests) = sent_again m n room request requests (lowest_free l m)
+
 abbrev pub dispatch : Limits → Plain → ℕ → Bool → Outcome_of
-dispatch l m n room = dispatch_to l m n room (next_queue m) (lowest_free l m)
+dispatch l m n room = dispatch_of l m n room m.requeued
 
 -- Finish: every bio of the request gets its result and goes to its session's outbox.
 
@@ -364,28 +450,49 @@ completed outcome overlay [] = []
 completed outcome overlay (bio ∷ bios) =
     record bio { result = Some (result_of outcome overlay bio) } ∷ completed (rest_of_outcome bio.range.count outcome) overlay bios
 
--- the outboxes with these bios at the end of that of the session's seat
-abbrev pub delivered : (ℕ → Option Seat) → (ℕ → List Bio) → ℕ → List Bio → ℕ → List Bio
-delivered seat outbox session bios n = if is_session session (seat n) then outbox n ++ bios else outbox n
+-- the seat of a session
+abbrev pub seat_of : Plain → ℕ → Option ℕ
+seat_of m session = find (λ seat. is_session session (m.seat seat)) seats
 
-abbrev pub finished : Plain → Bool → ℕ → Outcome → WholeRequest → Outcome_of
-finished m room tag outcome request = accepted room m
-    (record m {
-      overlay = after_outcome outcome m.overlay request.bios;
-      outbox = delivered m.seat m.outbox request.session (completed outcome m.overlay request.bios);
-      flight = put m.flight tag None;
-    }) (Finished (length request.bios))
+-- bios go to the end of a seat's outbox; those of a session that leaves are dropped, and the seat is free with the last of its requests
+abbrev pub delivered : Limits → List Bio → Plain → ℕ → Plain
+delivered l bios m seat =
+    if is_leaving (m.seat seat) then without_gone l seat (owed_fewer seat (length bios) m) else record m { outbox = put m.outbox seat (m.outbox seat ++ bios) }
 
-abbrev pub finish_of : Plain → Bool → ℕ → ℕ → Outcome → Option Flight → Outcome_of
-finish_of m room tag issue outcome None = (m, Refused NotInFlight)
-finish_of m room tag issue outcome (Some flight) = unless (
+-- a finished request: what it did to the overlay stays, its tag is free, and its bios go to its session's seat
+abbrev pub after_finish : Limits → Plain → ℕ → Outcome → WholeRequest → Plain
+after_finish l m tag outcome request =
+    let next = record m { overlay = after_outcome outcome m.overlay request.bios; flight = put m.flight tag None } in
+    option_map_or (delivered l (completed outcome m.overlay request.bios) next) (seat_of m request.session) next
+
+abbrev pub finished : Limits → Plain → Bool → ℕ → Outcome → WholeRequest → Outcome_of
+finished l m room tag outcome request = accepted room m (after_finish l m tag outcome request) (Finished (length request.bios))
+
+abbrev pub finish_of : Limits → Plain → Bool → ℕ → ℕ → Outcome → Option Flight → Outcome_of
+finish_of l m room tag issue outcome None = (m, Refused NotInFlight)
+finish_of l m room tag issue outcome (Some flight) = unless (
     (not (flight.issue == issue), Refused NotInFlight)
     ∷ (not (fits flight.request.op (size_of flight.request.bios) outcome), Refused BadOutcome)
     ∷ []) m
-    (finished m room tag outcome flight.request)
+    (finished l m room tag outcome flight.request)
 
 abbrev pub finish : Limits → Plain → Bool → ℕ → ℕ → Outcome → Outcome_of
-finish l m room tag issue outcome = unless ((nat_le l.tags tag, Refused BadTag) ∷ []) m (finish_of m room tag issue outcome (m.flight tag))
+finish l m room tag issue outcome = unless ((nat_le l.tags tag, Refused BadTag) ∷ []) m (finish_of l m room tag issue outcome (m.flight tag))
+
+-- Requeue: the device gives a request back, which goes to the end of the dispatch list (blk-mq).
+abbrev pub requeued : Plain → Bool → ℕ → WholeRequest → Outcome_of
+requeued m room tag request = accepted room m
+    (record m {
+      flight = put m.flight tag None;
+      requeued = m.requeued ++ request ∷ [];
+    }) Requeued
+
+abbrev pub requeue_of : Plain → Bool → ℕ → ℕ → Option Flight → Outcome_of
+requeue_of m room tag issue None = (m, Refused NotInFlight)
+requeue_of m room tag issue (Some flight) = unless ((not (flight.issue == issue), Refused NotInFlight) ∷ []) m (requeued m room tag flight.request)
+
+abbrev pub requeue : Limits → Plain → Bool → ℕ → ℕ → Outcome_of
+requeue l m room tag issue = unless ((nat_le l.tags tag, Refused BadTag) ∷ []) m (requeue_of m room tag issue (m.flight tag))
 
 -- GroupMake: a group comes under its parent, with the lowest number that is free (bfq: groups with weights, in a tree).
 
@@ -423,12 +530,6 @@ is_in group (Some parent) = parent == group
 abbrev pub is_used : Bfq → ℕ → Bool
 is_used b group = is_some (find (λ entity. is_in group (b.parent entity)) (numbers 0 48))
 
-abbrev pub without_entity : ℕ → Bfq → Bfq
-without_entity entity b = record b {
-  service = put b.service (group_of b entity) (with_member (b.service (group_of b entity)) entity None);
-  parent = put b.parent entity None;
-}
-
 abbrev pub group_drop : Plain → Bool → ℕ → Outcome_of
 group_drop m room group = unless (group_tests m group ++ (
     (is_used m.bfq group, Refused GroupInUse)
@@ -442,16 +543,91 @@ set_weight m room group weight = unless (group_tests m group ++ (
     ∷ [])) m
     (accepted room m (record m { bfq = record m.bfq { pending = put m.bfq.pending (entity_of group) weight } }) Done)
 
+-- Freeze and Thaw: submits wait, and wait no longer (blk-mq: a frozen queue takes no new request).
+abbrev pub freeze : Plain → Bool → Outcome_of
+freeze m room = unless ((m.frozen, Refused AlreadyFrozen) ∷ []) m (accepted room m (record m { frozen = true }) Done)
+
+abbrev pub thaw : Plain → Bool → Outcome_of
+thaw m room = unless ((not m.frozen, Refused NotFrozen) ∷ []) m (accepted room m (record m { frozen = false }) Done)
+
+-- Switch: a frozen host without any request gets another scheduler (blk-mq: the queue is frozen and drained before its scheduler is
+-- switched). The round robin begins again at seat 0, and every head at sector 0; under bfq every virtual time, the times of every entity in
+-- a group, and the budget of every session begin again too (our profile).
+
+-- of an entity that is in a group the times
+abbrev pub with_first_times : Limits → Bfq → ℕ → Bfq
+with_first_times l b entity =
+    if is_some (b.parent entity)
+    then put_member (group_of b entity) entity (record (member_of b entity) { start = l.first_vtime; finish = l.first_vtime }) b
+    else b
+
+-- of a group the virtual time
+abbrev pub with_first_vtime : Limits → Bfq → ℕ → Bfq
+with_first_vtime l b group = put_vtime group l.first_vtime b
+
+-- this for one number after the other
+abbrev pub for_each : (Bfq → ℕ → Bfq) → Bfq → List ℕ → Bfq
+for_each change b [] = b
+for_each change b (number ∷ rest) = for_each change (change b number) rest
+
+-- the budget of a session
+abbrev pub with_first_budgets : Limits → Bfq → Bfq
+with_first_budgets l b = record b { budget = λ entity. if nat_lt entity 16 then l.first_budget else b.budget entity }
+
+abbrev pub begun_again : Limits → Scheduler → Bfq → Bfq
+begun_again l PlainScheduler b = b
+begun_again l BfqScheduler b =
+    with_first_budgets l (for_each (with_first_times l) (for_each (with_first_vtime l) b (numbers 0 32)) (numbers 0 48))
+
+abbrev pub switched : Limits → Plain → Scheduler → Plain
+switched l m scheduler = record m {
+  scheduler = scheduler;
+  served = 15;
+  head = λ _. 0;
+  bfq = begun_again l scheduler m.bfq;
+}
+
+abbrev pub is_same : Scheduler → Scheduler → Bool
+is_same PlainScheduler PlainScheduler = true
+is_same PlainScheduler BfqScheduler = false
+is_same BfqScheduler PlainScheduler = false
+is_same BfqScheduler BfqScheduler = true
+
+abbrev pub switch : Limits → Plain → Bool → Scheduler → Outcome_of
+switch l m room scheduler = unless (
+    (not m.frozen, Refused NotFrozen)
+    ∷ (nat_lt 0 (requests_of l m), Refused NotDrained)
+    ∷ (is_same scheduler m.scheduler, Refused SameScheduler)
+    ∷ []) m
+    (accepted room m (switched l m scheduler) Done)
+
+-- Tick: the queue in service is one tick older (our profile: time is calls).
+abbrev pub older : InService → InService
+older slot = record slot { age = slot.age + 1 }
+
+abbrev pub ticked : Plain → Bool → Option InService → Outcome_of
+ticked m room None = (m, Refused NoneInService)
+ticked m room (Some slot) = accepted room m (record m { bfq = record m.bfq { slot = Some (older slot) } }) Done
+
+abbrev pub tick : Plain → Bool → Outcome_of
+tick m room = ticked m room m.bfq.slot
+
 -- a step with its serial, on a machine with or without room in its history
 abbrev pub step : Limits → Plain → ℕ → Bool → Step → Outcome_of
 step l m n room (Attach seat group prio) = attach l m n room seat group prio
 step l m n room (Submit seat session op range payload) = submit l m n room seat session op range payload
 step l m n room (Reap seat session) = reap m room seat session
+step l m n room (Leave seat why) = leave l m room seat
 step l m n room Dispatch = dispatch l m n room
 step l m n room (Finish tag issue outcome) = finish l m room tag issue outcome
+step l m n room (Requeue tag issue) = requeue l m room tag issue
 step l m n room (GroupMake parent weight) = group_make l m room parent weight
 step l m n room (GroupDrop group) = group_drop m room group
 step l m n room (SetWeight group weight) = set_weight m room group weight
+step l m n room Freeze = freeze m room
+step l m n room Thaw = thaw m room
+step l m n room (Switch scheduler) = switch l m room scheduler
+step l m n room Tick = tick m room
 
 -- What a step may be answered: the plain step's answer; or want of memory, with no change, where the plain step accepts or finds a time
 -- too great.
@@ -480,5 +656,6 @@ of_sizes sizes = record {
   scheduler = sizes.scheduler;
   first_budget = sizes.first_budget;
   max_budget = sizes.max_budget;
+  timeout = sizes.timeout;
   first_vtime = sizes.first_vtime;
 }

@@ -24,9 +24,10 @@ pub record IsWhole (request : WholeRequest) : Type 0 where
   pub each : All HasSectors request.bios
   pub in_order : AreInOrder (range_of request.bios).start request.bios
 
--- so is each request that is queued or in flight
+-- so is each request that is queued, in the dispatch list or in flight
 pub record AreWhole (m : Plain) : Type 0 where
   pub queued : (seat : ℕ) → All IsWhole (m.queue seat)
+  pub requeued : All IsWhole m.requeued
   pub flying : (tag : ℕ) (flight : Flight) → m.flight tag ≡ Some flight → IsWhole flight.request
 
 -- every step leaves them so

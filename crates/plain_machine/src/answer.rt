@@ -6,9 +6,9 @@ use sector_core::{BioResult, Op, Range};
 pub enum Code {
     /// There is no such seat.
     BadSeat,
-    /// Somebody sits there.
+    /// The seat is taken.
     SeatTaken,
-    /// Nobody sits there.
+    /// No session there makes calls.
     NoSession,
     /// Another session sits there.
     StaleSession,
@@ -83,7 +83,7 @@ pub enum Cause {
     Held,
     /// The host is frozen.
     Frozen,
-    /// Every request is queued or in flight.
+    /// Every request is queued, in the dispatch list or in flight.
     RequestsFull,
     /// No bio of the session is completed.
     NotCompleted,

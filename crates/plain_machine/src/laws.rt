@@ -8,7 +8,8 @@ ghost use Rattle.plain_machine.specs.declared.call.Call.{Call};
 ghost use Rattle.std.specs.Prelude.{ℕ, List};
 
 /// On the machine of every keeper that a journal makes, the counter `unreaped` of a seat is the number of bios that its
-/// session has queued, in flight, and completed but not yet reaped. The body is empty: the contract is the law.
+/// session has queued, in the dispatch list, in flight, and completed but not yet reaped; so it is while the session leaves.
+/// The body is empty: the contract is the law.
 pub fn unreaped_is_owed()
     ensures { (l : Limits) (most : ℕ) (journal : List Call) → UnreapedIsOwed l most journal }
 {}
@@ -24,8 +25,8 @@ pub fn requests_are_whole()
     ensures { (l : Limits) (most : ℕ) (journal : List Call) → RequestsAreWhole l most journal }
 {}
 
-/// B-WF2Q+: virtual time is monotonic. No step makes the virtual time of a group less that stands before and after it. The
-/// body is empty: the contract is the law.
+/// B-WF2Q+: virtual time is monotonic. No step but a switch of the scheduler makes the virtual time of a group less that
+/// stands before and after it. The body is empty: the contract is the law.
 pub fn vtimes_never_fall()
     ensures { (l : Limits) (m : Plain) → KeepsVtimes l m }
 {}

@@ -9,9 +9,9 @@
 //! | call | rule that it meets |
 //! |---|---|
 //! | [`Code::number`], [`Cause::number`] | the numbers that a client reads |
-//! | [`unreaped_is_owed`] | the law of the seats' running counters |
+//! | [`unreaped_is_owed`] | the law of the seats' running counters: the bios queued, in the dispatch list, in flight and in the outbox |
 //! | [`requests_are_whole`], [`requests_stay_whole`] | the law of requests: 1 to 32 adjacent bios, at most 256 sectors |
-//! | [`vtimes_never_fall`] | the law of virtual times: no group's falls |
+//! | [`vtimes_never_fall`] | the law of virtual times: no group's falls, but at a switch of the scheduler |
 
 mod answer;
 mod call;
@@ -24,5 +24,5 @@ pub use answer::{Answer, Cause, Code, Reply, Work};
 pub use call::{Call, Stamped};
 pub use laws::{requests_are_whole, requests_stay_whole, unreaped_is_owed, vtimes_never_fall};
 pub use sizes::Sizes;
-pub use step::Step;
+pub use step::{Step, Why};
 pub use view::{EntityView, RequestView};

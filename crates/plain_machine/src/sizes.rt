@@ -6,7 +6,7 @@ use sector_core::Scheduler;
 pub struct Sizes {
     /// The sectors of its image.
     pub sectors: u64,
-    /// How many requests may be queued or in flight.
+    /// How many requests may be queued, in the dispatch list or in flight.
     pub requests: u16,
     /// How many tags the device has.
     pub tags: u8,
@@ -16,6 +16,8 @@ pub struct Sizes {
     pub first_budget: u32,
     /// The greatest budget in sectors.
     pub max_budget: u32,
+    /// How many ticks a queue may be in service.
+    pub timeout: u32,
     /// The virtual time at which every group starts.
     pub first_vtime: u64,
 }

@@ -1,8 +1,23 @@
 // The steps of the machine.
 use bytes::Bytes;
-use sector_core::{Op, Outcome, Range};
+use sector_core::{Op, Outcome, Range, Scheduler};
 
-/// A step: what a client, the dispatcher or a device does to the machine.
+/// Why a session leaves.
+#[derive(Clone, Copy, Debug, PartialEq, Eq)]
+pub enum Why {
+    /// Its client has said so, or has sent all that it had to.
+    Ended,
+    /// Its client could not be read.
+    ReadFault,
+    /// Its client could not be written to.
+    WriteFault,
+    /// Its client has sent what is no call.
+    BadFrame,
+    /// Its client has made as many calls as it may.
+    FrameLimit,
+}
+
+/// A step: what a client, the dispatcher, a device or the operator does to the machine.
 #[derive(Clone, Debug, Drop)]
 pub enum Step {
     /// A session begins at a seat.
@@ -24,6 +39,11 @@ pub enum Step {
         seat: u8,
         session: u64,
     },
+    /// A session leaves its seat, which is free once no request of it is left.
+    Leave {
+        seat: u8,
+        why: Why,
+    },
     /// The next request is sent to the device.
     Dispatch,
     /// The device has finished a request.
@@ -31,6 +51,11 @@ pub enum Step {
         tag: u8,
         issue: u64,
         outcome: Outcome,
+    },
+    /// The device gives a request back.
+    Requeue {
+        tag: u8,
+        issue: u64,
     },
     /// A group comes under its parent.
     GroupMake {
@@ -46,4 +71,14 @@ pub enum Step {
         group: u8,
         weight: u16,
     },
+    /// From now on submits wait.
+    Freeze,
+    /// Submits wait no longer.
+    Thaw,
+    /// A frozen host without a request gets this scheduler.
+    Switch {
+        scheduler: Scheduler,
+    },
+    /// The queue in service grows older.
+    Tick,
 }

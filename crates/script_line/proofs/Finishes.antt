@@ -18,7 +18,7 @@ pub only_finish : (text : List ℕ)
 only_finish text none (Finish tag issue e) fits same =
     let after : numbers (tag ∷ issue ∷ []) ++ ended e ≡ text = cc in
     none tag issue e fits.0 fits.1 fits.2 (sym after ∙ two_numbers tag issue (ended e))
-only_finish text none _ fits same = omega (arith, ap (λ xs. get_or xs 0 0) same)
+only_finish text none _ fits same = omega (arith, ap (λ xs. get_or xs 0 0) same, ap (λ xs. get_or xs 1 0) same)
 
 pub IsTail-ended : (e : Ending) → IsTail (ended e)
 IsTail-ended Stored = refl

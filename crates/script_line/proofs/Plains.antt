@@ -1,13 +1,15 @@
--- Each line is a word and numbers, or begins with the word `finish`.
+-- Each line is a word and numbers, or begins with the word `finish` or `switch`.
 use Rattle.std.proofs.Common.{◌≡◌, ℕ, ◌≤◌, ◌⊎◌, inl, inr, List, [], ◌∷◌, ◌++◌, codes, length, refl, sym, ◌∙◌, arith, rules, lit≤}
 use Rattle.std.specs.Fmt.{decimal}
 use Rattle.script_line.specs.Words.{IsTail, HasNoSpace, AreNumbers, numbers}
-use Rattle.script_line.specs.Line.{spelled, ended, Fits}
+use Rattle.script_line.specs.Line.{spelled, ended, named, Fits}
 use Rattle.script_line.specs.Plain.{IsWordAndNumbers, Reads}
 use Rattle.std.specs.Prelude.{Option, None, Some, IfNone}
 use Rattle.script_line.specs.declared.line.Line.{Line}
 use Rattle.script_line.specs.declared.line.Ending.{Ending}
-use Rattle.script_line.specs.declared.line.Line.TheVariants.{Attach, Read, Write, Reap, Dispatch, Finish, Hold, Release, Undo, Redo, Group, Drop, Weight, Sector, Queue, Cursor, Vtime, Entity}
+use Rattle.sector_core.specs.declared.config.Scheduler.{Scheduler}
+use Rattle.sector_core.specs.declared.config.Scheduler.TheVariants.{Plain, Bfq}
+use Rattle.script_line.specs.declared.line.Line.TheVariants.{Attach, Read, Write, Reap, Leave, Dispatch, Finish, Requeue, Hold, Release, Undo, Redo, Group, Drop, Weight, Freeze, Thaw, Switch, Tick, Sector, Queue, Cursor, Vtime, Entity}
 use Rattle.script_line.proofs.Cuts.{one_number, one_cut, IsTail-numbers}
 
 pub record IsPlain (word given : List ℕ) (l : Line) : Type 0 where
@@ -17,18 +19,34 @@ pub record IsPlain (word given : List ℕ) (l : Line) : Type 0 where
   pub few : length given ≤ 5
   pub is : (w ns : List ℕ) → w ≡ word → ns ≡ given → IsWordAndNumbers w ns l
 
--- a line of a word and numbers, or one that begins with `finish`
+-- a `finish` line or a `switch` line
+abbrev pub IsOther : Line → Type 0
+IsOther l = ((tag : ℕ) × (issue : ℕ) × (e : Ending) × (l ≡ Finish tag issue e)) ⊎ ((s : Scheduler) × (l ≡ Switch s))
+
+pub record IsLed (word rest : List ℕ) (l : Line) : Type 0 where
+  pub spelling : spelled l ≡ word ++ rest
+  pub space : HasNoSpace word
+  pub tail : IsTail rest
+  pub known : (word ≡ codes "finish") ⊎ (word ≡ codes "switch")
+  pub other : IsOther l
+
+-- a line of a word and numbers, or one that begins with `finish` or `switch`
 abbrev pub Parts : Line → Type 0
-Parts l = ((word : List ℕ) × (given : List ℕ) × IsPlain word given l) ⊎ ((rest : List ℕ) × (spelled l ≡ codes "finish" ++ rest) × IsTail rest
-    × ((tag : ℕ) × (issue : ℕ) × (e : Ending) × (l ≡ Finish tag issue e)))
+Parts l = ((word : List ℕ) × (given : List ℕ) × IsPlain word given l) ⊎ ((word : List ℕ) × (rest : List ℕ) × IsLed word rest l)
+
+IsTail-named : (s : Scheduler) → IsTail (named s)
+IsTail-named Plain = refl
+IsTail-named Bfq = refl
 
 pub parts : (l : Line) → Fits l → Parts l
 parts (Attach s g p) f = inl (codes "attach", s ∷ g ∷ p ∷ [], record { spelling = refl; space = search rules; fits = (omega arith, (omega arith, (omega arith, tt))); few = lit≤ tt; is = λ w ns e d. (e, d) })
 parts (Read s n a c) f = inl (codes "read", s ∷ n ∷ a ∷ c ∷ [], record { spelling = refl; space = search rules; fits = (omega arith, (f.1, (f.2, (omega arith, tt)))); few = lit≤ tt; is = λ w ns e d. (e, d) })
 parts (Write s n a c b) f = inl (codes "write", s ∷ n ∷ a ∷ c ∷ b ∷ [], record { spelling = refl; space = search rules; fits = (omega arith, (f.1, (f.2, (omega arith, (omega arith, tt))))); few = lit≤ tt; is = λ w ns e d. (e, d) })
 parts (Reap s n) f = inl (codes "reap", s ∷ n ∷ [], record { spelling = refl; space = search rules; fits = (omega arith, (f.1, tt)); few = lit≤ tt; is = λ w ns e d. (e, d) })
+parts (Leave s) f = inl (codes "leave", s ∷ [], record { spelling = refl; space = search rules; fits = (omega arith, tt); few = lit≤ tt; is = λ w ns e d. (e, d) })
 parts Dispatch f = inl (codes "dispatch", [], record { spelling = refl; space = search rules; fits = tt; few = lit≤ tt; is = λ w ns e d. (e, d) })
-parts (Finish t i e) f = inr (numbers (t ∷ i ∷ []) ++ ended e, refl, refl, (t, i, e, refl))
+parts (Finish t i e) f = inr (codes "finish", numbers (t ∷ i ∷ []) ++ ended e, record { spelling = refl; space = search rules; tail = refl; known = inl refl; other = inl (t, i, e, refl) })
+parts (Requeue t i) f = inl (codes "requeue", t ∷ i ∷ [], record { spelling = refl; space = search rules; fits = (omega arith, (f.1, tt)); few = lit≤ tt; is = λ w ns e d. (e, d) })
 parts Hold f = inl (codes "hold", [], record { spelling = refl; space = search rules; fits = tt; few = lit≤ tt; is = λ w ns e d. (e, d) })
 parts Release f = inl (codes "release", [], record { spelling = refl; space = search rules; fits = tt; few = lit≤ tt; is = λ w ns e d. (e, d) })
 parts (Undo k) f = inl (codes "undo", k ∷ [], record { spelling = refl; space = search rules; fits = (omega arith, tt); few = lit≤ tt; is = λ w ns e d. (e, d) })
@@ -36,6 +54,10 @@ parts (Redo k) f = inl (codes "redo", k ∷ [], record { spelling = refl; space 
 parts (Group g w) f = inl (codes "group", g ∷ w ∷ [], record { spelling = refl; space = search rules; fits = (omega arith, (omega arith, tt)); few = lit≤ tt; is = λ w ns e d. (e, d) })
 parts (Drop g) f = inl (codes "drop", g ∷ [], record { spelling = refl; space = search rules; fits = (omega arith, tt); few = lit≤ tt; is = λ w ns e d. (e, d) })
 parts (Weight g w) f = inl (codes "weight", g ∷ w ∷ [], record { spelling = refl; space = search rules; fits = (omega arith, (omega arith, tt)); few = lit≤ tt; is = λ w ns e d. (e, d) })
+parts Freeze f = inl (codes "freeze", [], record { spelling = refl; space = search rules; fits = tt; few = lit≤ tt; is = λ w ns e d. (e, d) })
+parts Thaw f = inl (codes "thaw", [], record { spelling = refl; space = search rules; fits = tt; few = lit≤ tt; is = λ w ns e d. (e, d) })
+parts (Switch s) f = inr (codes "switch", named s, record { spelling = refl; space = search rules; tail = IsTail-named s; known = inr refl; other = inr (s, refl) })
+parts Tick f = inl (codes "tick", [], record { spelling = refl; space = search rules; fits = tt; few = lit≤ tt; is = λ w ns e d. (e, d) })
 parts (Sector n) f = inl (codes "sector", n ∷ [], record { spelling = refl; space = search rules; fits = (f, tt); few = lit≤ tt; is = λ w ns e d. (e, d) })
 parts (Queue s) f = inl (codes "queue", s ∷ [], record { spelling = refl; space = search rules; fits = (omega arith, tt); few = lit≤ tt; is = λ w ns e d. (e, d) })
 parts Cursor f = inl (codes "line", [], record { spelling = refl; space = search rules; fits = tt; few = lit≤ tt; is = λ w ns e d. (e, d) })
@@ -53,35 +75,43 @@ one_numbers (x ∷ xs) (y ∷ ys) hx hy e =
     let rest : xs ≡ ys = one_numbers xs ys hx.1 hy.1 both.1 in
     cc
 
--- a text cut into a word that is not `finish` and numbers is no line, where no line is that word and these numbers
-pub no_plain : (text word rest given : List ℕ) → text ≡ word ++ rest → HasNoSpace word → IsTail rest → (word ≡ codes "finish" → ⊥)
+-- a text cut into a word that is not `finish` or `switch` and numbers is no line, where no line is that word and these numbers
+pub no_plain : (text word rest given : List ℕ) → text ≡ word ++ rest → HasNoSpace word → IsTail rest → (word ≡ codes "finish" → ⊥) → (word ≡ codes "switch" → ⊥)
     → AreNumbers given → rest ≡ numbers given
     → ((l : Line) → Fits l → IsWordAndNumbers word given l → ⊥)
     → (l : Line) → Fits l → text ≡ spelled l → ⊥
-no_plain text word rest given whole hw hr other hg is none l fits e =
+no_plain text word rest given whole hw hr finish switch hg is none l fits e =
     elim (parts l fits) [
       | inl p ↦
           let same : word ++ rest ≡ p.0 ++ numbers p.1 = sym whole ∙ e ∙ p.2.spelling in
           let cuts = one_cut word p.0 rest (numbers p.1) hw p.2.space hr (IsTail-numbers p.1) same in
           none l fits (p.2.is word given cuts.0 (one_numbers given p.1 hg p.2.fits (sym is ∙ cuts.1)))
       | inr p ↦
-          let same : word ++ rest ≡ codes "finish" ++ p.0 = sym whole ∙ e ∙ p.1 in
-          other (one_cut word (codes "finish") rest p.0 hw (search rules) hr p.2 same).0
+          let same : word ++ rest ≡ p.0 ++ p.1 = sym whole ∙ e ∙ p.2.spelling in
+          let word_is = (one_cut word p.0 rest p.1 hw p.2.space hr p.2.tail same).0 in
+          elim p.2.known [
+            | inl k ↦ finish (word_is ∙ k)
+            | inr k ↦ switch (word_is ∙ k)
+          ]
     ]
 
--- a text cut into a word that is not `finish` and what are no numbers is no line
-pub no_numbers : (text word rest : List ℕ) → text ≡ word ++ rest → HasNoSpace word → IsTail rest → (word ≡ codes "finish" → ⊥)
+-- a text cut into a word that is not `finish` or `switch` and what are no numbers is no line
+pub no_numbers : (text word rest : List ℕ) → text ≡ word ++ rest → HasNoSpace word → IsTail rest → (word ≡ codes "finish" → ⊥) → (word ≡ codes "switch" → ⊥)
     → ((ns : List ℕ) → AreNumbers ns → length ns ≤ 5 → rest ≡ numbers ns → ⊥)
     → (l : Line) → Fits l → text ≡ spelled l → ⊥
-no_numbers text word rest whole hw hr other none l fits e =
+no_numbers text word rest whole hw hr finish switch none l fits e =
     elim (parts l fits) [
       | inl p ↦
           let same : word ++ rest ≡ p.0 ++ numbers p.1 = sym whole ∙ e ∙ p.2.spelling in
           let cuts = one_cut word p.0 rest (numbers p.1) hw p.2.space hr (IsTail-numbers p.1) same in
           none p.1 p.2.fits p.2.few cuts.1
       | inr p ↦
-          let same : word ++ rest ≡ codes "finish" ++ p.0 = sym whole ∙ e ∙ p.1 in
-          other (one_cut word (codes "finish") rest p.0 hw (search rules) hr p.2 same).0
+          let same : word ++ rest ≡ p.0 ++ p.1 = sym whole ∙ e ∙ p.2.spelling in
+          let word_is = (one_cut word p.0 rest p.1 hw p.2.space hr p.2.tail same).0 in
+          elim p.2.known [
+            | inl k ↦ finish (word_is ∙ k)
+            | inr k ↦ switch (word_is ∙ k)
+          ]
     ]
 
 pub none_read : {Q : Type 0} (word given : List ℕ) (found : Option Line) → Reads word given found

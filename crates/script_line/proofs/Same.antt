@@ -1,16 +1,18 @@
 -- Two lines that are spelled alike are equal.
-use Rattle.std.proofs.Common.{◌≡◌, ℕ, ◌+◌, ◌*◌, List, [], ◌∷◌, ◌++◌, codes, refl, sym, ap, subst, ◌∙◌, arith, rules, inl, inr, take}
+use Rattle.std.proofs.Common.{◌≡◌, ℕ, ◌+◌, ◌*◌, List, [], ◌∷◌, ◌++◌, codes, refl, sym, ap, subst, ◌∙◌, arith, ◌⊎◌, inl, inr, take, get_or}
 use Rattle.script_line.specs.Words.{numbers}
 use Rattle.script_line.specs.Line.{spelled, ended, Fits, EndingFits}
 use Rattle.script_line.specs.Plain.{IsWordAndNumbers}
 use Rattle.script_line.specs.declared.line.Line.{Line}
-use Rattle.script_line.specs.declared.line.Line.TheVariants.{Attach, Read, Write, Reap, Dispatch, Finish, Hold, Release, Undo, Redo, Group, Drop, Weight, Sector, Queue, Cursor, Vtime, Entity}
+use Rattle.script_line.specs.declared.line.Line.TheVariants.{Attach, Read, Write, Reap, Leave, Dispatch, Finish, Requeue, Hold, Release, Undo, Redo, Group, Drop, Weight, Freeze, Thaw, Switch, Tick, Sector, Queue, Cursor, Vtime, Entity}
 use Rattle.script_line.specs.declared.line.Ending.{Ending}
 use Rattle.script_line.specs.declared.line.Ending.TheVariants.{Stored, Fill, Short, Fault}
+use Rattle.sector_core.specs.declared.config.Scheduler.{Scheduler}
+use Rattle.sector_core.specs.declared.config.Scheduler.TheVariants.{Plain, Bfq}
 use Rattle.script_line.proofs.Cuts.{one_cut, IsTail-numbers}
 use Rattle.std.specs.Fmt.{decimal}
 use Rattle.script_line.proofs.Finishes.{first_number, two_numbers, IsTail-ended}
-use Rattle.script_line.proofs.Plains.{parts, one_numbers}
+use Rattle.script_line.proofs.Plains.{IsOther, parts, one_numbers}
 
 -- a number that differs from word to word
 abbrev mark : List ℕ → ℕ
@@ -22,8 +24,10 @@ word_of (Attach s g p) = codes "attach"
 word_of (Read s n a c) = codes "read"
 word_of (Write s n a c b) = codes "write"
 word_of (Reap s n) = codes "reap"
+word_of (Leave s) = codes "leave"
 word_of Dispatch = codes "dispatch"
 word_of (Finish t i e) = codes "finish"
+word_of (Requeue t i) = codes "requeue"
 word_of Hold = codes "hold"
 word_of Release = codes "release"
 word_of (Undo k) = codes "undo"
@@ -31,6 +35,10 @@ word_of (Redo k) = codes "redo"
 word_of (Group p w) = codes "group"
 word_of (Drop g) = codes "drop"
 word_of (Weight g w) = codes "weight"
+word_of Freeze = codes "freeze"
+word_of Thaw = codes "thaw"
+word_of (Switch s) = codes "switch"
+word_of Tick = codes "tick"
 word_of (Sector n) = codes "sector"
 word_of (Queue s) = codes "queue"
 word_of Cursor = codes "line"
@@ -39,11 +47,15 @@ word_of (Entity n) = codes "entity"
 
 word_is : (w ns : List ℕ) (l : Line) → IsWordAndNumbers w ns l → w ≡ word_of l
 word_is w ns (Finish t i e) h = absurd h
+word_is w ns (Switch s) h = absurd h
 word_is w ns _ h = h.0
 
-not_finish : (w ns : List ℕ) (l : Line) → IsWordAndNumbers w ns l → w ≡ codes "finish" → ⊥
-not_finish w ns (Finish t i e) h k = h
-not_finish w ns _ h k = omega (arith, ap mark (sym h.0 ∙ k))
+-- a line that is a word and numbers begins with neither `finish` nor `switch`
+not_led : (w ns : List ℕ) (l : Line) → IsWordAndNumbers w ns l → (w ≡ codes "finish") ⊎ (w ≡ codes "switch") → ⊥
+not_led w ns (Finish t i e) h k = h
+not_led w ns (Switch s) h k = h
+not_led w ns _ h (inl k) = omega (arith, ap mark (sym h.0 ∙ k))
+not_led w ns _ h (inr k) = omega (arith, ap mark (sym h.0 ∙ k))
 
 one_plain : (w ns : List ℕ) (l m : Line) → IsWordAndNumbers w ns l → IsWordAndNumbers w ns m → l ≡ m
 one_plain w ns (Attach s g p) (Attach s' g' p') one two = let same : s ∷ g ∷ p ∷ [] ≡ s' ∷ g' ∷ p' ∷ [] = sym one.1 ∙ two.1 in cc
@@ -54,9 +66,13 @@ one_plain w ns (Write s n a c b) (Write s' n' a' c' b') one two = let same : s �
 one_plain w ns (Write s n a c b) m one two = absurd (omega (arith, ap mark (sym one.0 ∙ word_is w ns m two)))
 one_plain w ns (Reap s n) (Reap s' n') one two = let same : s ∷ n ∷ [] ≡ s' ∷ n' ∷ [] = sym one.1 ∙ two.1 in cc
 one_plain w ns (Reap s n) m one two = absurd (omega (arith, ap mark (sym one.0 ∙ word_is w ns m two)))
+one_plain w ns (Leave s) (Leave s') one two = let same : s ∷ [] ≡ s' ∷ [] = sym one.1 ∙ two.1 in cc
+one_plain w ns (Leave s) m one two = absurd (omega (arith, ap mark (sym one.0 ∙ word_is w ns m two)))
 one_plain w ns Dispatch Dispatch one two = refl
 one_plain w ns Dispatch m one two = absurd (omega (arith, ap mark (sym one.0 ∙ word_is w ns m two)))
 one_plain w ns (Finish t i e) m one two = absurd one
+one_plain w ns (Requeue t i) (Requeue t' i') one two = let same : t ∷ i ∷ [] ≡ t' ∷ i' ∷ [] = sym one.1 ∙ two.1 in cc
+one_plain w ns (Requeue t i) m one two = absurd (omega (arith, ap mark (sym one.0 ∙ word_is w ns m two)))
 one_plain w ns Hold Hold one two = refl
 one_plain w ns Hold m one two = absurd (omega (arith, ap mark (sym one.0 ∙ word_is w ns m two)))
 one_plain w ns Release Release one two = refl
@@ -71,6 +87,13 @@ one_plain w ns (Drop g) (Drop g') one two = let same : g ∷ [] ≡ g' ∷ [] = 
 one_plain w ns (Drop g) m one two = absurd (omega (arith, ap mark (sym one.0 ∙ word_is w ns m two)))
 one_plain w ns (Weight g n) (Weight g' n') one two = let same : g ∷ n ∷ [] ≡ g' ∷ n' ∷ [] = sym one.1 ∙ two.1 in cc
 one_plain w ns (Weight g n) m one two = absurd (omega (arith, ap mark (sym one.0 ∙ word_is w ns m two)))
+one_plain w ns Freeze Freeze one two = refl
+one_plain w ns Freeze m one two = absurd (omega (arith, ap mark (sym one.0 ∙ word_is w ns m two)))
+one_plain w ns Thaw Thaw one two = refl
+one_plain w ns Thaw m one two = absurd (omega (arith, ap mark (sym one.0 ∙ word_is w ns m two)))
+one_plain w ns (Switch s) m one two = absurd one
+one_plain w ns Tick Tick one two = refl
+one_plain w ns Tick m one two = absurd (omega (arith, ap mark (sym one.0 ∙ word_is w ns m two)))
 one_plain w ns (Sector n) (Sector n') one two = let same : n ∷ [] ≡ n' ∷ [] = sym one.1 ∙ two.1 in cc
 one_plain w ns (Sector n) m one two = absurd (omega (arith, ap mark (sym one.0 ∙ word_is w ns m two)))
 one_plain w ns (Queue s) (Queue s') one two = let same : s ∷ [] ≡ s' ∷ [] = sym one.1 ∙ two.1 in cc
@@ -108,6 +131,28 @@ one_finish t i e u j f h k same =
     let issue : i ≡ j = second.0 in
     cc
 
+one_scheduler : (s t : Scheduler) → spelled (Switch s) ≡ spelled (Switch t) → Switch s ≡ Switch t
+one_scheduler Plain Plain h = refl
+one_scheduler Bfq Bfq h = refl
+one_scheduler Plain Bfq h = absurd (omega (arith, ap (λ xs. get_or xs 7 0) h))
+one_scheduler Bfq Plain h = absurd (omega (arith, ap (λ xs. get_or xs 7 0) h))
+
+-- two lines that begin with `finish` or `switch` and are spelled alike are equal
+one_other : (l m : Line) → IsOther l → IsOther m → Fits l → Fits m → spelled l ≡ spelled m → l ≡ m
+one_other l m (inl a) (inl b) f g same =
+    let F : Line → Type 0 = λ x. Fits x in
+    let both : spelled (Finish a.0 a.1 a.2) ≡ spelled (Finish b.0 b.1 b.2) = ap spelled (sym a.3) ∙ same ∙ ap spelled b.3 in
+    a.3 ∙ one_finish a.0 a.1 a.2 b.0 b.1 b.2 (subst F a.3 f) (subst F b.3 g) both ∙ sym b.3
+one_other l m (inl a) (inr b) f g same =
+    let both : spelled (Finish a.0 a.1 a.2) ≡ spelled (Switch b.0) = ap spelled (sym a.3) ∙ same ∙ ap spelled b.1 in
+    absurd (omega (arith, ap (λ xs. get_or xs 0 0) both))
+one_other l m (inr a) (inl b) f g same =
+    let both : spelled (Switch a.0) ≡ spelled (Finish b.0 b.1 b.2) = ap spelled (sym a.1) ∙ same ∙ ap spelled b.3 in
+    absurd (omega (arith, ap (λ xs. get_or xs 0 0) both))
+one_other l m (inr a) (inr b) f g same =
+    let both : spelled (Switch a.0) ≡ spelled (Switch b.0) = ap spelled (sym a.1) ∙ same ∙ ap spelled b.1 in
+    a.1 ∙ one_scheduler a.0 b.0 both ∙ sym b.1
+
 pub one_spelling : (l m : Line) → Fits l → Fits m → spelled l ≡ spelled m → l ≡ m
 one_spelling l m f g same =
     elim (parts l f) [
@@ -117,20 +162,15 @@ one_spelling l m f g same =
             let cuts = one_cut p.0 q.0 (numbers p.1) (numbers q.1) p.2.space q.2.space (IsTail-numbers p.1) (IsTail-numbers q.1) both in
             one_plain p.0 p.1 l m (p.2.is p.0 p.1 refl refl) (q.2.is p.0 p.1 cuts.0 (one_numbers p.1 q.1 p.2.fits q.2.fits cuts.1))
         | inr q ↦
-            let both : p.0 ++ numbers p.1 ≡ codes "finish" ++ q.0 = sym p.2.spelling ∙ same ∙ q.1 in
-            absurd (not_finish p.0 p.1 l (p.2.is p.0 p.1 refl refl)
-            (one_cut p.0 (codes "finish") (numbers p.1) q.0 p.2.space (search rules) (IsTail-numbers p.1) q.2 both).0)
+            let both : p.0 ++ numbers p.1 ≡ q.0 ++ q.1 = sym p.2.spelling ∙ same ∙ q.2.spelling in
+            let word_is : p.0 ≡ q.0 = (one_cut p.0 q.0 (numbers p.1) q.1 p.2.space q.2.space (IsTail-numbers p.1) q.2.tail both).0 in
+            absurd (not_led q.0 p.1 l (p.2.is q.0 p.1 (sym word_is) refl) q.2.known)
       ]
       | inr p ↦ elim (parts m g) [
         | inl q ↦
-            let both : q.0 ++ numbers q.1 ≡ codes "finish" ++ p.0 = sym q.2.spelling ∙ sym same ∙ p.1 in
-            absurd (not_finish q.0 q.1 m (q.2.is q.0 q.1 refl refl)
-            (one_cut q.0 (codes "finish") (numbers q.1) p.0 q.2.space (search rules) (IsTail-numbers q.1) p.2 both).0)
-        | inr q ↦
-            let a = p.3 in
-            let b = q.3 in
-            let F : Line → Type 0 = λ x. Fits x in
-            let both : spelled (Finish a.0 a.1 a.2) ≡ spelled (Finish b.0 b.1 b.2) = ap spelled (sym a.3) ∙ same ∙ ap spelled b.3 in
-            a.3 ∙ one_finish a.0 a.1 a.2 b.0 b.1 b.2 (subst F a.3 f) (subst F b.3 g) both ∙ sym b.3
+            let both : q.0 ++ numbers q.1 ≡ p.0 ++ p.1 = sym q.2.spelling ∙ sym same ∙ p.2.spelling in
+            let word_is : q.0 ≡ p.0 = (one_cut q.0 p.0 (numbers q.1) p.1 q.2.space p.2.space (IsTail-numbers q.1) p.2.tail both).0 in
+            absurd (not_led p.0 q.1 m (q.2.is p.0 q.1 (sym word_is) refl) p.2.known)
+        | inr q ↦ one_other l m p.2.other q.2.other f g same
       ]
     ]

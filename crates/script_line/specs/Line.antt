@@ -1,8 +1,10 @@
 -- The lines of a script, as they are spelled: words joined by one space.
 use Rattle.std.specs.Prelude.{ℕ, ◌<◌, ◌^◌, List, [], ◌∷◌, ◌++◌, codes}
+use Rattle.sector_core.specs.declared.config.Scheduler.{Scheduler}
+use Rattle.sector_core.specs.declared.config.Scheduler.TheVariants.{Plain, Bfq}
 use Rattle.script_line.specs.Words.{numbers}
 use Rattle.script_line.specs.declared.line.Line.{Line}
-use Rattle.script_line.specs.declared.line.Line.TheVariants.{Attach, Read, Write, Reap, Dispatch, Finish, Hold, Release, Undo, Redo, Group, Drop, Weight, Sector, Queue, Cursor, Vtime, Entity}
+use Rattle.script_line.specs.declared.line.Line.TheVariants.{Attach, Read, Write, Reap, Leave, Dispatch, Finish, Requeue, Hold, Release, Undo, Redo, Group, Drop, Weight, Freeze, Thaw, Switch, Tick, Sector, Queue, Cursor, Vtime, Entity}
 use Rattle.script_line.specs.declared.line.Ending.{Ending}
 use Rattle.script_line.specs.declared.line.Ending.TheVariants.{Stored, Fill, Short, Fault}
 
@@ -13,14 +15,21 @@ ended (Fill byte) = codes " fill" ++ numbers (byte ∷ [])
 ended Short = codes " short"
 ended Fault = codes " fault"
 
+-- how a `switch` line names a scheduler
+abbrev pub named : Scheduler → List ℕ
+named Plain = codes " none"
+named Bfq = codes " bfq"
+
 -- the bytes of a line
 abbrev pub spelled : Line → List ℕ
 spelled (Attach seat group prio) = codes "attach" ++ numbers (seat ∷ group ∷ prio ∷ [])
 spelled (Read seat session start count) = codes "read" ++ numbers (seat ∷ session ∷ start ∷ count ∷ [])
 spelled (Write seat session start count byte) = codes "write" ++ numbers (seat ∷ session ∷ start ∷ count ∷ byte ∷ [])
 spelled (Reap seat session) = codes "reap" ++ numbers (seat ∷ session ∷ [])
+spelled (Leave seat) = codes "leave" ++ numbers (seat ∷ [])
 spelled Dispatch = codes "dispatch"
 spelled (Finish tag issue ending) = codes "finish" ++ (numbers (tag ∷ issue ∷ []) ++ ended ending)
+spelled (Requeue tag issue) = codes "requeue" ++ numbers (tag ∷ issue ∷ [])
 spelled Hold = codes "hold"
 spelled Release = codes "release"
 spelled (Undo k) = codes "undo" ++ numbers (k ∷ [])
@@ -28,6 +37,10 @@ spelled (Redo k) = codes "redo" ++ numbers (k ∷ [])
 spelled (Group parent weight) = codes "group" ++ numbers (parent ∷ weight ∷ [])
 spelled (Drop group) = codes "drop" ++ numbers (group ∷ [])
 spelled (Weight group weight) = codes "weight" ++ numbers (group ∷ weight ∷ [])
+spelled Freeze = codes "freeze"
+spelled Thaw = codes "thaw"
+spelled (Switch scheduler) = codes "switch" ++ named scheduler
+spelled Tick = codes "tick"
 spelled (Sector number) = codes "sector" ++ numbers (number ∷ [])
 spelled (Queue seat) = codes "queue" ++ numbers (seat ∷ [])
 spelled Cursor = codes "line"
@@ -47,8 +60,10 @@ Fits (Attach seat group prio) = (seat < 2 ^ 8) × (group < 2 ^ 8) × (prio < 2 ^
 Fits (Read seat session start count) = (seat < 2 ^ 8) × (session < 2 ^ 64) × (start < 2 ^ 64) × (count < 2 ^ 16)
 Fits (Write seat session start count byte) = (seat < 2 ^ 8) × (session < 2 ^ 64) × (start < 2 ^ 64) × (count < 2 ^ 16) × (byte < 2 ^ 8)
 Fits (Reap seat session) = (seat < 2 ^ 8) × (session < 2 ^ 64)
+Fits (Leave seat) = seat < 2 ^ 8
 Fits Dispatch = Unit {0}
 Fits (Finish tag issue ending) = (tag < 2 ^ 8) × (issue < 2 ^ 64) × EndingFits ending
+Fits (Requeue tag issue) = (tag < 2 ^ 8) × (issue < 2 ^ 64)
 Fits Hold = Unit {0}
 Fits Release = Unit {0}
 Fits (Undo k) = k < 2 ^ 32
@@ -56,6 +71,10 @@ Fits (Redo k) = k < 2 ^ 32
 Fits (Group parent weight) = (parent < 2 ^ 8) × (weight < 2 ^ 16)
 Fits (Drop group) = group < 2 ^ 8
 Fits (Weight group weight) = (group < 2 ^ 8) × (weight < 2 ^ 16)
+Fits Freeze = Unit {0}
+Fits Thaw = Unit {0}
+Fits (Switch scheduler) = Unit {0}
+Fits Tick = Unit {0}
 Fits (Sector number) = number < 2 ^ 64
 Fits (Queue seat) = seat < 2 ^ 8
 Fits Cursor = Unit {0}

@@ -2,7 +2,7 @@
 use Rattle.std.specs.Prelude.{◌≡◌, ℕ, List, [], ◌∷◌, codes, Option, MatchOption}
 use Rattle.script_line.specs.Line.{Fits}
 use Rattle.script_line.specs.declared.line.Line.{Line}
-use Rattle.script_line.specs.declared.line.Line.TheVariants.{Attach, Read, Write, Reap, Dispatch, Finish, Hold, Release, Undo, Redo, Group, Drop, Weight, Sector, Queue, Cursor, Vtime, Entity}
+use Rattle.script_line.specs.declared.line.Line.TheVariants.{Attach, Read, Write, Reap, Leave, Dispatch, Finish, Requeue, Hold, Release, Undo, Redo, Group, Drop, Weight, Freeze, Thaw, Switch, Tick, Sector, Queue, Cursor, Vtime, Entity}
 
 -- the line is this word and then these numbers
 abbrev pub IsWordAndNumbers : List ℕ → List ℕ → Line → Type 0
@@ -10,8 +10,10 @@ IsWordAndNumbers word given (Attach seat group prio) = (word ≡ codes "attach")
 IsWordAndNumbers word given (Read seat session start count) = (word ≡ codes "read") × (given ≡ seat ∷ session ∷ start ∷ count ∷ [])
 IsWordAndNumbers word given (Write seat session start count byte) = (word ≡ codes "write") × (given ≡ seat ∷ session ∷ start ∷ count ∷ byte ∷ [])
 IsWordAndNumbers word given (Reap seat session) = (word ≡ codes "reap") × (given ≡ seat ∷ session ∷ [])
+IsWordAndNumbers word given (Leave seat) = (word ≡ codes "leave") × (given ≡ seat ∷ [])
 IsWordAndNumbers word given Dispatch = (word ≡ codes "dispatch") × (given ≡ [])
 IsWordAndNumbers word given (Finish tag issue ending) = ⊥
+IsWordAndNumbers word given (Requeue tag issue) = (word ≡ codes "requeue") × (given ≡ tag ∷ issue ∷ [])
 IsWordAndNumbers word given Hold = (word ≡ codes "hold") × (given ≡ [])
 IsWordAndNumbers word given Release = (word ≡ codes "release") × (given ≡ [])
 IsWordAndNumbers word given (Undo k) = (word ≡ codes "undo") × (given ≡ k ∷ [])
@@ -19,6 +21,10 @@ IsWordAndNumbers word given (Redo k) = (word ≡ codes "redo") × (given ≡ k �
 IsWordAndNumbers word given (Group parent weight) = (word ≡ codes "group") × (given ≡ parent ∷ weight ∷ [])
 IsWordAndNumbers word given (Drop group) = (word ≡ codes "drop") × (given ≡ group ∷ [])
 IsWordAndNumbers word given (Weight group weight) = (word ≡ codes "weight") × (given ≡ group ∷ weight ∷ [])
+IsWordAndNumbers word given Freeze = (word ≡ codes "freeze") × (given ≡ [])
+IsWordAndNumbers word given Thaw = (word ≡ codes "thaw") × (given ≡ [])
+IsWordAndNumbers word given (Switch scheduler) = ⊥
+IsWordAndNumbers word given Tick = (word ≡ codes "tick") × (given ≡ [])
 IsWordAndNumbers word given (Sector number) = (word ≡ codes "sector") × (given ≡ number ∷ [])
 IsWordAndNumbers word given (Queue seat) = (word ≡ codes "queue") × (given ≡ seat ∷ [])
 IsWordAndNumbers word given Cursor = (word ≡ codes "line") × (given ≡ [])

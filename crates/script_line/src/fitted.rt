@@ -50,6 +50,24 @@ pub fn reap(seat: u64, session: u64) -> Option<Line>
     }
 }
 
+pub fn leave(seat: u64) -> Option<Line>
+    ensures { FitsOrNone (Line.Leave seat) result }
+{
+    match u8::try_from(seat) {
+        Ok(seat) => Some(Line::Leave { seat }),
+        Err(_) => None,
+    }
+}
+
+pub fn requeue(tag: u64, issue: u64) -> Option<Line>
+    ensures { FitsOrNone (Line.Requeue tag issue) result }
+{
+    match u8::try_from(tag) {
+        Ok(tag) => Some(Line::Requeue { tag, issue }),
+        Err(_) => None,
+    }
+}
+
 pub fn undo(k: u64) -> Option<Line>
     ensures { FitsOrNone (Line.Undo k) result }
 {

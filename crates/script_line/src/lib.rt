@@ -24,6 +24,7 @@ mod law;
 mod line;
 mod plain;
 mod read;
+mod switch;
 
 pub use decimal::number;
 pub use law::one_line;

@@ -1,4 +1,5 @@
 // The lines of a script.
+use sector_core::Scheduler;
 
 /// A line of a script that is not empty and no comment.
 #[derive(Clone, Copy, Debug, PartialEq, Eq)]
@@ -29,6 +30,10 @@ pub enum Line {
         seat: u8,
         session: u64,
     },
+    /// `leave SEAT`
+    Leave {
+        seat: u8,
+    },
     /// `dispatch`
     Dispatch,
     /// `finish TAG ISSUE` and how it ended
@@ -36,6 +41,11 @@ pub enum Line {
         tag: u8,
         issue: u64,
         ending: Ending,
+    },
+    /// `requeue TAG ISSUE`
+    Requeue {
+        tag: u8,
+        issue: u64,
     },
     /// `hold`
     Hold,
@@ -63,6 +73,16 @@ pub enum Line {
         group: u8,
         weight: u16,
     },
+    /// `freeze`
+    Freeze,
+    /// `thaw`
+    Thaw,
+    /// `switch` and the name of a scheduler
+    Switch {
+        scheduler: Scheduler,
+    },
+    /// `tick`
+    Tick,
     /// `sector N`, a query
     Sector {
         number: u64,

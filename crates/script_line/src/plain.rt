@@ -4,7 +4,8 @@ ghost use Rattle.script_line.specs.Words.{AreNumbers};
 ghost use Rattle.script_line.specs.Plain.{Reads};
 
 use super::fitted::{
-    attach, drop_group, entity, group, queue, read, reap, redo, undo, vtime, weight, write,
+    attach, drop_group, entity, group, leave, queue, read, reap, redo, requeue, undo, vtime,
+    weight, write,
 };
 use super::line::Line;
 
@@ -35,6 +36,12 @@ fn with_none(word: &[u8]) -> Option<Line>
         Some(Line::Release)
     } else if word == b"line".as_slice() {
         Some(Line::Cursor)
+    } else if word == b"freeze".as_slice() {
+        Some(Line::Freeze)
+    } else if word == b"thaw".as_slice() {
+        Some(Line::Thaw)
+    } else if word == b"tick".as_slice() {
+        Some(Line::Tick)
     } else {
         None
     }
@@ -57,6 +64,8 @@ fn with_one(word: &[u8], a: u64) -> Option<Line>
         vtime(a)
     } else if word == b"entity".as_slice() {
         entity(a)
+    } else if word == b"leave".as_slice() {
+        leave(a)
     } else {
         None
     }
@@ -71,6 +80,8 @@ fn with_two(word: &[u8], a: u64, b: u64) -> Option<Line>
         group(a, b)
     } else if word == b"weight".as_slice() {
         weight(a, b)
+    } else if word == b"requeue".as_slice() {
+        requeue(a, b)
     } else {
         None
     }

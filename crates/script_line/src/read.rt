@@ -6,6 +6,7 @@ use super::fields::{cut, number_fields};
 use super::finish::finish;
 use super::line::Line;
 use super::plain::plain_line;
+use super::switch::switch;
 
 /// The line that the text spells: its words joined by one space, its numbers in decimal and within their types.
 pub fn line_of(text: &[u8]) -> Option<Line>
@@ -15,6 +16,9 @@ pub fn line_of(text: &[u8]) -> Option<Line>
     let (word, rest) = cut(text);
     if word == b"finish".as_slice() {
         return finish(rest);
+    }
+    if word == b"switch".as_slice() {
+        return switch(rest);
     }
     match number_fields(rest) {
         Some(given) => plain_line(word, given.as_slice()),

@@ -1,7 +1,8 @@
 use super::{Ending, Line, line_of, number};
+use sector_core::Scheduler;
 
 // A line, as it is spelled and as it is.
-const FORMS: [(&[u8], Line); 28] = [
+const FORMS: [(&[u8], Line); 37] = [
     (
         b"attach 0 1 4",
         Line::Attach {
@@ -44,6 +45,8 @@ const FORMS: [(&[u8], Line); 28] = [
             session: 2,
         },
     ),
+    (b"leave 0", Line::Leave { seat: 0 }),
+    (b"leave 255", Line::Leave { seat: 255 }),
     (b"dispatch", Line::Dispatch),
     (
         b"finish 0 1 stored",
@@ -75,6 +78,14 @@ const FORMS: [(&[u8], Line); 28] = [
             tag: 255,
             issue: 10,
             ending: Ending::Fault,
+        },
+    ),
+    (b"requeue 0 4", Line::Requeue { tag: 0, issue: 4 }),
+    (
+        b"requeue 255 18446744073709551615",
+        Line::Requeue {
+            tag: 255,
+            issue: 18446744073709551615,
         },
     ),
     (b"hold", Line::Hold),
@@ -111,6 +122,21 @@ const FORMS: [(&[u8], Line); 28] = [
             weight: 65535,
         },
     ),
+    (b"freeze", Line::Freeze),
+    (b"thaw", Line::Thaw),
+    (
+        b"switch none",
+        Line::Switch {
+            scheduler: Scheduler::Plain,
+        },
+    ),
+    (
+        b"switch bfq",
+        Line::Switch {
+            scheduler: Scheduler::Bfq,
+        },
+    ),
+    (b"tick", Line::Tick),
     (b"sector 1024", Line::Sector { number: 1024 }),
     (b"queue 0", Line::Queue { seat: 0 }),
     (b"queue 255", Line::Queue { seat: 255 }),
@@ -129,7 +155,7 @@ fn each_form_is_read(rt: HostRuntime) {
 }
 
 // Lines that are none.
-const BAD: [&[u8]; 78] = [
+const BAD: [&[u8]; 103] = [
     b"",
     b" ",
     b"#",
@@ -196,6 +222,31 @@ const BAD: [&[u8]; 78] = [
     b"write 0 0 0 1",
     b"write 0 0 0 1 256",
     b"write 0 0 0 1 2 3",
+    b"leave",
+    b"leave 256",
+    b"leave 0 1",
+    b"leaves 0",
+    b"requeue 0",
+    b"requeue 256 1",
+    b"requeue 0 18446744073709551616",
+    b"requeue 0 1 stored",
+    b"requeue 0 1 2",
+    b"freeze 1",
+    b"freezes",
+    b"Thaw",
+    b"thaw ",
+    b"switch",
+    b"switch ",
+    b"switch cfq",
+    b"switch 0",
+    b"switch Bfq",
+    b"switch none ",
+    b"switch  none",
+    b"switch bfq none",
+    b"switch\tbfq",
+    b"switchbfq",
+    b"tick 1",
+    b"ticks",
     b"finish 0 1",
     b"finish 0 1 2",
     b"finish 0 1  stored",

@@ -34,6 +34,8 @@ pub enum Act {
     Charge(u32),
     // The queue in service has used up its budget, and has more to send.
     Exhaust,
+    // The queue in service has been there for too long, and has more to send.
+    TimeOut,
     // The queue in service has no request left.
     Empty,
     // These are refused.
@@ -88,6 +90,7 @@ impl Host {
             Act::Select => self.select(),
             Act::Charge(sectors) => self.charge(sectors),
             Act::Exhaust => self.expire(Expiry::Exhaustion, true),
+            Act::TimeOut => self.expire(Expiry::Timeout, true),
             Act::Empty => self.expire(Expiry::Emptying, false),
             Act::ActivateInVain(seat) if seat < 16 => refused(self.activate_is_refused(seat)?),
             Act::EmptyInVain => refused(self.expire_is_refused()?),

@@ -26,7 +26,7 @@ returns-then-not-room-clause-answers c =
     let linked = merge_linked t c.args.seat c.args.session c.args.op c.args.range c.args.found c.requires.joins in
     let queued_here = c.requires.well.placed.link c.args.found.slot linked.0 linked.1 in
     let some = merge_some t c.args.seat c.args.session c.args.op c.args.range c.args.found c.requires.joins queued_here.request queued_here.here in
-    let goes = submit_joins l (meaning t) c.args.serial c.args.room c.args.seat c.args.session c.args.op c.args.range c.args.payload.now c.args.entry may.within may.sits may.session_is may.some_sectors may.few_sectors may.payload_fits may.in_image may.few _ some in
+    let goes = submit_joins l (meaning t) c.args.serial c.args.room c.args.seat c.args.session c.args.op c.args.range c.args.payload.now c.args.entry may.within may.sits may.stays may.session_is may.some_sectors may.few_sectors may.payload_fits may.in_image may.thawed may.few _ some in
     sym (goes ∙ ap (λ b. accepted b (meaning t) (submitted (meaning t) c.args.serial c.args.seat c.args.session c.args.op c.args.range c.args.payload.now) (Queued c.args.serial)) c.if-not-room.true)
 
 pub unreachable-requires : goal.unreachable-requires
@@ -57,7 +57,7 @@ returns-in_err-clone-clause-answers c =
     let r : Request = c.in-Some.request.now in
     let here : at t.requests c.args.found.slot ≡ Some r = search rules in
     let some = merge_some t c.args.seat c.args.session c.args.op c.args.range c.args.found c.requires.joins r here in
-    let goes = submit_joins l (meaning t) c.args.serial c.args.room c.args.seat c.args.session c.args.op c.args.range c.args.payload.now c.args.entry may.within may.sits may.session_is may.some_sectors may.few_sectors may.payload_fits may.in_image may.few _ some in
+    let goes = submit_joins l (meaning t) c.args.serial c.args.room c.args.seat c.args.session c.args.op c.args.range c.args.payload.now c.args.entry may.within may.sits may.stays may.session_is may.some_sectors may.few_sectors may.payload_fits may.in_image may.thawed may.few _ some in
     let accepts : submit l (meaning t) c.args.serial c.args.room c.args.seat c.args.session c.args.op c.args.range c.args.payload.now
     ≡ (submitted (meaning t) c.args.serial c.args.seat c.args.session c.args.op c.args.range c.args.payload.now, Accepted (Queued c.args.serial)) =
     goes ∙ ap (λ b. accepted b (meaning t) (submitted (meaning t) c.args.serial c.args.seat c.args.session c.args.op c.args.range c.args.payload.now) (Queued c.args.serial)) c.if-not-room.false in
@@ -72,7 +72,7 @@ returns-in_err-reserve-clause-answers c =
     let r : Request = c.in-Some.request.now in
     let here : at t.requests c.args.found.slot ≡ Some r = search rules in
     let some = merge_some t c.args.seat c.args.session c.args.op c.args.range c.args.found c.requires.joins r here in
-    let goes = submit_joins l (meaning t) c.args.serial c.args.room c.args.seat c.args.session c.args.op c.args.range c.args.payload.now c.args.entry may.within may.sits may.session_is may.some_sectors may.few_sectors may.payload_fits may.in_image may.few _ some in
+    let goes = submit_joins l (meaning t) c.args.serial c.args.room c.args.seat c.args.session c.args.op c.args.range c.args.payload.now c.args.entry may.within may.sits may.stays may.session_is may.some_sectors may.few_sectors may.payload_fits may.in_image may.thawed may.few _ some in
     let accepts : submit l (meaning t) c.args.serial c.args.room c.args.seat c.args.session c.args.op c.args.range c.args.payload.now
     ≡ (submitted (meaning t) c.args.serial c.args.seat c.args.session c.args.op c.args.range c.args.payload.now, Accepted (Queued c.args.serial)) =
     goes ∙ ap (λ b. accepted b (meaning t) (submitted (meaning t) c.args.serial c.args.seat c.args.session c.args.op c.args.range c.args.payload.now) (Queued c.args.serial)) c.if-not-room.false in
@@ -89,7 +89,7 @@ returns-clause-answers c =
     let joined = merge_request t c.args.seat c.args.session c.args.op c.args.range c.args.found c.requires.joins r here in
     let linked = merge_linked t c.args.seat c.args.session c.args.op c.args.range c.args.found c.requires.joins in
     let some = merge_some t c.args.seat c.args.session c.args.op c.args.range c.args.found c.requires.joins r here in
-    let goes = submit_joins l (meaning t) c.args.serial c.args.room c.args.seat c.args.session c.args.op c.args.range c.args.payload.now c.args.entry may.within may.sits may.session_is may.some_sectors may.few_sectors may.payload_fits may.in_image may.few _ some in
+    let goes = submit_joins l (meaning t) c.args.serial c.args.room c.args.seat c.args.session c.args.op c.args.range c.args.payload.now c.args.entry may.within may.sits may.stays may.session_is may.some_sectors may.few_sectors may.payload_fits may.in_image may.thawed may.few _ some in
     let accepts : submit l (meaning t) c.args.serial c.args.room c.args.seat c.args.session c.args.op c.args.range c.args.payload.now
     ≡ (submitted (meaning t) c.args.serial c.args.seat c.args.session c.args.op c.args.range c.args.payload.now, Accepted (Queued c.args.serial)) =
     goes ∙ ap (λ b. accepted b (meaning t) (submitted (meaning t) c.args.serial c.args.seat c.args.session c.args.op c.args.range c.args.payload.now) (Queued c.args.serial)) c.if-not-room.false in

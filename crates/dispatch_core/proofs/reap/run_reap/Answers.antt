@@ -1,4 +1,4 @@
-use Rattle.std.proofs.Common.{◌≡◌, ◌≢◌, ◌+◌, ℕ, List, ◌∷◌, length, drop, Some, unwrap_or, subst, sym, ap, ◌∙◌, arith, rules}
+use Rattle.std.proofs.Common.{◌≡◌, ◌≢◌, ◌+◌, ℕ, List, ◌∷◌, length, drop, false, Some, unwrap_or, subst, sym, ap, ◌∙◌, arith, rules}
 use Rattle.std.specs.Prelude.{slice_get}
 use Rattle.sector_core.specs.declared.bio.Bio.{Bio}
 use Rattle.sector_core.specs.declared.bio.BioResult.TheVariants.{Written}
@@ -24,6 +24,7 @@ returns-clause-answers c =
     let bio : Bio = c.in-Some-bio.bio.now in
     let rest : List ℕ = drop 1 (outbox_at t.outboxes c.args.seat) in
     let sits : at t.seats c.args.seat ≡ Some entry = sym c.seat.ensures ∙ c.in-Some.is in
+    let stays : entry.leaving ≡ false = search rules in
     let same : entry.session ≡ c.args.session = c.if-entry-session.false in
     let owed : entry.unreaped ≢ 0 = c.if-entry-eq0.false in
     let head : slice_get (outbox_at t.outboxes c.args.seat) 0 ≡ Some c.in-Some-copied.place = search rules in
@@ -33,7 +34,7 @@ returns-clause-answers c =
     let now : c.take_out.new.parts.tables ≡ reaped_tables t c.args.seat entry c.in-Some-copied.place rest = search rules in
     let found : c.in_ok-result_of_bio.field-0 ≡ unwrap_or bio.result Written = c.in_ok-result_of_bio.ensures in
     let first = reaped-outbox_was l c.args.serial t c.args.seat entry c.in-Some-copied.place rest bio c.requires can in
-    let does = reap_does (meaning t) c.args.room c.args.seat c.args.session entry c.if-seat-ge16.false sits same owed bio (bios_at t.bios rest) first c.if-not-room.false in
+    let does = reap_does (meaning t) c.args.room c.args.seat c.args.session entry c.if-seat-ge16.false sits stays same owed bio (bios_at t.bios rest) first c.if-not-room.false in
     let next = ap meaning now ∙ reaped-meaning l c.args.serial t c.args.seat entry c.in-Some-copied.place rest bio c.requires can in
     sym (does ∙ ap (λ m. (m, Accepted (Completed bio.serial (unwrap_or bio.result Written)))) (sym next)
     ∙ ap (λ r. (meaning c.take_out.new.parts.tables, Accepted (Completed bio.serial r))) (sym found))

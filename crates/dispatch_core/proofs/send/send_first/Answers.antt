@@ -4,8 +4,6 @@ use Rattle.process_queue.specs.Queue.{first_slot}
 use Rattle.change_record.specs.Tables.{Tables}
 use Rattle.process_queue.specs.Merge.{bios_at}
 use Rattle.change_record.specs.Machine.{meaning}
-use Rattle.plain_machine.specs.declared.answer.Answer.TheVariants.{Accepted}
-use Rattle.plain_machine.specs.declared.answer.Reply.TheVariants.{Issued}
 use Rattle.plain_machine.specs.Step.{of_sizes, sent, range_of}
 use Rattle.dispatch_core.specs.WellFormed.{at, WellFormed}
 use Rattle.dispatch_core.specs.Changes.{sent_tables}
@@ -14,7 +12,7 @@ use Rattle.dispatch_core.proofs.Sides.{CanSend}
 use Rattle.dispatch_core.proofs.Queues.{whole, first_found, sent-queue_was}
 use Rattle.dispatch_core.proofs.Laws.{sent-well, sent-meaning}
 use Rattle.dispatch_core.proofs.Sectors.{few_sectors_of, range_is, request_taken}
-use Rattle.dispatch_core.proofs.Decided.{sent_does, sent_late, sent_accepts, Answers-err}
+use Rattle.dispatch_core.proofs.Decided.{sent_made, sent_late, sent_accepts, Answers-err}
 use Rattle.dispatch_core.proofs.Recorded.{one_more}
 use Rattle.dispatch_core.proofs.send.send_first.Goals as goal
 
@@ -101,9 +99,8 @@ returns-clause-answers c =
     let read : c.range_of_request.result ≡ record { start = first_start t.bios request.bios.items; count = total_count t.bios request.bios.items } = (λ i. record { start = start i; count = count i }) in
     let range : c.range_of_request.result ≡ range_of (bios_at t.bios request.bios.items) = read ∙ sym (range_is t.bios request.bios.items (request_taken l n t slot request c.requires.well here)) in
     let next = ap meaning now ∙ sent-meaning l n t c.args.seat slot tag request c.requires.well can in
-    sym (sent_does l (meaning t) n c.args.room c.args.seat tag (whole t request) ((meaning (sent_tables t n c.args.seat slot tag)).queue c.args.seat) was c.if-not-room.false
-    ∙ ap (λ m. (m, Accepted (Issued tag n request.op (range_of (bios_at t.bios request.bios.items))))) (sym next)
-    ∙ ap (λ r. (meaning c.exchange-3.new.parts.tables, Accepted (Issued tag n request.op r))) (sym range))
+    sent_made l (meaning t) n c.args.room c.args.seat tag (whole t request) ((meaning (sent_tables t n c.args.seat slot tag)).queue c.args.seat) was
+    (meaning c.exchange-3.new.parts.tables) c.range_of_request.result next range c.if-not-room.false
 
 pub returns-clause-leaves : goal.returns-clause-leaves
 returns-clause-leaves c =

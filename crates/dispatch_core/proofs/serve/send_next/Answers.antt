@@ -178,9 +178,10 @@ returns-clause-well c =
     elim c.if-is_empty.branch [
       | then-is_empty+in_ok-expire w ↦
           let none : is_empty (queue_slots slot.seat c.take_out.new.parts.tables.links) ≡ true = search rules in
+          let expired : expire Emptying l.max_budget false (bfq_of c.take_out.new.parts.tables) ≡ Some (bfq_of w.expire.new.parts.tables) = w.in_ok-expire.ensures.made in
           subst R (sym (ap (λ (p : Loose). p.tables) w.parts-is)) (last_well l n tag t slot place request c.requires.well c.requires.serves some here c.requires.free
           c.charge.new.parts.tables c.charge.ensures.sized c.charge.ensures.bounded c.charge.ensures.others charged head head_is c.take_out.new.parts.tables taken
-          none w.expire.new.parts.tables w.expire.ensures.sized w.expire.ensures.bounded w.expire.ensures.others)
+          none w.expire.new.parts.tables w.expire.ensures.sized w.expire.ensures.bounded w.expire.ensures.others expired)
       | else-is_empty w ↦ subst R (sym (ap (λ (p : Loose). p.tables) w.parts-is)) (served_well l n tag t slot place request c.requires.well c.requires.serves some here c.requires.free
           c.charge.new.parts.tables c.charge.ensures.sized c.charge.ensures.bounded c.charge.ensures.others charged head head_is c.take_out.new.parts.tables taken)
     ]

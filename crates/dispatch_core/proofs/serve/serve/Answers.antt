@@ -10,8 +10,8 @@ use Rattle.plain_machine.specs.declared.answer.Reply.{Reply}
 use Rattle.plain_machine.specs.Step.{of_sizes, next_size, with_slot, sent_by_bfq}
 use Rattle.plain_machine.specs.Whole.{AreWhole}
 use Rattle.dispatch_core.specs.WellFormed.{WellFormed}
-use Rattle.dispatch_core.proofs.Ruling.{served-well, serves_then}
-use Rattle.dispatch_core.proofs.NextSlot.{select_fresh, next_small, served_whole}
+use Rattle.dispatch_core.proofs.Ruling.{IsYoung, served-well, serves_then}
+use Rattle.dispatch_core.proofs.NextSlot.{select_fresh, select_young, next_small, served_whole}
 use Rattle.dispatch_core.proofs.NextServed.{same_size, bfq_sends, slot_kept, slot_chosen}
 use Rattle.dispatch_core.proofs.serve.serve.Goals.{then-is_none, else-is_none}
 use Rattle.dispatch_core.proofs.serve.serve.Goals as goal
@@ -24,9 +24,12 @@ send_next-requires-clause-well c =
     let R : Tables → Type 0 = λ x. WellFormed l n x in
     elim c.if-is_none.branch [
       | then-is_none w ↦
+          let none : before.slot ≡ None = search rules in
+          let P : Bfq → Type 0 = λ b. IsYoung n b.slot in
+          let young : IsYoung n w.select.new.parts.tables.slot = subst P (sym w.select.ensures.made) (select_young n (bfq_of before) c.in_ok-make_room.ensures.well.first none) in
           subst R (sym (ap (λ (p : Loose). p.tables) w.parts-is))
-          (served-well l n before w.select.new.parts.tables w.select.ensures.others c.make_room.ensures.well w.select.ensures.sized w.select.ensures.bounded)
-      | else-is_none w ↦ subst R (sym (ap (λ (p : Loose). p.tables) w.parts-is)) c.make_room.ensures.well
+          (served-well l n before w.select.new.parts.tables w.select.ensures.others c.in_ok-make_room.ensures.well w.select.ensures.sized w.select.ensures.bounded young)
+      | else-is_none w ↦ subst R (sym (ap (λ (p : Loose). p.tables) w.parts-is)) c.in_ok-make_room.ensures.well
     ]
 
 pub send_next-requires-clause-whole : goal.send_next-requires-clause-whole

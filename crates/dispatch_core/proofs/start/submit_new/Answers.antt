@@ -1,6 +1,8 @@
-use Rattle.std.proofs.Common.{◌≡◌, ◌+◌, ◌&&◌, cond, length, None, Some, refl, subst, sym, ap, ◌∙◌, arith, rules}
+use Rattle.std.proofs.Common.{◌≡◌, ◌+◌, ◌&&◌, List, cond, length, None, Some, refl, subst, sym, ap, ◌∙◌, arith, rules}
 use Rattle.sector_core.specs.Table.{AllTaken}
+use Rattle.change_record.specs.declared.change.Change.{Change}
 use Rattle.change_record.specs.Tables.{Tables}
+use Rattle.change_record.specs.Trail.{IsTrail}
 use Rattle.change_record.specs.Machine.{Plain, meaning}
 use Rattle.plain_machine.specs.declared.answer.Answer.{Answer}
 use Rattle.plain_machine.specs.declared.answer.Answer.TheVariants.{Accepted, Refused}
@@ -24,6 +26,7 @@ use Rattle.std.specs.Option.{option_map}
 use Rattle.dispatch_core.proofs.QueueLists.{queue_empty}
 use Rattle.dispatch_core.proofs.QueueFacts.{linked_some}
 use Rattle.dispatch_core.proofs.Ruling.{served-meaning, served-well}
+use Rattle.dispatch_core.proofs.Waking.{woken-slot}
 use Rattle.dispatch_core.proofs.Recorded.{not_begun, allowed}
 use Rattle.dispatch_core.proofs.start.submit_new.Goals as goal
 
@@ -35,7 +38,7 @@ returns-in_default-clause-answers c =
     let may = c.requires.may in
     let alone = merge_none t c.args.seat c.args.session c.args.op c.args.range c.requires.alone in
     let all : AllTaken t.requests = search rules in
-    sym (submit_full l (meaning t) c.args.serial c.args.room c.args.seat c.args.session c.args.op c.args.range c.args.payload.now entry may.within may.sits may.session_is may.some_sectors may.few_sectors may.payload_fits may.in_image may.few (needs_full (meaning t) c.args.seat c.args.session c.args.op c.args.range _ alone (requests_full l c.args.serial t c.requires.well all)))
+    sym (submit_full l (meaning t) c.args.serial c.args.room c.args.seat c.args.session c.args.op c.args.range c.args.payload.now entry may.within may.sits may.stays may.session_is may.some_sectors may.few_sectors may.payload_fits may.in_image may.thawed may.few (needs_full (meaning t) c.args.seat c.args.session c.args.op c.args.range _ alone (requests_full l c.args.serial t c.requires.well all)))
 
 pub returns-then-not-room-clause-answers : goal.returns-then-not-room-clause-answers
 returns-then-not-room-clause-answers c =
@@ -46,7 +49,7 @@ returns-then-not-room-clause-answers c =
     let alone = merge_none t c.args.seat c.args.session c.args.op c.args.range c.requires.alone in
     let free : at t.requests c.in-Some.slot ≡ None = search rules in
     let room_left = not_both (needs_request (meaning t) c.args.seat c.args.session c.args.op c.args.range) _ (requests_free l c.args.serial t c.in-Some.slot c.requires.well (search rules)) in
-    let goes = submit_goes l (meaning t) c.args.serial c.args.room c.args.seat c.args.session c.args.op c.args.range c.args.payload.now entry may.within may.sits may.session_is may.some_sectors may.few_sectors may.payload_fits may.in_image may.few room_left in
+    let goes = submit_goes l (meaning t) c.args.serial c.args.room c.args.seat c.args.session c.args.op c.args.range c.args.payload.now entry may.within may.sits may.stays may.session_is may.some_sectors may.few_sectors may.payload_fits may.in_image may.thawed may.few room_left in
     sym (goes ∙ if_late c.args.room (meaning t) _ c.if-not-room.true)
 
 pub returns-in_err-clone-clause-answers : goal.returns-in_err-clone-clause-answers
@@ -58,7 +61,7 @@ returns-in_err-clone-clause-answers c =
     let alone = merge_none t c.args.seat c.args.session c.args.op c.args.range c.requires.alone in
     let free : at t.requests c.in-Some.slot ≡ None = search rules in
     let room_left = not_both (needs_request (meaning t) c.args.seat c.args.session c.args.op c.args.range) _ (requests_free l c.args.serial t c.in-Some.slot c.requires.well (search rules)) in
-    let goes = submit_goes l (meaning t) c.args.serial c.args.room c.args.seat c.args.session c.args.op c.args.range c.args.payload.now entry may.within may.sits may.session_is may.some_sectors may.few_sectors may.payload_fits may.in_image may.few room_left in
+    let goes = submit_goes l (meaning t) c.args.serial c.args.room c.args.seat c.args.session c.args.op c.args.range c.args.payload.now entry may.within may.sits may.stays may.session_is may.some_sectors may.few_sectors may.payload_fits may.in_image may.thawed may.few room_left in
     let P : Plain × Answer → Type 0 = λ o. MayGiveWay o.1 in
     Answers-err (λ m. submit l m c.args.serial c.args.room c.args.seat c.args.session c.args.op c.args.range c.args.payload.now) t t c.from_residual.result (search rules) (subst P (sym goes) (gives_way c.args.room (meaning t) _ c.if-not-room.false))
 
@@ -71,7 +74,7 @@ returns-in_err-reserve-clause-answers c =
     let alone = merge_none t c.args.seat c.args.session c.args.op c.args.range c.requires.alone in
     let free : at t.requests c.in-Some.slot ≡ None = search rules in
     let room_left = not_both (needs_request (meaning t) c.args.seat c.args.session c.args.op c.args.range) _ (requests_free l c.args.serial t c.in-Some.slot c.requires.well (search rules)) in
-    let goes = submit_goes l (meaning t) c.args.serial c.args.room c.args.seat c.args.session c.args.op c.args.range c.args.payload.now entry may.within may.sits may.session_is may.some_sectors may.few_sectors may.payload_fits may.in_image may.few room_left in
+    let goes = submit_goes l (meaning t) c.args.serial c.args.room c.args.seat c.args.session c.args.op c.args.range c.args.payload.now entry may.within may.sits may.stays may.session_is may.some_sectors may.few_sectors may.payload_fits may.in_image may.thawed may.few room_left in
     let P : Plain × Answer → Type 0 = λ o. MayGiveWay o.1 in
     Answers-err (λ m. submit l m c.args.serial c.args.room c.args.seat c.args.session c.args.op c.args.range c.args.payload.now) t t c.from_residual-in_err-reserve.result (search rules) (subst P (sym goes) (gives_way c.args.room (meaning t) _ c.if-not-room.false))
 
@@ -103,7 +106,7 @@ returns-in-Ok-clause-answers c =
     let u = c.insert.new.parts.tables in
     let now : u ≡ submitted_tables t n seat entry c.in-Some.slot c.args.place c.args.session c.args.op c.args.range c.args.payload.now = search rules in
     let room_left = not_both (needs_request m seat c.args.session c.args.op c.args.range) _ (requests_free l n t c.in-Some.slot c.requires.well (search rules)) in
-    let goes = submit_goes l m n c.args.room seat c.args.session c.args.op c.args.range c.args.payload.now entry may.within may.sits may.session_is may.some_sectors may.few_sectors may.payload_fits may.in_image may.few room_left in
+    let goes = submit_goes l m n c.args.room seat c.args.session c.args.op c.args.range c.args.payload.now entry may.within may.sits may.stays may.session_is may.some_sectors may.few_sectors may.payload_fits may.in_image may.thawed may.few room_left in
     let sub = submitted m n seat c.args.session c.args.op c.args.range c.args.payload.now in
     let reply : Plain → Plain × Reply = λ next. (next, Queued n) in
     let wakes : c.is_woken-wakes.result ≡ (is_bfq m.scheduler && is_empty (m.queue seat)) =
@@ -150,8 +153,9 @@ returns-in-Ok-clause-leaves c =
     let v = c.wake.new.parts.tables in
     let P : Tables → Type 0 = λ x. WellFormed l (n + 1) x in
     let well = subst P (sym now) (submitted-well l n t seat entry c.in-Some.slot c.args.place c.args.session c.args.op c.args.range c.args.payload.now c.requires.well can) in
+    let slot : v.slot ≡ u.slot = woken-slot c.is_woken-wakes.result seat (bfq_of u) (bfq_of v) c.in-Ok.ensures.made in
     let more = allowed c.is_woken-wakes.result (is_bfq t.scheduler) (is_empty (queue_slots seat t.links)) 5 c.is_woken-wakes.ensures in (
-      served-well l (n + 1) u v c.in-Ok.ensures.others well c.in-Ok.ensures.sized c.in-Ok.ensures.bounded,
+      served-well l (n + 1) u v c.in-Ok.ensures.others well c.in-Ok.ensures.sized c.in-Ok.ensures.bounded (λ s e. well.young s (sym slot ∙ e)),
       omega (arith, c.in-Ok.ensures.spare, c.insert.ensures.spare, c.in_ok-reserve.ensures.spare),
       omega (arith, c.in-Ok.ensures.some, c.insert.ensures.count, ap length c.reserve.ensures.current, ap submit_exchanges alone),
       omega (arith, more, c.in-Ok.ensures.few, c.insert.ensures.count, ap length c.reserve.ensures.current, ap submit_exchanges alone),
@@ -192,7 +196,7 @@ returns-in-Err-clause-answers c =
     let u = c.insert.new.parts.tables in
     let now : u ≡ submitted_tables t n seat entry c.in-Some.slot c.args.place c.args.session c.args.op c.args.range c.args.payload.now = search rules in
     let room_left = not_both (needs_request m seat c.args.session c.args.op c.args.range) _ (requests_free l n t c.in-Some.slot c.requires.well (search rules)) in
-    let goes = submit_goes l m n c.args.room seat c.args.session c.args.op c.args.range c.args.payload.now entry may.within may.sits may.session_is may.some_sectors may.few_sectors may.payload_fits may.in_image may.few room_left in
+    let goes = submit_goes l m n c.args.room seat c.args.session c.args.op c.args.range c.args.payload.now entry may.within may.sits may.stays may.session_is may.some_sectors may.few_sectors may.payload_fits may.in_image may.thawed may.few room_left in
     let sub = submitted m n seat c.args.session c.args.op c.args.range c.args.payload.now in
     let reply : Plain → Plain × Reply = λ next. (next, Queued n) in
     let wakes : c.is_woken-wakes.result ≡ (is_bfq m.scheduler && is_empty (m.queue seat)) =
@@ -212,3 +216,17 @@ returns-in-Err-clause-leaves c =
     let begun = not_begun c.reserve.new.self.current t (c.reserve.ensures.current ∙ c.requires.idle) in
     let trail = c.in-Err.ensures.trail t (c.insert.ensures.trail t begun) in
     (c.abandon.ensures.tables ∙ trail.back, c.abandon.ensures.current ∙ sym c.requires.idle)
+
+pub returns-in-Ok-clause-trail : goal.returns-in-Ok-clause-trail
+returns-in-Ok-clause-trail c = λ origin h.
+    let P : List Change → Type 0 = λ changes. IsTrail changes c.args.parts.now.tables origin in
+    c.in-Ok.ensures.trail origin (c.insert.ensures.trail origin (subst P (sym c.reserve.ensures.current) h))
+
+pub returns-in-Err-clause-trail : goal.returns-in-Err-clause-trail
+returns-in-Err-clause-trail c = λ origin h.
+    let t = c.args.parts.now.tables in
+    let begun = not_begun c.reserve.new.self.current t (c.reserve.ensures.current ∙ c.requires.idle) in
+    let trail = c.in-Err.ensures.trail t (c.insert.ensures.trail t begun) in
+    let P : List Change → Type 0 = λ changes. IsTrail changes t origin in
+    let Q : Tables → Type 0 = λ u. IsTrail c.abandon.new.self.current u origin in
+    subst Q (sym (c.abandon.ensures.tables ∙ trail.back)) (subst P (sym (c.abandon.ensures.current ∙ sym c.requires.idle)) h)

@@ -1,11 +1,11 @@
-use Rattle.std.proofs.Common.{◌≡◌, ◌<◌, Some, None, sym, ◌∙◌, rules}
+use Rattle.std.proofs.Common.{◌≡◌, ◌<◌, true, Some, None, sym, ◌∙◌, rules}
 use Rattle.sector_core.specs.Table.{AllTaken}
 use Rattle.request_pool.specs.Slots.{seat_slots}
 use Rattle.plain_machine.specs.Step.{of_sizes}
 use Rattle.dispatch_core.specs.WellFormed.{at}
 use Rattle.dispatch_core.proofs.Bios.{free_place}
 use Rattle.change_record.specs.Machine.{meaning}
-use Rattle.dispatch_core.proofs.Decided.{submit_seat, submit_nobody, submit_stale, submit_count, submit_length, submit_range, submit_many}
+use Rattle.dispatch_core.proofs.Decided.{submit_seat, submit_nobody, submit_stale, submit_count, submit_length, submit_range, submit_leaver, submit_frozen, submit_many}
 use Rattle.dispatch_core.proofs.submit.run_submit.Goals as goal
 
 pub unreachable-requires : goal.unreachable-requires
@@ -41,7 +41,7 @@ returns-then-entry-session-clause-answers c =
     let entry = c.in-Some.entry in
     let sits : at t.seats c.args.seat ≡ Some entry = sym c.seat.ensures ∙ c.in-Some.is in
     let within : c.args.seat < 16 = c.if-seat-ge16.false in
-    sym (submit_stale l m c.args.serial c.args.room c.args.seat c.args.session c.args.op c.args.range c.args.payload.now entry within sits (search rules))
+    sym (submit_stale l m c.args.serial c.args.room c.args.seat c.args.session c.args.op c.args.range c.args.payload.now entry within sits (search rules) (search rules))
 
 pub returns-then-range-eq0-clause-answers : goal.returns-then-range-eq0-clause-answers
 returns-then-range-eq0-clause-answers c =
@@ -51,7 +51,7 @@ returns-then-range-eq0-clause-answers c =
     let entry = c.in-Some.entry in
     let sits : at t.seats c.args.seat ≡ Some entry = sym c.seat.ensures ∙ c.in-Some.is in
     let within : c.args.seat < 16 = c.if-seat-ge16.false in
-    sym (submit_count l m c.args.serial c.args.room c.args.seat c.args.session c.args.op c.args.range c.args.payload.now entry within sits (search rules) (search rules))
+    sym (submit_count l m c.args.serial c.args.room c.args.seat c.args.session c.args.op c.args.range c.args.payload.now entry within sits (search rules) (search rules) (search rules))
 
 pub returns-then-len-payload_len-clause-answers : goal.returns-then-len-payload_len-clause-answers
 returns-then-len-payload_len-clause-answers c =
@@ -61,7 +61,7 @@ returns-then-len-payload_len-clause-answers c =
     let entry = c.in-Some.entry in
     let sits : at t.seats c.args.seat ≡ Some entry = sym c.seat.ensures ∙ c.in-Some.is in
     let within : c.args.seat < 16 = c.if-seat-ge16.false in
-    sym (submit_length l m c.args.serial c.args.room c.args.seat c.args.session c.args.op c.args.range c.args.payload.now entry within sits (search rules) (search rules) (search rules) (search rules))
+    sym (submit_length l m c.args.serial c.args.room c.args.seat c.args.session c.args.op c.args.range c.args.payload.now entry within sits (search rules) (search rules) (search rules) (search rules) (search rules))
 
 pub returns-then-not-is_within-clause-answers : goal.returns-then-not-is_within-clause-answers
 returns-then-not-is_within-clause-answers c =
@@ -71,7 +71,7 @@ returns-then-not-is_within-clause-answers c =
     let entry = c.in-Some.entry in
     let sits : at t.seats c.args.seat ≡ Some entry = sym c.seat.ensures ∙ c.in-Some.is in
     let within : c.args.seat < 16 = c.if-seat-ge16.false in
-    sym (submit_range l m c.args.serial c.args.room c.args.seat c.args.session c.args.op c.args.range c.args.payload.now entry within sits (search rules) (search rules) (search rules) (search rules) (search rules))
+    sym (submit_range l m c.args.serial c.args.room c.args.seat c.args.session c.args.op c.args.range c.args.payload.now entry within sits (search rules) (search rules) (search rules) (search rules) (search rules) (search rules))
 
 pub returns-then-entry-ge32-clause-answers : goal.returns-then-entry-ge32-clause-answers
 returns-then-entry-ge32-clause-answers c =
@@ -81,4 +81,25 @@ returns-then-entry-ge32-clause-answers c =
     let entry = c.in-Some.entry in
     let sits : at t.seats c.args.seat ≡ Some entry = sym c.seat.ensures ∙ c.in-Some.is in
     let within : c.args.seat < 16 = c.if-seat-ge16.false in
-    sym (submit_many l m c.args.serial c.args.room c.args.seat c.args.session c.args.op c.args.range c.args.payload.now entry within sits (search rules) (search rules) (search rules) (search rules) (search rules) c.if-entry-ge32.true)
+    sym (submit_many l m c.args.serial c.args.room c.args.seat c.args.session c.args.op c.args.range c.args.payload.now entry within sits (search rules) (search rules) (search rules) (search rules) (search rules) (search rules) (search rules) c.if-entry-ge32.true)
+
+pub returns-then-entry-clause-answers : goal.returns-then-entry-clause-answers
+returns-then-entry-clause-answers c =
+    let l = of_sizes c.args.sizes in
+    let t = c.args.parts.now.tables in
+    let m = meaning t in
+    let entry = c.in-Some.entry in
+    let sits : at t.seats c.args.seat ≡ Some entry = sym c.seat.ensures ∙ c.in-Some.is in
+    let leaves : entry.leaving ≡ true = search rules in
+    sym (submit_leaver l m c.args.serial c.args.room c.args.seat c.args.session c.args.op c.args.range c.args.payload.now entry c.if-seat-ge16.false sits leaves)
+
+pub returns-then-frozen-clause-answers : goal.returns-then-frozen-clause-answers
+returns-then-frozen-clause-answers c =
+    let l = of_sizes c.args.sizes in
+    let t = c.args.parts.now.tables in
+    let m = meaning t in
+    let entry = c.in-Some.entry in
+    let sits : at t.seats c.args.seat ≡ Some entry = sym c.seat.ensures ∙ c.in-Some.is in
+    let within : c.args.seat < 16 = c.if-seat-ge16.false in
+    let frozen : t.frozen ≡ true = search rules in
+    sym (submit_frozen l m c.args.serial c.args.room c.args.seat c.args.session c.args.op c.args.range c.args.payload.now entry within sits (search rules) (search rules) (search rules) (search rules) (search rules) (search rules) frozen)

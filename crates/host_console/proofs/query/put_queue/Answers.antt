@@ -1,8 +1,7 @@
 use Rattle.std.proofs.Common.{◌<◌, ◌++◌, length, sym, ap, ◌∙◌, append-nil, arith}
-use Rattle.std.proofs.lemmas.Result.{on_ok_weaker}
 use Rattle.plain_machine.specs.Keeper.{machine_of}
 use Rattle.host_console.specs.Printed.{request_text}
-use Rattle.host_console.proofs.Queues.{begun, left-free, left-past, left-queued, one_more}
+use Rattle.host_console.proofs.Queues.{begun, left-free, left-past, left-queued, one_more, told_free}
 use Rattle.host_console.proofs.query.put_queue.Goals as goal
 
 pub loop-place-init : goal.loop-place-init
@@ -16,7 +15,7 @@ pub returns-in-Free : goal.returns-in-Free
 returns-in-Free g c =
     let m = machine_of (g.K.Keeps.state c.args.keeper.now) in
     let free = left-free (m.seat c.args.seat) (m.queue c.args.seat) c.loop-place.place c.in-Free.ensures.view in
-    on_ok_weaker c.write-in-Free.result (λ h. h ∙ ap (λ ys. c.loop-place.out.items ++ ys) (sym free) ∙ c.loop-place.invariant.whole) c.write-in-Free.ensures.bytes
+    told_free c.write-in-Free.result c.loop-place.out.items _ _ _ c.write-in-Free.ensures.bytes free c.loop-place.invariant.whole
 
 pub returns-in-Past : goal.returns-in-Past
 returns-in-Past g c =

@@ -1,9 +1,9 @@
-use Rattle.std.proofs.Common.{◌≡◌, ◌+◌, List, [], ◌∷◌, ◌++◌, length, sym, ap, ◌∙◌, subst, refl, arith, rules}
+use Rattle.std.proofs.Common.{◌≡◌, ◌+◌, inr, List, [], ◌∷◌, ◌++◌, length, sym, ap, ◌∙◌, subst, refl, arith, rules}
 use Rattle.change_record.specs.declared.change.Change.{Change}
 use Rattle.change_record.specs.Tables.{Tables}
 use Rattle.change_record.specs.Trail.{IsTrail}
-use Rattle.change_record.specs.Machine.{meaning}
-use Rattle.plain_machine.specs.Step.{of_sizes}
+use Rattle.change_record.specs.Machine.{Plain, meaning}
+use Rattle.plain_machine.specs.Step.{of_sizes, step, MayGiveWay}
 use Rattle.plain_machine.specs.Whole.{AreWhole}
 use Rattle.plain_machine.specs.declared.answer.Answer.{Answer}
 use Rattle.dispatch_core.specs.Relation.{Leaves}
@@ -11,6 +11,7 @@ use Rattle.dispatch_core.specs.WellFormed.{WellFormed}
 use Rattle.dispatch_core.specs.Counts.{exchanges_of, rule_exchanges, IsCount}
 use Rattle.dispatch_core.specs.Running.{Running, IsFor, plain_of}
 use Rattle.dispatch_core.proofs.Laws.{WellFormed-later}
+use Rattle.dispatch_core.proofs.Outboxes.{outbox_short}
 use Rattle.dispatch_core.proofs.Bounds.{exchanges_few}
 use Rattle.dispatch_core.proofs.machine.Machine.apply.Goals as goal
 
@@ -48,7 +49,7 @@ pub returns-in-Ok-Accepted-clause-records : goal.returns-in-Ok-Accepted-clause-r
 returns-in-Ok-Accepted-clause-records c =
     let P : Running → Type 0 = λ m. IsFor c.args.serial m in
     let here = subst P (sym c.self.view_is) c.requires.well in
-    let few = exchanges_few (meaning c.self.inside.parts.tables) c.args.step.now here.1 in
+    let few = exchanges_few (meaning c.self.inside.parts.tables) c.args.step.now here.1 (λ seat. outbox_short (of_sizes c.self.inside.sizes) c.args.serial c.self.inside.parts.tables seat here.0) in
     let same : c.self.inside.parts.tables ≡ c.args.self.now.tables = ap (λ (m : Running). m.tables) c.self.view_is in
     let R : List Change → Type 0 = λ l. IsTrail l c.self.inside.parts.tables c.self.inside.parts.tables in
     let T : Tables → Type 0 = λ t. IsTrail c.perform.new.tape.current c.perform.new.parts.tables t in
@@ -66,3 +67,27 @@ returns-in-Ok-Accepted-clause-records c =
     record { least = omega (arith, left.2, none); most = omega (arith, left.3, none); bound = omega (arith, left.3, none, few) } in
     let C : Running → Type 0 = λ m. IsCount (plain_of m) c.args.step.now (length c.perform.new.tape.current) in
     (c.perform.new.tape.current, steps, subst C c.self.view_is counted, subst T same trail)
+
+pub returns-in-Ok-Accepted-clause-well : goal.returns-in-Ok-Accepted-clause-well
+returns-in-Ok-Accepted-clause-well c =
+    let l = of_sizes c.self.inside.sizes in
+    let m = meaning c.self.inside.parts.tables in
+    let P : Running → Type 0 = λ m. IsFor c.args.serial m in
+    let here = subst P (sym c.self.view_is) c.requires.well in
+    let L : Answer → Type 0 =
+    λ a. Leaves l c.args.serial (exchanges_of m c.args.step.now) (rule_exchanges m c.args.step.now) a c.self.inside.parts.tables c.args.tape.now.current
+    c.perform.new.parts.tables c.perform.new.tape.current c.perform.new.tape.spare in
+    let left = subst L c.in-Ok-Accepted.field-0-is c.in-Ok-Accepted.ensures.leaves in
+    let made : (meaning c.perform.new.parts.tables, c.in-Ok-Accepted.field-0) ≡ step l m c.args.serial c.args.room c.args.step.now = c.in-Ok-Accepted.ensures.answers in
+    let W : Plain × Answer → Type 0 = λ o. AreWhole o.0 in
+    (left.0, subst W (sym made) (c.requests_stay_whole.ensures l m c.args.serial c.args.room c.args.step.now here.1))
+
+pub returns-in-Err-clause-applies : goal.returns-in-Err-clause-applies
+returns-in-Err-clause-applies c =
+    let R : List Change → Type 0 = λ l. IsTrail l c.self.inside.parts.tables c.self.inside.parts.tables in
+    let begun : IsTrail [] c.self.inside.parts.tables c.self.inside.parts.tables = record { back = refl; fits = tt; puts = tt } in
+    let trail = c.perform.ensures.trail c.self.inside.parts.tables (subst R (sym c.requires.idle) begun) in
+    let same : c.abandon.new.parts.tables ≡ c.self.inside.parts.tables = c.abandon.ensures.tables ∙ trail.back in
+    let G : Running → Type 0 = λ m. MayGiveWay (step (of_sizes m.sizes) (plain_of m) c.args.serial c.args.room c.args.step.now).1 in
+    let next : meaning c.abandon.new.parts.tables ≡ plain_of c.args.self.now = ap meaning same ∙ ap plain_of c.self.view_is in
+    inr (subst G c.self.view_is c.in-Err.ensures.answers, refl, next)

@@ -36,3 +36,27 @@ returns-in-Attach-clause-err g c = rw c.in-Attach.is (on_err_weaker c.step.resul
 
 pub returns-in-Dispatch-clause-err : goal.returns-in-Dispatch-clause-err
 returns-in-Dispatch-clause-err g c = rw c.in-Dispatch.is (on_err_weaker c.step-in-Dispatch.result (λ h. inr h) c.step-in-Dispatch.ensures.err)
+
+pub returns-in-Leave-clause-err : goal.returns-in-Leave-clause-err
+returns-in-Leave-clause-err g c =
+    rw c.in-Leave.is (on_err_weaker c.step-in-Leave.result (λ h. inr h) (rw c.leave.ensures at c.step-in-Leave.ensures.err))
+
+pub returns-in-Requeue-clause-err : goal.returns-in-Requeue-clause-err
+returns-in-Requeue-clause-err g c =
+    rw c.in-Requeue.is (on_err_weaker c.step-in-Requeue.result (λ h. inr h) (rw c.requeue.ensures at c.step-in-Requeue.ensures.err))
+
+pub returns-in-Freeze-clause-err : goal.returns-in-Freeze-clause-err
+returns-in-Freeze-clause-err g c =
+    rw c.in-Freeze.is (on_err_weaker c.step-in-Freeze.result (λ h. inr h) (rw c.freeze.ensures at c.step-in-Freeze.ensures.err))
+
+pub returns-in-Thaw-clause-err : goal.returns-in-Thaw-clause-err
+returns-in-Thaw-clause-err g c =
+    rw c.in-Thaw.is (on_err_weaker c.step-in-Thaw.result (λ h. inr h) (rw c.thaw.ensures at c.step-in-Thaw.ensures.err))
+
+pub returns-in-Switch-clause-err : goal.returns-in-Switch-clause-err
+returns-in-Switch-clause-err g c =
+    rw c.in-Switch.is (on_err_weaker c.step-in-Switch.result (λ h. inr h) (rw c.switch.ensures at c.step-in-Switch.ensures.err))
+
+pub returns-in-Tick-clause-err : goal.returns-in-Tick-clause-err
+returns-in-Tick-clause-err g c =
+    rw c.in-Tick.is (on_err_weaker c.step-in-Tick.result (λ h. inr h) (rw c.tick.ensures at c.step-in-Tick.ensures.err))
