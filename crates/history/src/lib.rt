@@ -23,7 +23,7 @@ mod run;
 
 pub use keeper::{Keeper, KeeperView};
 pub use laws::{redo_gives_back, two_undos_are_one};
-pub use plain_machine::{Call, Stamped};
+pub use plain_machine::{Call, DeviceCall, Stamped};
 pub use run::RunStop;
 
 #[cfg(test)]

@@ -6,4 +6,5 @@ pub mod Whole
 pub mod Queued
 pub mod Entities
 pub mod Times
+pub mod Device
 pub use Rattle.change_record.specs.Machine

@@ -1,5 +1,9 @@
 // The calls of a keeper.
+ghost use Rattle.std.specs.Prelude.{◌≡◌};
+ghost use Rattle.plain_machine.specs.Device.{device_step};
+
 use crate::Step;
+use sector_core::Outcome;
 
 /// What a keeper is asked.
 #[derive(Clone, Debug, Drop)]
@@ -14,6 +18,42 @@ pub enum Call {
     Undo { k: u32 },
     /// The next `k` steps that were undone are redone.
     Redo { k: u32 },
+}
+
+/// What a device asks for once it has done its work.
+#[derive(Clone, Debug, Drop)]
+pub enum DeviceCall {
+    /// The request in flight under the tag with this issue has ended so.
+    Finish {
+        tag: u8,
+        issue: u64,
+        outcome: Outcome,
+    },
+    /// The request is given back.
+    Requeue {
+        tag: u8,
+        issue: u64,
+    },
+}
+
+impl DeviceCall {
+    /// The step of the machine that it asks for.
+    pub fn into_step(self) -> Step
+        ensures { result ≡ device_step self }
+    {
+        match self {
+            DeviceCall::Finish {
+                tag,
+                issue,
+                outcome,
+            } => Step::Finish {
+                tag,
+                issue,
+                outcome,
+            },
+            DeviceCall::Requeue { tag, issue } => Step::Requeue { tag, issue },
+        }
+    }
 }
 
 /// A step that was accepted, with its serial.

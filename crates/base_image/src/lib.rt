@@ -1,0 +1,14 @@
+#![tactic(auto)]
+//! Images: read-only bytes under the host, in sectors of 512, from memory or from a file.
+//!
+//! | call | rule that it meets |
+//! |---|---|
+//! | `Image::read_at` | bytes of the image, or a failure that is counted; nothing only at the image's end |
+//! | `MemoryImage` | tells the bytes that it was given, and so many sectors as it was told |
+//! | `ZeroImage` | so many sectors of zeros, without their memory |
+//! | `FileImage` | reads a file; of its bytes no contract can speak |
+//! | `FailingImage` | another image, of which the read with one number fails, and no other |
+
+mod image;
+
+pub use image::{Image, ImageFault};
