@@ -30,7 +30,8 @@ OPTIONS
     --timeout N          ticks until a queue in service expires, 1 to 1000 (8)
     --history N          accepted calls at most, 1 to 16777216 (65536)
     --first-vtime N      virtual time at the start, 0 to 2^62 (0)
-    --sectors N          sectors of the device in memory, 0 to 65536 (1024)
+    --sectors N          sectors of a device of zeros, 0 to 65536 (1024)
+    --image FILE         the device is this file, which is read and never written; --sectors is not used then
     --help, -h           print this help
 
 SCRIPT: one call a line, words joined by one space; an empty line or one that begins with # is skipped
@@ -38,7 +39,8 @@ SCRIPT: one call a line, words joined by one space; an empty line or one that be
     write SEAT SESSION START COUNT BYTE  reap SEAT SESSION
     leave SEAT                           dispatch
     finish TAG ISSUE stored|short|fault|fill BYTE
-    requeue TAG ISSUE                    group PARENT WEIGHT
+    work TAG ISSUE                       requeue TAG ISSUE
+    group PARENT WEIGHT
     drop GROUP, weight GROUP WEIGHT      freeze, thaw, switch none|bfq, tick
     hold, release                        undo K, redo K
     sector NUMBER                        queue SEAT
@@ -47,5 +49,5 @@ SCRIPT: one call a line, words joined by one space; an empty line or one that be
 
 EXIT STATUS
     0 end of input    2 bad line    3 read fault    4 write fault    5 no memory
-    6 bad words or configuration
+    6 bad words, configuration or image
 ";

@@ -9,7 +9,7 @@ use Rattle.script_line.specs.declared.line.Line.{Line}
 use Rattle.script_line.specs.declared.line.Ending.{Ending}
 use Rattle.sector_core.specs.declared.config.Scheduler.{Scheduler}
 use Rattle.sector_core.specs.declared.config.Scheduler.TheVariants.{Plain, Bfq}
-use Rattle.script_line.specs.declared.line.Line.TheVariants.{Attach, Read, Write, Reap, Leave, Dispatch, Finish, Requeue, Hold, Release, Undo, Redo, Group, Drop, Weight, Freeze, Thaw, Switch, Tick, Sector, Queue, Cursor, Vtime, Entity}
+use Rattle.script_line.specs.declared.line.Line.TheVariants.{Attach, Read, Write, Reap, Leave, Dispatch, Finish, Work, Requeue, Hold, Release, Undo, Redo, Group, Drop, Weight, Freeze, Thaw, Switch, Tick, Sector, Queue, Cursor, Vtime, Entity}
 use Rattle.script_line.proofs.Cuts.{one_number, one_cut, IsTail-numbers}
 
 pub record IsPlain (word given : List ℕ) (l : Line) : Type 0 where
@@ -46,6 +46,7 @@ parts (Reap s n) f = inl (codes "reap", s ∷ n ∷ [], record { spelling = refl
 parts (Leave s) f = inl (codes "leave", s ∷ [], record { spelling = refl; space = search rules; fits = (omega arith, tt); few = lit≤ tt; is = λ w ns e d. (e, d) })
 parts Dispatch f = inl (codes "dispatch", [], record { spelling = refl; space = search rules; fits = tt; few = lit≤ tt; is = λ w ns e d. (e, d) })
 parts (Finish t i e) f = inr (codes "finish", numbers (t ∷ i ∷ []) ++ ended e, record { spelling = refl; space = search rules; tail = refl; known = inl refl; other = inl (t, i, e, refl) })
+parts (Work t i) f = inl (codes "work", t ∷ i ∷ [], record { spelling = refl; space = search rules; fits = (omega arith, (f.1, tt)); few = lit≤ tt; is = λ w ns e d. (e, d) })
 parts (Requeue t i) f = inl (codes "requeue", t ∷ i ∷ [], record { spelling = refl; space = search rules; fits = (omega arith, (f.1, tt)); few = lit≤ tt; is = λ w ns e d. (e, d) })
 parts Hold f = inl (codes "hold", [], record { spelling = refl; space = search rules; fits = tt; few = lit≤ tt; is = λ w ns e d. (e, d) })
 parts Release f = inl (codes "release", [], record { spelling = refl; space = search rules; fits = tt; few = lit≤ tt; is = λ w ns e d. (e, d) })

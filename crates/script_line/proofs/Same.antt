@@ -4,7 +4,7 @@ use Rattle.script_line.specs.Words.{numbers}
 use Rattle.script_line.specs.Line.{spelled, ended, Fits, EndingFits}
 use Rattle.script_line.specs.Plain.{IsWordAndNumbers}
 use Rattle.script_line.specs.declared.line.Line.{Line}
-use Rattle.script_line.specs.declared.line.Line.TheVariants.{Attach, Read, Write, Reap, Leave, Dispatch, Finish, Requeue, Hold, Release, Undo, Redo, Group, Drop, Weight, Freeze, Thaw, Switch, Tick, Sector, Queue, Cursor, Vtime, Entity}
+use Rattle.script_line.specs.declared.line.Line.TheVariants.{Attach, Read, Write, Reap, Leave, Dispatch, Finish, Work, Requeue, Hold, Release, Undo, Redo, Group, Drop, Weight, Freeze, Thaw, Switch, Tick, Sector, Queue, Cursor, Vtime, Entity}
 use Rattle.script_line.specs.declared.line.Ending.{Ending}
 use Rattle.script_line.specs.declared.line.Ending.TheVariants.{Stored, Fill, Short, Fault}
 use Rattle.sector_core.specs.declared.config.Scheduler.{Scheduler}
@@ -27,6 +27,7 @@ word_of (Reap s n) = codes "reap"
 word_of (Leave s) = codes "leave"
 word_of Dispatch = codes "dispatch"
 word_of (Finish t i e) = codes "finish"
+word_of (Work t i) = codes "work"
 word_of (Requeue t i) = codes "requeue"
 word_of Hold = codes "hold"
 word_of Release = codes "release"
@@ -71,6 +72,8 @@ one_plain w ns (Leave s) m one two = absurd (omega (arith, ap mark (sym one.0 �
 one_plain w ns Dispatch Dispatch one two = refl
 one_plain w ns Dispatch m one two = absurd (omega (arith, ap mark (sym one.0 ∙ word_is w ns m two)))
 one_plain w ns (Finish t i e) m one two = absurd one
+one_plain w ns (Work t i) (Work t' i') one two = let same : t ∷ i ∷ [] ≡ t' ∷ i' ∷ [] = sym one.1 ∙ two.1 in cc
+one_plain w ns (Work t i) m one two = absurd (omega (arith, ap mark (sym one.0 ∙ word_is w ns m two)))
 one_plain w ns (Requeue t i) (Requeue t' i') one two = let same : t ∷ i ∷ [] ≡ t' ∷ i' ∷ [] = sym one.1 ∙ two.1 in cc
 one_plain w ns (Requeue t i) m one two = absurd (omega (arith, ap mark (sym one.0 ∙ word_is w ns m two)))
 one_plain w ns Hold Hold one two = refl

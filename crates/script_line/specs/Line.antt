@@ -4,7 +4,7 @@ use Rattle.sector_core.specs.declared.config.Scheduler.{Scheduler}
 use Rattle.sector_core.specs.declared.config.Scheduler.TheVariants.{Plain, Bfq}
 use Rattle.script_line.specs.Words.{numbers}
 use Rattle.script_line.specs.declared.line.Line.{Line}
-use Rattle.script_line.specs.declared.line.Line.TheVariants.{Attach, Read, Write, Reap, Leave, Dispatch, Finish, Requeue, Hold, Release, Undo, Redo, Group, Drop, Weight, Freeze, Thaw, Switch, Tick, Sector, Queue, Cursor, Vtime, Entity}
+use Rattle.script_line.specs.declared.line.Line.TheVariants.{Attach, Read, Write, Reap, Leave, Dispatch, Finish, Work, Requeue, Hold, Release, Undo, Redo, Group, Drop, Weight, Freeze, Thaw, Switch, Tick, Sector, Queue, Cursor, Vtime, Entity}
 use Rattle.script_line.specs.declared.line.Ending.{Ending}
 use Rattle.script_line.specs.declared.line.Ending.TheVariants.{Stored, Fill, Short, Fault}
 
@@ -29,6 +29,7 @@ spelled (Reap seat session) = codes "reap" ++ numbers (seat ∷ session ∷ [])
 spelled (Leave seat) = codes "leave" ++ numbers (seat ∷ [])
 spelled Dispatch = codes "dispatch"
 spelled (Finish tag issue ending) = codes "finish" ++ (numbers (tag ∷ issue ∷ []) ++ ended ending)
+spelled (Work tag issue) = codes "work" ++ numbers (tag ∷ issue ∷ [])
 spelled (Requeue tag issue) = codes "requeue" ++ numbers (tag ∷ issue ∷ [])
 spelled Hold = codes "hold"
 spelled Release = codes "release"
@@ -63,6 +64,7 @@ Fits (Reap seat session) = (seat < 2 ^ 8) × (session < 2 ^ 64)
 Fits (Leave seat) = seat < 2 ^ 8
 Fits Dispatch = Unit {0}
 Fits (Finish tag issue ending) = (tag < 2 ^ 8) × (issue < 2 ^ 64) × EndingFits ending
+Fits (Work tag issue) = (tag < 2 ^ 8) × (issue < 2 ^ 64)
 Fits (Requeue tag issue) = (tag < 2 ^ 8) × (issue < 2 ^ 64)
 Fits Hold = Unit {0}
 Fits Release = Unit {0}

@@ -2,7 +2,7 @@
 use Rattle.std.specs.Prelude.{◌≡◌, ℕ, List, [], ◌∷◌, codes, Option, MatchOption}
 use Rattle.script_line.specs.Line.{Fits}
 use Rattle.script_line.specs.declared.line.Line.{Line}
-use Rattle.script_line.specs.declared.line.Line.TheVariants.{Attach, Read, Write, Reap, Leave, Dispatch, Finish, Requeue, Hold, Release, Undo, Redo, Group, Drop, Weight, Freeze, Thaw, Switch, Tick, Sector, Queue, Cursor, Vtime, Entity}
+use Rattle.script_line.specs.declared.line.Line.TheVariants.{Attach, Read, Write, Reap, Leave, Dispatch, Finish, Work, Requeue, Hold, Release, Undo, Redo, Group, Drop, Weight, Freeze, Thaw, Switch, Tick, Sector, Queue, Cursor, Vtime, Entity}
 
 -- the line is this word and then these numbers
 abbrev pub IsWordAndNumbers : List ℕ → List ℕ → Line → Type 0
@@ -13,6 +13,7 @@ IsWordAndNumbers word given (Reap seat session) = (word ≡ codes "reap") × (gi
 IsWordAndNumbers word given (Leave seat) = (word ≡ codes "leave") × (given ≡ seat ∷ [])
 IsWordAndNumbers word given Dispatch = (word ≡ codes "dispatch") × (given ≡ [])
 IsWordAndNumbers word given (Finish tag issue ending) = ⊥
+IsWordAndNumbers word given (Work tag issue) = (word ≡ codes "work") × (given ≡ tag ∷ issue ∷ [])
 IsWordAndNumbers word given (Requeue tag issue) = (word ≡ codes "requeue") × (given ≡ tag ∷ issue ∷ [])
 IsWordAndNumbers word given Hold = (word ≡ codes "hold") × (given ≡ [])
 IsWordAndNumbers word given Release = (word ≡ codes "release") × (given ≡ [])

@@ -59,6 +59,15 @@ pub fn leave(seat: u64) -> Option<Line>
     }
 }
 
+pub fn work(tag: u64, issue: u64) -> Option<Line>
+    ensures { FitsOrNone (Line.Work tag issue) result }
+{
+    match u8::try_from(tag) {
+        Ok(tag) => Some(Line::Work { tag, issue }),
+        Err(_) => None,
+    }
+}
+
 pub fn requeue(tag: u64, issue: u64) -> Option<Line>
     ensures { FitsOrNone (Line.Requeue tag issue) result }
 {

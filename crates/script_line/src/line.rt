@@ -42,6 +42,11 @@ pub enum Line {
         issue: u64,
         ending: Ending,
     },
+    /// `work TAG ISSUE`
+    Work {
+        tag: u8,
+        issue: u64,
+    },
     /// `requeue TAG ISSUE`
     Requeue {
         tag: u8,

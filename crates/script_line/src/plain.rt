@@ -5,7 +5,7 @@ ghost use Rattle.script_line.specs.Plain.{Reads};
 
 use super::fitted::{
     attach, drop_group, entity, group, leave, queue, read, reap, redo, requeue, undo, vtime,
-    weight, write,
+    weight, work, write,
 };
 use super::line::Line;
 
@@ -80,6 +80,8 @@ fn with_two(word: &[u8], a: u64, b: u64) -> Option<Line>
         group(a, b)
     } else if word == b"weight".as_slice() {
         weight(a, b)
+    } else if word == b"work".as_slice() {
+        work(a, b)
     } else if word == b"requeue".as_slice() {
         requeue(a, b)
     } else {

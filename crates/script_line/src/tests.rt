@@ -80,6 +80,14 @@ const FORMS: [(&[u8], Line); 37] = [
             ending: Ending::Fault,
         },
     ),
+    (b"work 0 3", Line::Work { tag: 0, issue: 3 }),
+    (
+        b"work 255 18446744073709551615",
+        Line::Work {
+            tag: 255,
+            issue: u64::MAX,
+        },
+    ),
     (b"requeue 0 4", Line::Requeue { tag: 0, issue: 4 }),
     (
         b"requeue 255 18446744073709551615",
@@ -226,6 +234,12 @@ const BAD: [&[u8]; 103] = [
     b"leave 256",
     b"leave 0 1",
     b"leaves 0",
+    b"work",
+    b"work 0",
+    b"work 256 1",
+    b"work 0 18446744073709551616",
+    b"work 0 1 stored",
+    b"works 0 1",
     b"requeue 0",
     b"requeue 256 1",
     b"requeue 0 18446744073709551616",
