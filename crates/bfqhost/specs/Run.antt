@@ -1,15 +1,16 @@
 -- A script run on a new host.
 use Rattle.std.specs.Prelude.{◌≡◌, ℕ, ◌⊎◌}
 use Rattle.plain_machine.specs.Step.{Limits}
-use Rattle.plain_machine.specs.Keeper.{State, opened}
+use Rattle.plain_machine.specs.Keeper.{opened}
+use Rattle.base_image.specs.Image.{Disk}
 use Rattle.script_run.specs.Script.{Known, IsEnd}
 use Rattle.script_run.specs.declared.ending.ScriptEnd.{ScriptEnd}
 use Rattle.script_run.specs.declared.ending.ScriptEnd.TheVariants.{OutOfMemory}
-use Rattle.host_console.specs.Printed.{Prints}
+use Rattle.host_console.specs.Printed.{Desk, Prints}
 
--- The lines that were read ran on a new keeper and came to some last state of it;
+-- The lines that were read ran on a new keeper over an image, and came to some last state of both;
 -- or there was no memory for a keeper, and then nothing was read and nothing written.
-abbrev pub IsRun : Limits → ℕ → Known → Known → Known → Known → ScriptEnd → Type 0
-IsRun limits most r0 r1 w0 w1 end =
-    ((last : State) × IsEnd Prints r0 r1 w0 w1 (opened limits most) last end)
+abbrev pub IsRun : Limits → ℕ → Disk → Known → Known → Known → Known → ScriptEnd → Type 0
+IsRun limits most image r0 r1 w0 w1 end =
+    ((last : Desk) × IsEnd Prints r0 r1 w0 w1 (record { keeper = opened limits most; disk = image }) last end)
     ⊎ ((end ≡ OutOfMemory) × (r1 ≡ r0) × (w1 ≡ w0))

@@ -1,5 +1,5 @@
 -- The exit status.
-use Rattle.std.specs.Prelude.{ℕ, ◌<◌, IsSome, ◌⊎◌}
+use Rattle.std.specs.Prelude.{◌≡◌, ℕ, ◌<◌, Bool, true, false, IsSome, ◌⊎◌, ◌↔◌}
 use Rattle.sector_core.specs.Config.{fault_of}
 use Rattle.sector_core.specs.declared.config.ConfigDraft.{ConfigDraft}
 use Rattle.script_run.specs.declared.ending.ScriptEnd.{ScriptEnd}
@@ -13,6 +13,11 @@ status_of ReadFault = 3
 status_of WriteFault = 4
 status_of OutOfMemory = 5
 
--- a field is out of its limits
+-- a field is out of its limits; the number of sectors is one where no file is the image
 abbrev pub IsRefused : ConfigDraft → ℕ → Type 0
 IsRefused draft sectors = IsSome (fault_of draft) ⊎ (65536 < sectors)
+
+-- a run is refused for a field; over a file it is refused for the file too, of which no more can be said
+abbrev pub IsSimStatus : ConfigDraft → ℕ → Bool → ℕ → Type 0
+IsSimStatus draft sectors false status = status ≡ 6 ↔ IsRefused draft sectors
+IsSimStatus draft sectors true status = IsSome (fault_of draft) → status ≡ 6

@@ -3,7 +3,7 @@
 use dispatch_core::SectorView;
 use history::Keeper;
 use host_console::{Content, Keeps};
-use plain_machine::{Answer, Call, EntityView, RequestView};
+use plain_machine::{Answer, Call, EntityView, RequestView, Work};
 use std::alloc::Global;
 
 /// A keeper that a script is run at.
@@ -20,10 +20,10 @@ impl Keeps for Host {
         self.keeper.call(alloc, call)
     }
 
-    fn request_sectors(&self, tag: u8, issue: u64) -> u32 {
+    fn work(&self, tag: u8, issue: u64) -> Option<Work> {
         match self.keeper.view().machine().in_flight(tag) {
-            Some(work) if work.issue == issue => work.range.count,
-            _ => 0,
+            Some(work) if work.issue == issue => Some(work),
+            _ => None,
         }
     }
 

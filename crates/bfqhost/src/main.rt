@@ -7,6 +7,7 @@
 //!
 //! ```text
 //! bfqhost sim < SCRIPT
+//! bfqhost sim --image FILE < SCRIPT
 //! ```
 //!
 //! | status | |
@@ -16,7 +17,7 @@
 //! | 3 | a read of standard input failed |
 //! | 4 | a write to standard output failed |
 //! | 5 | no memory |
-//! | 6 | bad words or configuration; standard output is empty |
+//! | 6 | bad words, configuration or image; standard output is empty |
 
 mod host;
 mod script;

@@ -5,6 +5,7 @@ ghost use Rattle.dispatch_core.specs.Running.{sizes_of};
 ghost use Rattle.bfqhost.specs.Run.{IsRun};
 
 use crate::host::Host;
+use base_image::Image;
 use history::Keeper;
 use host_console::{Teller, run_keeper};
 use script_run::ScriptEnd;
@@ -12,25 +13,26 @@ use sector_core::Config;
 use std::alloc::Global;
 use std::io::{Read, Write};
 
-/// Runs the lines of the reader in turn on a new keeper over an image of `sectors` zero sectors, and writes what each prints
-/// before the next runs. The writer is not flushed.
-pub fn run_script<R: Read, W: Write>(
+/// Runs the lines of the reader in turn on a new keeper over the image, and writes what each prints before the next runs.
+/// The writer is not flushed. So few reads of the image have failed before that those of a script can be counted too.
+pub fn run_script<R: Read, W: Write, I: Image>(
     alloc: Global,
     config: Config,
-    sectors: u64,
     reader: &mut R,
     writer: &mut W,
+    image: I,
 ) -> ScriptEnd
-    requires { sectors < 2 ^ 55 }
-    ensures { IsRun (of_sizes (sizes_of config sectors)) config.history_max
+    requires { (I.disk image).faults < 2 ^ 63 }
+    ensures { IsRun (of_sizes (sizes_of config (I.disk image).sectors)) config.history_max (I.disk image)
         (R.remaining reader.old) (R.remaining reader.new) (W.contents writer.old) (W.contents writer.new) result }
 {
-    let keeper = match Keeper::new(alloc, config, sectors) {
+    let keeper = match Keeper::new(alloc, config, image.sectors()) {
         Ok(keeper) => keeper,
         Err(_) => return ScriptEnd::OutOfMemory,
     };
     let mut teller = Teller {
         keeper: Host { keeper },
+        image,
     };
     run_keeper(alloc, reader, writer, &mut teller)
 }

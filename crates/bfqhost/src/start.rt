@@ -1,13 +1,16 @@
 // From the words of the command line to the status.
-ghost use Rattle.std.specs.Prelude.{◌≡◌, ◌≤◌, ◌↔◌};
-ghost use Rattle.bfqhost.specs.Status.{status_of, IsRefused};
+ghost use Rattle.std.specs.Prelude.{◌≡◌, ◌≤◌, ◌<◌, ◌^◌, ◌↔◌, IsSome, is_some};
+ghost use Rattle.sector_core.specs.Config.{fault_of};
+ghost use Rattle.bfqhost.specs.Status.{status_of, IsRefused, IsSimStatus};
 
 use crate::script::run_script;
+use base_image::{FileImage, Image, ZeroImage};
 use host_options::{Request, WordFault, help_text, request_of};
 use script_run::ScriptEnd;
 use sector_core::{Config, ConfigDraft};
+use std::fs::File;
 use std::io::{self, BufWriter, ErrorKind, Write};
-use std::rt::Env;
+use std::rt::{Env, Files};
 use std::{env, fmt};
 
 const DONE: u8 = 0;
@@ -22,17 +25,21 @@ const NO_MEMORY: u8 = 5;
 
 const REFUSED: u8 = 6;
 
-// The most sectors of a device in memory.
+// The most sectors of a device of zeros.
 const MOST_SECTORS: u64 = 65_536;
 
 // Standard output is written in pieces of this size.
 const OUTPUT_BYTES: usize = 65_536;
 
 /// Does what the words ask for, and gives the status.
-pub fn start(rt: &(impl Env + AllocGlobal + Input + Print + Eprint)) -> u8 {
+pub fn start(rt: &(impl Env + Files<File = File> + AllocGlobal + Input + Print + Eprint)) -> u8 {
     match asked(rt) {
         Ok(Request::Help) => help(rt),
-        Ok(Request::Sim { draft, sectors }) => sim(rt, draft, sectors),
+        Ok(Request::Sim {
+            draft,
+            sectors,
+            image,
+        }) => sim(rt, draft, sectors, image),
         Err(WordFault::Usage) => {
             let _ = rt.eprintln("words: refused");
             REFUSED
@@ -68,14 +75,39 @@ fn write_help(rt: &impl Print) -> io::Result<()> {
     output.flush()
 }
 
-// Runs the script, where the configuration and then the number of sectors are within their limits.
-fn sim(rt: &(impl AllocGlobal + Input + Print + Eprint), draft: ConfigDraft, sectors: u64) -> u8
-    ensures { result ≡ REFUSED ↔ IsRefused draft sectors }
+// Runs the script, where the configuration is within its limits and then the image can be had: the file that is named,
+// or sectors of zeros, so many as there may be.
+fn sim(
+    rt: &(impl Files<File = File> + AllocGlobal + Input + Print + Eprint),
+    draft: ConfigDraft,
+    sectors: u64,
+    image: Option<String>,
+) -> u8
+    ensures { IsSimStatus draft sectors (is_some image) result }
 {
-    match Config::check(draft) {
-        Ok(config) if sectors <= MOST_SECTORS => simulate(rt, config, sectors),
-        Ok(_) => bad_field(rt, "sectors"),
-        Err(fault) => bad_field(rt, fault),
+    match (Config::check(draft), image) {
+        (Err(fault), _) => bad_field(rt, fault),
+        (Ok(config), Some(path)) => over_file(rt, config, path.as_str()),
+        (Ok(config), None) if sectors <= MOST_SECTORS => {
+            simulate(rt, config, ZeroImage::new(sectors))
+        }
+        (Ok(_), None) => bad_field(rt, "sectors"),
+    }
+}
+
+// Runs the script over the image in a file.
+fn over_file(
+    rt: &(impl Files<File = File> + AllocGlobal + Input + Print + Eprint),
+    config: Config,
+    path: &str,
+) -> u8 {
+    match File::open(rt, path).and_then(FileImage::from_file) {
+        Ok(image) => simulate(rt, config, image),
+        Err(error) if error.kind() == ErrorKind::OutOfMemory => no_memory(rt),
+        Err(_) => {
+            let _ = rt.eprintln("image: cannot be read");
+            REFUSED
+        }
     }
 }
 
@@ -93,16 +125,20 @@ fn no_memory(rt: &impl Eprint) -> u8
     NO_MEMORY
 }
 
-// Runs the script from standard input to standard output, which is flushed at the end.
-fn simulate(rt: &(impl AllocGlobal + Input + Print + Eprint), config: Config, sectors: u64) -> u8
-    requires { sectors ≤ MOST_SECTORS }
+// Runs the script over the image, from standard input to standard output, which is flushed at the end.
+fn simulate<I: Image + Drop>(
+    rt: &(impl AllocGlobal + Input + Print + Eprint),
+    config: Config,
+    image: I,
+) -> u8
+    requires { (I.disk image).faults < 2 ^ 63 }
     ensures { result ≤ NO_MEMORY }
 {
     let mut output = match BufWriter::with_capacity(rt.alloc(), OUTPUT_BYTES, io::writer(rt)) {
         Ok(output) => output,
         Err(_) => return no_memory(rt),
     };
-    let end = run_script(rt.alloc(), config, sectors, &mut rt.reader(), &mut output);
+    let end = run_script(rt.alloc(), config, &mut rt.reader(), &mut output, image);
     match output.flush() {
         Ok(()) => status(rt, end),
         Err(_) => WRITE_FAULT,

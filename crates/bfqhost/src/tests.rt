@@ -3,5 +3,6 @@ mod calls;
 mod ends;
 mod fakes;
 mod groups;
+mod images;
 mod scripts;
 mod steps;

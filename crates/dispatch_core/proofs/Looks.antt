@@ -11,7 +11,7 @@ use Rattle.change_record.specs.Machine.{meaning, outbox_at}
 use Rattle.plain_machine.specs.declared.answer.Work.{Work}
 use Rattle.plain_machine.specs.Step.{Limits, range_of}
 use Rattle.dispatch_core.specs.Ranges.{first_start, total_count}
-use Rattle.dispatch_core.specs.Running.{work_of}
+use Rattle.plain_machine.specs.Device.{work_of}
 use Rattle.dispatch_core.proofs.Queues.{flight_borne}
 use Rattle.dispatch_core.proofs.Sectors.{range_is, request_taken}
 use Rattle.dispatch_core.specs.WellFormed.{at, one, WellFormed}

@@ -5,12 +5,11 @@ use Rattle.sector_core.specs.declared.config.Config.{Config}
 use Rattle.change_record.specs.declared.change.Making.{Making}
 use Rattle.change_record.specs.Tables.{Tables}
 use Rattle.change_record.specs.Trail.{IsTrail}
-use Rattle.change_record.specs.Machine.{Plain, Flight, meaning}
+use Rattle.change_record.specs.Machine.{Plain, meaning}
 use Rattle.plain_machine.specs.declared.sizes.Sizes.{Sizes}
 use Rattle.plain_machine.specs.declared.answer.Answer.{Answer}
 use Rattle.plain_machine.specs.declared.answer.Answer.TheVariants.{Accepted, Refused, NotYet}
-use Rattle.plain_machine.specs.declared.answer.Work.{Work}
-use Rattle.plain_machine.specs.Step.{of_sizes, range_of}
+use Rattle.plain_machine.specs.Step.{of_sizes}
 use Rattle.dispatch_core.specs.WellFormed.{IsSound}
 
 pub record Running : Type 0 where
@@ -57,7 +56,3 @@ Records (Accepted reply) IsOne steps before now_steps now =
     (changes : List Change) × (now_steps ≡ steps ++ changes ∷ []) × IsOne (length changes) × IsTrail changes now before
 Records (Refused code) IsOne steps before now_steps now = (now_steps ≡ steps) × (now ≡ before)
 Records (NotYet cause) IsOne steps before now_steps now = (now_steps ≡ steps) × (now ≡ before)
-
--- a request in flight, as a device takes it
-abbrev pub work_of : ℕ → Flight → Work
-work_of tag flight = record { tag = tag; issue = flight.issue; op = flight.request.op; range = range_of flight.request.bios }

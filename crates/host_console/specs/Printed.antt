@@ -9,16 +9,22 @@ use Rattle.sector_core.specs.declared.bio.Outcome.{Outcome}
 use Rattle.sector_core.specs.declared.bio.Outcome.TheVariants as outcome
 use Rattle.sector_text.specs.Hex.{hex_of}
 use Rattle.script_line.specs.declared.line.Line.{Line}
-use Rattle.script_line.specs.declared.line.Line.TheVariants.{Attach, Read, Write, Reap, Leave, Dispatch, Finish, Requeue, Hold, Release, Undo, Redo, Group, Drop, Weight, Freeze, Thaw, Switch, Tick, Sector, Queue, Cursor, Vtime, Entity}
+use Rattle.script_line.specs.declared.line.Line.TheVariants.{Attach, Read, Write, Reap, Leave, Dispatch, Finish, Work, Requeue, Hold, Release, Undo, Redo, Group, Drop, Weight, Freeze, Thaw, Switch, Tick, Sector, Queue, Cursor, Vtime, Entity}
 use Rattle.script_line.specs.declared.line.Ending.{Ending}
 use Rattle.script_line.specs.declared.line.Ending.TheVariants.{Stored, Fill, Short, Fault}
-use Rattle.change_record.specs.Machine.{WholeRequest, Flight}
+use Rattle.change_record.specs.Machine.{WholeRequest}
+use Rattle.base_image.specs.Image.{Disk}
+use Rattle.device_engine.specs.Work.{Works}
+use Rattle.plain_machine.specs.declared.answer.Work.{Work as Taken}
+use Rattle.plain_machine.specs.declared.call.DeviceCall.{DeviceCall}
+use Rattle.plain_machine.specs.declared.step.Step.{Step}
+use Rattle.plain_machine.specs.Device.{work_in_flight, device_step}
 use Rattle.plain_machine.specs.declared.answer.Answer.{Answer}
 use Rattle.plain_machine.specs.declared.step.Step.TheVariants as step
 use Rattle.plain_machine.specs.declared.step.Why.TheVariants as why
 use Rattle.plain_machine.specs.declared.call.Call.{Call}
 use Rattle.plain_machine.specs.declared.call.Call.TheVariants as call
-use Rattle.plain_machine.specs.Step.{size_of, range_of}
+use Rattle.plain_machine.specs.Step.{range_of}
 use Rattle.plain_machine.specs.Keeper.{State, MayCall, machine_of}
 use Rattle.plain_machine.specs.Entities.{vtime_view, entity_view}
 use Rattle.host_console.specs.Texts.{text_of, vtime_text, entity_text}
@@ -31,14 +37,14 @@ use Rattle.host_console.specs.declared.content.Content.TheVariants as content
 abbrev pub payload_of : ℕ → ℕ → List ℕ
 payload_of count byte = if nat_lt 64 count then [] else replicate (512 * count) byte
 
--- the sectors of a request, where it was issued with this serial
-abbrev pub sectors_issued : ℕ → Option Flight → ℕ
-sectors_issued issue None = 0
-sectors_issued issue (Some flight) = if flight.issue == issue then size_of flight.request.bios else 0
+-- the sectors of some work, or none
+abbrev pub sectors_of : Option Taken → ℕ
+sectors_of None = 0
+sectors_of (Some work) = work.range.count
 
 -- the sectors of the request in flight under a tag with this issue, or none
 abbrev pub sectors_in_flight : State → ℕ → ℕ → ℕ
-sectors_in_flight k tag issue = sectors_issued issue ((machine_of k).flight tag)
+sectors_in_flight k tag issue = sectors_of (work_in_flight (machine_of k) tag issue)
 
 -- how a `finish` line ended: filled are as many sectors as the request in flight has
 abbrev pub outcome_of : State → ℕ → ℕ → Ending → Outcome
@@ -46,6 +52,11 @@ outcome_of k tag issue Stored = outcome.Stored
 outcome_of k tag issue (Fill byte) = outcome.Fetched (replicate (512 * sectors_in_flight k tag issue) byte)
 outcome_of k tag issue Short = outcome.Failed kind.Short
 outcome_of k tag issue Fault = outcome.Failed kind.Fault
+
+-- the step of a `work` line: what the device answers from the image for the work, or, where there is none, that it was stored
+abbrev pub StepOfWork : Disk → ℕ → ℕ → Option Taken → Step → Disk → Type 0
+StepOfWork before tag issue None asked after = (asked ≡ step.Finish tag issue outcome.Stored) × (after ≡ before)
+StepOfWork before tag issue (Some work) asked after = (answer : DeviceCall) × Works before work answer after × (asked ≡ device_step answer)
 
 -- Texts.
 
@@ -104,37 +115,54 @@ IsContent k number (content.Stored block) = (number < k.limits.sectors) × (bloc
 
 -- Lines.
 
+-- A keeper, and the image that its device reads.
+pub record Desk : Type 0 where
+  pub keeper : State
+  pub disk : Disk
+
 -- the keeper is called once, and the answer is printed
 abbrev pub Answers : State → Call → List ℕ → State → Type 0
 Answers before c text after = (answer : Answer) × MayCall before c answer after × (text ≡ ended (text_of answer))
+
+-- the same over an image, which is not read
+abbrev pub AnswersOver : Desk → Call → List ℕ → Desk → Type 0
+AnswersOver before c text after = Answers before.keeper c text after.keeper × (after.disk ≡ before.disk)
 
 -- nothing is called, and something is printed
 abbrev pub Shows : State → List ℕ → List ℕ → State → Type 0
 Shows before shown text after = (after ≡ before) × (text ≡ ended shown)
 
--- what a line may print at a keeper, and what the keeper is then
-abbrev pub Prints : State → Line → List ℕ → State → Type 0
-Prints before (Attach seat group prio) = Answers before (call.Do (step.Attach seat group prio))
-Prints before (Read seat session start count) = Answers before (call.Do (step.Submit seat session op.Fetch (record { start = start; count = count }) []))
-Prints before (Write seat session start count byte) = Answers before (call.Do (step.Submit seat session op.Store (record { start = start; count = count }) (payload_of count byte)))
-Prints before (Reap seat session) = Answers before (call.Do (step.Reap seat session))
-Prints before (Leave seat) = Answers before (call.Do (step.Leave seat why.Ended))
-Prints before Dispatch = Answers before (call.Do step.Dispatch)
-Prints before (Finish tag issue ending) = Answers before (call.Do (step.Finish tag issue (outcome_of before tag issue ending)))
-Prints before (Requeue tag issue) = Answers before (call.Do (step.Requeue tag issue))
-Prints before Hold = Answers before call.Hold
-Prints before Release = Answers before call.Release
-Prints before (Undo k) = Answers before (call.Undo k)
-Prints before (Redo k) = Answers before (call.Redo k)
-Prints before (Group parent weight) = Answers before (call.Do (step.GroupMake parent weight))
-Prints before (Drop group) = Answers before (call.Do (step.GroupDrop group))
-Prints before (Weight group weight) = Answers before (call.Do (step.SetWeight group weight))
-Prints before Freeze = Answers before (call.Do step.Freeze)
-Prints before Thaw = Answers before (call.Do step.Thaw)
-Prints before (Switch scheduler) = Answers before (call.Do (step.Switch scheduler))
-Prints before Tick = Answers before (call.Do step.Tick)
-Prints before (Sector number) = Shows before (sector_text before number)
-Prints before (Queue seat) = Shows before (queue_text before seat)
-Prints before Cursor = Shows before (cursor_text before)
-Prints before (Vtime group) = Shows before (group_text before group)
-Prints before (Entity number) = Shows before (known_text before number)
+-- what a line that looks at no image may print at a keeper, and what the keeper is then
+abbrev pub PrintsAt : State → Line → List ℕ → State → Type 0
+PrintsAt before (Attach seat group prio) = Answers before (call.Do (step.Attach seat group prio))
+PrintsAt before (Read seat session start count) = Answers before (call.Do (step.Submit seat session op.Fetch (record { start = start; count = count }) []))
+PrintsAt before (Write seat session start count byte) = Answers before (call.Do (step.Submit seat session op.Store (record { start = start; count = count }) (payload_of count byte)))
+PrintsAt before (Reap seat session) = Answers before (call.Do (step.Reap seat session))
+PrintsAt before (Leave seat) = Answers before (call.Do (step.Leave seat why.Ended))
+PrintsAt before Dispatch = Answers before (call.Do step.Dispatch)
+PrintsAt before (Finish tag issue ending) = Answers before (call.Do (step.Finish tag issue (outcome_of before tag issue ending)))
+PrintsAt before (Work tag issue) = λ text after. ⊥
+PrintsAt before (Requeue tag issue) = Answers before (call.Do (step.Requeue tag issue))
+PrintsAt before Hold = Answers before call.Hold
+PrintsAt before Release = Answers before call.Release
+PrintsAt before (Undo k) = Answers before (call.Undo k)
+PrintsAt before (Redo k) = Answers before (call.Redo k)
+PrintsAt before (Group parent weight) = Answers before (call.Do (step.GroupMake parent weight))
+PrintsAt before (Drop group) = Answers before (call.Do (step.GroupDrop group))
+PrintsAt before (Weight group weight) = Answers before (call.Do (step.SetWeight group weight))
+PrintsAt before Freeze = Answers before (call.Do step.Freeze)
+PrintsAt before Thaw = Answers before (call.Do step.Thaw)
+PrintsAt before (Switch scheduler) = Answers before (call.Do (step.Switch scheduler))
+PrintsAt before Tick = Answers before (call.Do step.Tick)
+PrintsAt before (Sector number) = Shows before (sector_text before number)
+PrintsAt before (Queue seat) = Shows before (queue_text before seat)
+PrintsAt before Cursor = Shows before (cursor_text before)
+PrintsAt before (Vtime group) = Shows before (group_text before group)
+PrintsAt before (Entity number) = Shows before (known_text before number)
+
+-- what a line may print at a keeper over an image, and what both are then: only a `work` line reads the image
+abbrev pub Prints : Desk → Line → List ℕ → Desk → Type 0
+Prints before (Work tag issue) text after =
+    (asked : Step) × StepOfWork before.disk tag issue (work_in_flight (machine_of before.keeper) tag issue) asked after.disk
+    × Answers before.keeper (call.Do asked) text after.keeper
+Prints before line text after = PrintsAt before.keeper line text after.keeper × (after.disk ≡ before.disk)

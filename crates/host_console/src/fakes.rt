@@ -6,7 +6,7 @@ ghost use Rattle.plain_machine.specs.declared.step.Step.TheVariants.{Attach, Sub
 ghost use Rattle.plain_machine.specs.Keeper.{opened};
 
 use crate::{Content, Keeps};
-use plain_machine::{Answer, Call, Cause, Code, EntityView, RequestView};
+use plain_machine::{Answer, Call, Cause, Code, EntityView, RequestView, Work};
 use sector_core::Range;
 use service_tree::State;
 use std::alloc::Global;
@@ -33,8 +33,8 @@ impl Keeps for Full {
         }
     }
 
-    fn request_sectors(&self, _tag: u8, _issue: u64) -> u32 {
-        0
+    fn work(&self, _tag: u8, _issue: u64) -> Option<Work> {
+        None
     }
 
     fn sector(&self, number: u64) -> Content<'_> {
@@ -100,8 +100,8 @@ impl Keeps for Waiting {
         }
     }
 
-    fn request_sectors(&self, _tag: u8, _issue: u64) -> u32 {
-        0
+    fn work(&self, _tag: u8, _issue: u64) -> Option<Work> {
+        None
     }
 
     fn sector(&self, number: u64) -> Content<'_> {

@@ -3,10 +3,11 @@ ghost use Rattle.std.specs.Prelude.{◌≡◌, ◌<◌, ◌^◌, length};
 ghost use Rattle.plain_machine.specs.Keeper.{State, MayCall, machine_of};
 ghost use Rattle.plain_machine.specs.Queued.{request_view};
 ghost use Rattle.plain_machine.specs.Entities.{vtime_view, entity_view};
-ghost use Rattle.host_console.specs.Printed.{sectors_in_flight, IsContent};
+ghost use Rattle.plain_machine.specs.Device.{work_in_flight};
+ghost use Rattle.host_console.specs.Printed.{IsContent};
 
 use crate::Content;
-use plain_machine::{Answer, Call, EntityView, RequestView};
+use plain_machine::{Answer, Call, EntityView, RequestView, Work};
 use std::alloc::Global;
 
 /// A keeper: it answers calls, and can be looked at.
@@ -18,9 +19,9 @@ pub trait Keeps {
     fn call(&mut self, alloc: Global, call: &Call) -> Answer
         ensures { MayCall (state self.old) call.now result (state self.new) };
 
-    /// How many sectors the request has that is in flight under this tag with this issue; none where there is none.
-    fn request_sectors(&self, tag: u8, issue: u64) -> u32
-        ensures { result ≡ sectors_in_flight (state self.now) tag issue };
+    /// The request in flight under this tag with this issue, if there is one.
+    fn work(&self, tag: u8, issue: u64) -> Option<Work>
+        ensures { result ≡ work_in_flight (machine_of (state self.now)) tag issue };
 
     /// The content of a sector.
     fn sector(&self, number: u64) -> Content<'_>

@@ -3,8 +3,8 @@
 //!
 //! | call | rule that it meets |
 //! |---|---|
-//! | `Teller::run` | a line is one call, and prints its answer; or it is a query, which changes nothing |
-//! | `run_keeper` | the lines of a script run at a keeper, one after the other |
+//! | `Teller::run` | a line is one call, and prints its answer; or it is a query, which changes nothing; a `work` line reads the image first |
+//! | `run_keeper` | the lines of a script run at a keeper over an image, one after the other |
 //! | `put_answer` | the text of an answer |
 //! | `Keeps` | what a keeper must offer to be run from a script |
 //!
@@ -32,6 +32,7 @@ mod run;
 mod steps;
 mod submit;
 mod teller;
+mod work;
 
 pub use answer::put_answer;
 pub use content::Content;

@@ -1,6 +1,6 @@
-// A keeper run from a script.
+// A keeper over an image, run from a script.
 ghost use Rattle.std.specs.Prelude.{◌≡◌, ℕ, List, ◌++◌, IfOk, OnOk, OnErr, ◌⊎◌};
-ghost use Rattle.host_console.specs.Printed.{Answers, Prints, outcome_of, ended, sector_text, queue_text, cursor_text, group_text, known_text};
+ghost use Rattle.host_console.specs.Printed.{AnswersOver, Prints, outcome_of, ended, sector_text, queue_text, cursor_text, group_text, known_text};
 
 use crate::Keeps;
 use crate::answer::put_answer;
@@ -9,21 +9,33 @@ use crate::group::{make, unmake, weigh};
 use crate::query::{put_cursor, put_entity, put_queue, put_sector, put_vtime};
 use crate::steps::{freeze, leave, requeue, switch, thaw, tick};
 use crate::submit::{fetch, store};
+use base_image::Image;
 use plain_machine::{Call, Step};
 use script_line::{Ending, Line};
 use script_run::Console;
 use sector_core::{FailKind, OutOfMemory, Outcome};
 use std::alloc::Global;
+use std::marker::Model;
 
-/// Runs the lines of a script at a keeper.
+/// Runs the lines of a script at a keeper over an image.
 #[derive(Drop)]
-pub struct Teller<K> {
+pub struct Teller<K: Keeps, I: Image> {
     /// The keeper.
     pub keeper: K,
+    /// The image that the device reads at a `work` line.
+    pub image: I,
 }
 
-impl<K: Keeps> Console for Teller<K> {
-    ghost prints = { λ before line text after. Prints (K.state before.keeper) line text (K.state after.keeper) };
+impl<K: Keeps, I: Image> Model for Teller<K, I> {
+    ghost use Rattle.host_console.specs.Printed.{Desk};
+
+    ghost Value = { Desk };
+
+    ghost view = { λ teller. record { keeper = K.state teller.keeper; disk = I.disk teller.image } };
+}
+
+impl<K: Keeps, I: Image> Console for Teller<K, I> {
+    ghost prints = { λ before line text after. Prints before line text after };
 
     fn run(&mut self, alloc: Global, line: Line, out: &mut Vec<u8>) -> Result<(), OutOfMemory> {
         match line {
@@ -50,6 +62,7 @@ impl<K: Keeps> Console for Teller<K> {
             Line::Leave { seat } => self.step(alloc, leave(seat), out),
             Line::Dispatch => self.step(alloc, Step::Dispatch, out),
             Line::Finish { tag, issue, ending } => self.finish(alloc, tag, issue, ending, out),
+            Line::Work { tag, issue } => self.work(alloc, tag, issue, out),
             Line::Requeue { tag, issue } => self.step(alloc, requeue(tag, issue), out),
             Line::Hold => self.answer(alloc, &Call::Hold, out),
             Line::Release => self.answer(alloc, &Call::Release, out),
@@ -71,12 +84,12 @@ impl<K: Keeps> Console for Teller<K> {
     }
 }
 
-impl<K: Keeps> Teller<K> {
+impl<K: Keeps, I: Image> Teller<K, I> {
     // Makes one call, and prints its answer; where there is no memory for its text, the call is made.
     fn answer(&mut self, alloc: Global, call: &Call, out: &mut Vec<u8>) -> Result<(), OutOfMemory>
         ensures ok { OnOk result ((text : List ℕ) × (out.new.items ≡ out.old.items ++ text)
-            × Answers (K.state self.old.keeper) call.now text (K.state self.new.keeper)) }
-        ensures err { OnErr result ((text : List ℕ) × Answers (K.state self.old.keeper) call.now text (K.state self.new.keeper)) }
+            × AnswersOver self.old call.now text self.new) }
+        ensures err { OnErr result ((text : List ℕ) × AnswersOver self.old call.now text self.new) }
     {
         let answer = self.keeper.call(alloc, call);
         put_answer(&answer, out).map_err(|_| OutOfMemory)?;
@@ -85,10 +98,10 @@ impl<K: Keeps> Teller<K> {
     }
 
     // The call of a step.
-    fn step(&mut self, alloc: Global, step: Step, out: &mut Vec<u8>) -> Result<(), OutOfMemory>
+    pub(crate) fn step(&mut self, alloc: Global, step: Step, out: &mut Vec<u8>) -> Result<(), OutOfMemory>
         ensures ok { OnOk result ((text : List ℕ) × (out.new.items ≡ out.old.items ++ text)
-            × Answers (K.state self.old.keeper) (Call.Do step) text (K.state self.new.keeper)) }
-        ensures err { OnErr result ((text : List ℕ) × Answers (K.state self.old.keeper) (Call.Do step) text (K.state self.new.keeper)) }
+            × AnswersOver self.old (Call.Do step) text self.new) }
+        ensures err { OnErr result ((text : List ℕ) × AnswersOver self.old (Call.Do step) text self.new) }
     {
         self.answer(alloc, &Call::Do(step), out)
     }
@@ -103,12 +116,9 @@ impl<K: Keeps> Teller<K> {
         out: &mut Vec<u8>,
     ) -> Result<(), OutOfMemory>
         ensures ok { OnOk result ((text : List ℕ) × (out.new.items ≡ out.old.items ++ text)
-            × Answers (K.state self.old.keeper)
-            (Call.Do (Step.Finish tag issue (outcome_of (K.state self.old.keeper) tag issue ending)))
-            text (K.state self.new.keeper)) }
-        ensures err { OnErr result ((self.new ≡ self.old) ⊎ ((text : List ℕ) × Answers (K.state self.old.keeper)
-            (Call.Do (Step.Finish tag issue (outcome_of (K.state self.old.keeper) tag issue ending)))
-            text (K.state self.new.keeper))) }
+            × AnswersOver self.old (Call.Do (Step.Finish tag issue (outcome_of self.old.keeper tag issue ending))) text self.new) }
+        ensures err { OnErr result ((self.new ≡ self.old) ⊎ ((text : List ℕ)
+            × AnswersOver self.old (Call.Do (Step.Finish tag issue (outcome_of self.old.keeper tag issue ending))) text self.new)) }
     {
         let outcome = self.outcome(alloc, tag, issue, ending)?;
         let step = Step::Finish {
@@ -127,12 +137,15 @@ impl<K: Keeps> Teller<K> {
         issue: u64,
         ending: Ending,
     ) -> Result<Outcome, OutOfMemory>
-        ensures { IfOk result (λ outcome. outcome ≡ outcome_of (K.state self.now.keeper) tag issue ending) }
+        ensures { IfOk result (λ outcome. outcome ≡ outcome_of self.now.keeper tag issue ending) }
     {
         match ending {
             Ending::Stored => Ok(Outcome::Stored),
             Ending::Fill(byte) => {
-                let count = self.keeper.request_sectors(tag, issue);
+                let count = match self.keeper.work(tag, issue) {
+                    Some(work) => work.range.count,
+                    None => 0,
+                };
                 let bytes = sectors_of(alloc, count, byte)?;
                 Ok(Outcome::Fetched(bytes))
             }
@@ -142,7 +155,7 @@ impl<K: Keeps> Teller<K> {
     }
 
     fn tell_sector(&self, number: u64, out: &mut Vec<u8>) -> Result<(), OutOfMemory>
-        ensures { OnOk result (out.new.items ≡ out.old.items ++ ended (sector_text (K.state self.now.keeper) number)) }
+        ensures { OnOk result (out.new.items ≡ out.old.items ++ ended (sector_text self.now.keeper number)) }
     {
         put_sector(&self.keeper, number, out).map_err(|_| OutOfMemory)?;
         out.push(b'\n')?;
@@ -150,7 +163,7 @@ impl<K: Keeps> Teller<K> {
     }
 
     fn tell_queue(&self, seat: u8, out: &mut Vec<u8>) -> Result<(), OutOfMemory>
-        ensures { OnOk result (out.new.items ≡ out.old.items ++ ended (queue_text (K.state self.now.keeper) seat)) }
+        ensures { OnOk result (out.new.items ≡ out.old.items ++ ended (queue_text self.now.keeper seat)) }
     {
         put_queue(&self.keeper, seat, out).map_err(|_| OutOfMemory)?;
         out.push(b'\n')?;
@@ -158,7 +171,7 @@ impl<K: Keeps> Teller<K> {
     }
 
     fn tell_cursor(&self, out: &mut Vec<u8>) -> Result<(), OutOfMemory>
-        ensures { OnOk result (out.new.items ≡ out.old.items ++ ended (cursor_text (K.state self.now.keeper))) }
+        ensures { OnOk result (out.new.items ≡ out.old.items ++ ended (cursor_text self.now.keeper)) }
     {
         put_cursor(&self.keeper, out).map_err(|_| OutOfMemory)?;
         out.push(b'\n')?;
@@ -166,7 +179,7 @@ impl<K: Keeps> Teller<K> {
     }
 
     fn tell_vtime(&self, group: u8, out: &mut Vec<u8>) -> Result<(), OutOfMemory>
-        ensures { OnOk result (out.new.items ≡ out.old.items ++ ended (group_text (K.state self.now.keeper) group)) }
+        ensures { OnOk result (out.new.items ≡ out.old.items ++ ended (group_text self.now.keeper group)) }
     {
         put_vtime(&self.keeper, group, out).map_err(|_| OutOfMemory)?;
         out.push(b'\n')?;
@@ -174,7 +187,7 @@ impl<K: Keeps> Teller<K> {
     }
 
     fn tell_entity(&self, number: u8, out: &mut Vec<u8>) -> Result<(), OutOfMemory>
-        ensures { OnOk result (out.new.items ≡ out.old.items ++ ended (known_text (K.state self.now.keeper) number)) }
+        ensures { OnOk result (out.new.items ≡ out.old.items ++ ended (known_text self.now.keeper number)) }
     {
         put_entity(&self.keeper, number, out).map_err(|_| OutOfMemory)?;
         out.push(b'\n')?;

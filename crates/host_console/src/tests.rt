@@ -2,6 +2,7 @@
 use crate::fakes::{Full, Waiting};
 use crate::query::put_known;
 use crate::{Keeps, Teller, put_answer, run_keeper};
+use base_image::ZeroImage;
 use bytes::Bytes;
 use plain_machine::{Answer, Call, Cause, Code, EntityView, Reply, Work};
 use script_run::ScriptEnd;
@@ -145,6 +146,7 @@ finish 0 3 stored
 finish 0 3 fill 65
 finish 0 3 short
 finish 0 3 fault
+work 0 3
 requeue 0 3
 hold
 release
@@ -186,6 +188,7 @@ notyet 41
 notyet 41
 notyet 41
 notyet 41
+notyet 41
 refused 29
 refused 33
 refused 30
@@ -210,7 +213,7 @@ vtime 255 none
 entity 0 none
 entity 255 none
 line 0 0 0
-bad line 38
+bad line 39
 ";
 
 #[test]
@@ -220,18 +223,22 @@ fn each_line_prints_one(rt: HostRuntime) {
             sectors: 8,
             calls: 0,
         },
+        image: ZeroImage::new(8),
     };
     let mut written = Vec::new(rt.alloc());
     let mut script = SCRIPT;
     let end = run_keeper(rt.alloc(), &mut script, &mut written, &mut teller);
-    assert_eq!(rt; end, ScriptEnd::BadLine(38));
+    assert_eq!(rt; end, ScriptEnd::BadLine(39));
     assert_eq!(rt; written.as_slice(), TEXT);
-    assert_eq!(rt; teller.keeper.calls, 27);
+    assert_eq!(rt; teller.keeper.calls, 28);
 }
 
 #[test]
 fn queued_requests_are_told(rt: HostRuntime) {
-    let mut teller = Teller { keeper: Waiting };
+    let mut teller = Teller {
+        keeper: Waiting,
+        image: ZeroImage::new(1024),
+    };
     let mut written = Vec::new(rt.alloc());
     let mut script = b"queue 0\nqueue 1\nqueue 2\nqueue 16\n".as_slice();
     let end = run_keeper(rt.alloc(), &mut script, &mut written, &mut teller);
@@ -244,7 +251,10 @@ fn queued_requests_are_told(rt: HostRuntime) {
 
 #[test]
 fn groups_and_entities_are_told(rt: HostRuntime) {
-    let mut teller = Teller { keeper: Waiting };
+    let mut teller = Teller {
+        keeper: Waiting,
+        image: ZeroImage::new(1024),
+    };
     let mut written = Vec::new(rt.alloc());
     let mut script = ENTITIES;
     let end = run_keeper(rt.alloc(), &mut script, &mut written, &mut teller);

@@ -20,7 +20,8 @@ fn sim<'a>(alloc: Global) -> Result<Command<'a>, Error> {
         .arg(option(alloc, "timeout"))?
         .arg(option(alloc, "history"))?
         .arg(option(alloc, "first-vtime"))?
-        .arg(option(alloc, "sectors"))?;
+        .arg(option(alloc, "sectors"))?
+        .arg(option(alloc, "image"))?;
     Ok(command)
 }
 

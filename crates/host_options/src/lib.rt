@@ -3,7 +3,7 @@
 //!
 //! | call | what it answers |
 //! |---|---|
-//! | `request_of` | help, or a configuration that is still to be checked and a number of sectors |
+//! | `request_of` | help, or a configuration and a number of sectors that are still to be checked, and the file of an image |
 //! | `help_text` | what `--help` prints |
 //!
 //! The scheduler is `bfq` or `none`, and `bfq` where none is named. A number is in decimal and below 2^64, with no
@@ -13,6 +13,7 @@
 //! ```text
 //! bfqhost sim --scheduler none --tags 8 --sectors=64
 //! bfqhost sim --first-budget 512
+//! bfqhost sim --image disk.img
 //! ```
 
 mod command;

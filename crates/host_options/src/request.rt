@@ -7,16 +7,18 @@ use sector_core::{ConfigDraft, Scheduler};
 use std::alloc::Global;
 
 /// What the words ask for.
-#[derive(Clone, Copy, Debug, PartialEq, Eq)]
+#[derive(Debug, Drop, PartialEq, Eq)]
 pub enum Request {
     /// Print the help.
     Help,
-    /// Run a script on a device in memory.
+    /// Run a script.
     Sim {
         /// The configuration as it was given, its numbers not yet checked.
         draft: ConfigDraft,
-        /// How many sectors the device has, not yet checked.
+        /// How many sectors of zeros the device has, where no image is named; not yet checked.
         sectors: u64,
+        /// The file that is the image of the device, where one is named.
+        image: Option<String>,
     },
 }
 
@@ -42,7 +44,7 @@ pub fn request_of(alloc: Global, words: &[String]) -> Result<Request, WordFault>
     };
     match found.subcommand_matches("sim") {
         // Nothing may stand after the options, so no word ends them.
-        Some(options) if words.iter().all(|word| word.as_str() != "--") => sim(options),
+        Some(options) if words.iter().all(|word| word.as_str() != "--") => sim(alloc, options),
         _ => Err(WordFault::Usage),
     }
 }
@@ -57,7 +59,7 @@ fn fault(error: &Error) -> WordFault {
 }
 
 // The configuration that the options ask for.
-fn sim(options: &ArgMatches<'_>) -> Result<Request, WordFault> {
+fn sim(alloc: Global, options: &ArgMatches<'_>) -> Result<Request, WordFault> {
     let usual = ConfigDraft::default();
     let draft = ConfigDraft {
         scheduler: scheduler_or(options, usual.scheduler)?,
@@ -70,7 +72,27 @@ fn sim(options: &ArgMatches<'_>) -> Result<Request, WordFault> {
         first_vtime: number_or(options, "first-vtime", usual.first_vtime)?,
     };
     let sectors = number_or(options, "sectors", 1024)?;
-    Ok(Request::Sim { draft, sectors })
+    let image = text_of(alloc, options, "image")?;
+    Ok(Request::Sim {
+        draft,
+        sectors,
+        image,
+    })
+}
+
+// The text of an option, where it is given.
+fn text_of(
+    alloc: Global,
+    options: &ArgMatches<'_>,
+    name: &str,
+) -> Result<Option<String>, WordFault> {
+    match options.get_str(name) {
+        Some(text) => match String::from_str(alloc, text) {
+            Ok(text) => Ok(Some(text)),
+            Err(_) => Err(WordFault::OutOfMemory),
+        },
+        None => Ok(None),
+    }
 }
 
 // The scheduler that is named, or this one where none is named.

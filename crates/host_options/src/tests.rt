@@ -35,7 +35,11 @@ fn sim(scheduler: Scheduler, numbers: [u64; 8]) -> Request {
         history_max,
         first_vtime,
     };
-    Request::Sim { draft, sectors }
+    Request::Sim {
+        draft,
+        sectors,
+        image: None,
+    }
 }
 
 #[test]
@@ -102,6 +106,37 @@ fn words_that_ask(rt: HostRuntime) -> Result<(), Fail> {
 }
 
 #[test]
+fn words_that_name_an_image(rt: HostRuntime) -> Result<(), Fail> {
+    for (line, named, asked) in [
+        ("bfqhost sim --image disk.img", "disk.img", 1024),
+        (
+            "bfqhost sim --image=/srv/disks/a=b.img",
+            "/srv/disks/a=b.img",
+            1024,
+        ),
+        ("bfqhost sim --image=-x", "-x", 1024),
+        (
+            "bfqhost sim --sectors 70000 --image disk.img",
+            "disk.img",
+            70_000,
+        ),
+    ] {
+        let words = words_of(rt.alloc(), line)?;
+        let wanted = Request::Sim {
+            draft: ConfigDraft::default(),
+            sectors: asked,
+            image: Some(String::from_str(rt.alloc(), named)?),
+        };
+        assert_eq!(rt;
+            request_of(rt.alloc(), words.as_slice()),
+            Ok(wanted),
+            "{line}"
+        );
+    }
+    Ok(())
+}
+
+#[test]
 fn words_that_do_not(rt: HostRuntime) -> Result<(), Fail> {
     for line in [
         "bfqhost",
@@ -153,7 +188,11 @@ fn words_that_do_not(rt: HostRuntime) -> Result<(), Fail> {
         "bfqhost sim --scheduler none --history x",
         "bfqhost sim --scheduler none --first-vtime 05",
         "bfqhost sim --scheduler none --sectors +5",
-        "bfqhost sim --scheduler none --image x",
+        "bfqhost sim --scheduler none --image",
+        "bfqhost sim --image --sectors 4",
+        "bfqhost sim --image a --image b",
+        "bfqhost sim --image a b",
+        "bfqhost sim --image a --sectors x",
         "bfqhost sim --scheduler none --tag 4",
         "bfqhost sim --scheduler none --Tags 4",
         "bfqhost sim --scheduler none -t 4",
@@ -186,6 +225,7 @@ fn help_names_each_option(rt: HostRuntime) {
         "--history",
         "--first-vtime",
         "--sectors",
+        "--image",
         "--help",
     ] {
         assert!(rt; help_text().contains(option), "{option}");
@@ -202,6 +242,7 @@ fn help_names_each_step(rt: HostRuntime) {
         "leave SEAT",
         "dispatch",
         "finish TAG",
+        "work TAG",
         "requeue TAG",
         "group PARENT",
         "drop GROUP",

@@ -1,8 +1,25 @@
--- What a device's call asks of the machine (our profile).
+-- What a device takes, and what it asks of the machine then (our profile).
+use Rattle.std.specs.Prelude.{ℕ, ◌==◌, Option, None, Some, if◌then◌else◌}
+use Rattle.change_record.specs.Machine.{Flight, Plain}
+use Rattle.plain_machine.specs.declared.answer.Work.{Work}
 use Rattle.plain_machine.specs.declared.call.DeviceCall.{DeviceCall}
 use Rattle.plain_machine.specs.declared.call.DeviceCall.TheVariants.{Finish, Requeue}
 use Rattle.plain_machine.specs.declared.step.Step.{Step}
 use Rattle.plain_machine.specs.declared.step.Step.TheVariants as step
+use Rattle.plain_machine.specs.Step.{range_of}
+
+-- a request in flight, as a device takes it
+abbrev pub work_of : ℕ → Flight → Work
+work_of tag flight = record { tag = tag; issue = flight.issue; op = flight.request.op; range = range_of flight.request.bios }
+
+-- a request in flight, where it was issued with this serial
+abbrev pub work_issued : ℕ → ℕ → Option Flight → Option Work
+work_issued tag issue None = None
+work_issued tag issue (Some flight) = if flight.issue == issue then Some (work_of tag flight) else None
+
+-- the request in flight under a tag with this issue, or none
+abbrev pub work_in_flight : Plain → ℕ → ℕ → Option Work
+work_in_flight m tag issue = work_issued tag issue (m.flight tag)
 
 -- the request in flight has ended, or it is given back
 abbrev pub device_step : DeviceCall → Step

@@ -1,6 +1,7 @@
 // How a run ends where its input or its output fails.
 use super::fakes::{Cut, Narrow};
 use crate::script::run_script;
+use base_image::ZeroImage;
 use script_run::ScriptEnd;
 use sector_core::{Config, ConfigDraft};
 use std::test::Fail;
@@ -18,7 +19,7 @@ fn bad_line_ends_the_run(rt: HostRuntime) -> Result<(), Fail> {
         let config = Config::check(ConfigDraft::default())?;
         let mut reader = script.as_bytes();
         let mut written = Vec::new(rt.alloc());
-        let end = run_script(rt.alloc(), config, 1024, &mut reader, &mut written);
+        let end = run_script(rt.alloc(), config, &mut reader, &mut written, ZeroImage::new(1024));
         assert_eq!(rt; end, ScriptEnd::BadLine(number));
         assert_eq!(rt; written.as_slice(), text.as_bytes());
     }
@@ -32,7 +33,7 @@ fn read_fails_in_mid_stream(rt: HostRuntime) -> Result<(), Fail> {
         bytes: b"attach 0 0 4\nhold\nundo 1",
     };
     let mut written = Vec::new(rt.alloc());
-    let end = run_script(rt.alloc(), config, 1024, &mut reader, &mut written);
+    let end = run_script(rt.alloc(), config, &mut reader, &mut written, ZeroImage::new(1024));
     assert_eq!(rt; end, ScriptEnd::ReadFault);
     assert_eq!(rt; written.as_slice(), b"attached 1\nmoved 1 1\n".as_slice());
     Ok(())
@@ -48,7 +49,7 @@ fn write_fails_in_mid_stream(rt: HostRuntime) -> Result<(), Fail> {
             taken: Vec::new(rt.alloc()),
             room,
         };
-        let end = run_script(rt.alloc(), config, 1024, &mut reader, &mut writer);
+        let end = run_script(rt.alloc(), config, &mut reader, &mut writer, ZeroImage::new(1024));
         assert_eq!(rt; end, ScriptEnd::WriteFault);
         assert_eq!(rt; Some(writer.taken.as_slice()), text.get(..room));
     }

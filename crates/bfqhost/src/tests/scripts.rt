@@ -1,17 +1,30 @@
 // Scripts: each line, and what it prints.
 use crate::script::run_script;
+use base_image::{Image, ZeroImage};
 use script_run::ScriptEnd;
 use sector_core::{Config, ConfigDraft};
 use std::process::Abort;
 use std::test::Fail;
 
-// Each line of the row prints its text on a new host.
+// Each line of the row prints its text on a new host over zeros.
 pub fn expect_row(
     rt: &(impl Abort + AllocGlobal),
     draft: ConfigDraft,
     sectors: u32,
     row: &str,
 ) -> Result<(), Fail> {
+    expect_row_over(rt, draft, ZeroImage::new(u64::from(sectors)), row)
+}
+
+// Each line of the row prints its text on a new host over an image.
+pub fn expect_row_over<I: Image + Drop>(
+    rt: &(impl Abort + AllocGlobal),
+    draft: ConfigDraft,
+    image: I,
+    row: &str,
+) -> Result<(), Fail>
+    requires { (I.disk image).faults < 2 ^ 63 }
+{
     let mut script = String::new(rt.alloc());
     let mut text = String::new(rt.alloc());
     for pair in row.lines() {
@@ -24,8 +37,7 @@ pub fn expect_row(
     let config = Config::check(draft)?;
     let mut reader = script.as_bytes();
     let mut written = Vec::new(rt.alloc());
-    let sectors = u64::from(sectors);
-    let end = run_script(rt.alloc(), config, sectors, &mut reader, &mut written);
+    let end = run_script(rt.alloc(), config, &mut reader, &mut written, image);
     assert_eq!(rt; end, ScriptEnd::Done);
     assert_eq!(rt; written.as_slice(), text.as_bytes(), "{row}");
     Ok(())

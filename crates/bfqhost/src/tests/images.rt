@@ -1,0 +1,120 @@
+// Device work over an image: each line, and what it prints.
+use super::scripts::expect_row_over;
+use base_image::{FailingImage, ImageFault, MemoryImage, ZeroImage};
+use bytes::Bytes;
+use sector_core::ConfigDraft;
+use std::test::Fail;
+
+#[test]
+fn busy_image_gives_the_request_back(rt: HostRuntime) -> Result<(), Fail> {
+    let image = FailingImage::new(ZeroImage::new(1024), 1, ImageFault::Busy);
+    expect_row_over(&rt, ConfigDraft::default(), image, GIVEN_BACK)
+}
+
+#[test]
+fn failed_read_fails_its_bios_alone(rt: HostRuntime) -> Result<(), Fail> {
+    let image = FailingImage::new(ZeroImage::new(1024), 2, ImageFault::Device);
+    expect_row_over(&rt, ConfigDraft::default(), image, SECOND_READ_FAILS)
+}
+
+#[test]
+fn image_that_tells_more_than_it_has(rt: HostRuntime) -> Result<(), Fail> {
+    let bytes = Bytes::from_vec(vec![in rt.alloc(); 0x37; 512]?)?;
+    let image = MemoryImage::new(bytes, 2);
+    expect_row_over(&rt, ConfigDraft::default(), image, ONE_SECTOR_OF_TWO)
+}
+
+#[test]
+fn redo_reads_nothing(rt: HostRuntime) -> Result<(), Fail> {
+    let image = FailingImage::new(ZeroImage::new(1024), 2, ImageFault::Device);
+    expect_row_over(&rt, ConfigDraft::default(), image, UNDONE_AND_REDONE)
+}
+
+#[test]
+fn work_while_held_reads(rt: HostRuntime) -> Result<(), Fail> {
+    let image = FailingImage::new(ZeroImage::new(1024), 1, ImageFault::Busy);
+    expect_row_over(&rt, ConfigDraft::default(), image, HELD)
+}
+
+// A busy device gives the request back, and the work of its next issue is done.
+const GIVEN_BACK: &str = "\
+attach 0 0 4 -> attached 1
+read 0 1 0 1 -> queued 2
+dispatch -> issued 0 3 fetch 0 1
+work 0 3 -> requeued
+dispatch -> issued 0 5 fetch 0 1
+work 0 3 -> refused 20
+work 0 5 -> finished 1
+reap 0 1 -> completed 2 read 00
+";
+
+// The read that fails fails its own bio; the one before and the one after are read.
+const SECOND_READ_FAILS: &str = "\
+attach 0 0 4 -> attached 1
+read 0 1 0 1 -> queued 2
+dispatch -> issued 0 3 fetch 0 1
+work 0 3 -> finished 1
+reap 0 1 -> completed 2 read 00
+read 0 1 8 2 -> queued 6
+dispatch -> issued 0 7 fetch 8 2
+work 0 7 -> finished 1
+reap 0 1 -> completed 6 error fault
+read 0 1 8 2 -> queued 10
+dispatch -> issued 0 11 fetch 8 2
+work 0 11 -> finished 1
+reap 0 1 -> completed 10 read 00 00
+";
+
+// The image has its first sector alone. A store is done without it, and is read from the overlay.
+const ONE_SECTOR_OF_TWO: &str = "\
+attach 0 0 4 -> attached 1
+read 0 1 0 1 -> queued 2
+dispatch -> issued 0 3 fetch 0 1
+work 0 3 -> finished 1
+reap 0 1 -> completed 2 read 37
+read 0 1 1 1 -> queued 6
+dispatch -> issued 0 7 fetch 1 1
+work 0 7 -> finished 1
+reap 0 1 -> completed 6 error short
+read 0 1 0 2 -> queued 10
+dispatch -> issued 0 11 fetch 0 2
+work 0 11 -> finished 1
+reap 0 1 -> completed 10 error short
+write 0 1 1 1 65 -> queued 14
+dispatch -> issued 0 15 store 1 1
+work 0 15 -> finished 1
+reap 0 1 -> completed 14 written
+work 0 15 -> refused 20
+sector 1 -> sector 1 overlay 41
+read 0 1 2 1 -> refused 14
+";
+
+// What the device answered stands in the line: it is undone and redone with no further read, though that would fail.
+const UNDONE_AND_REDONE: &str = "\
+attach 0 0 4 -> attached 1
+read 0 1 0 1 -> queued 2
+dispatch -> issued 0 3 fetch 0 1
+work 0 3 -> finished 1
+hold -> moved 4 4
+undo 2 -> moved 2 4
+redo 2 -> moved 4 4
+release -> done
+reap 0 1 -> completed 2 read 00
+read 0 1 0 1 -> queued 6
+dispatch -> issued 0 7 fetch 0 1
+work 0 7 -> finished 1
+reap 0 1 -> completed 6 error fault
+";
+
+// While the host is held the device reads, and its call is not yet answered; so its next read is the second.
+const HELD: &str = "\
+attach 0 0 4 -> attached 1
+read 0 1 0 1 -> queued 2
+dispatch -> issued 0 3 fetch 0 1
+hold -> moved 3 3
+work 0 3 -> notyet 41
+work 5 3 -> notyet 41
+release -> done
+work 0 3 -> finished 1
+reap 0 1 -> completed 2 read 00
+";
