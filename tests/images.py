@@ -1,0 +1,128 @@
+"""Runs over image files: what is read from them, what is refused, and that they are never written.
+
+The expected bytes are those that this program writes into the files, or that `xxd` shows of them.
+"""
+
+import os
+import shutil
+import subprocess
+from dataclasses import dataclass
+
+SECTOR_BYTES = 512
+# The superblock of ext4 stands 1,024 bytes from the start and has 1,024 bytes: sectors 2 and 3.
+SUPERBLOCK_SECTOR = 2
+SUPERBLOCK_SECTORS = 2
+EXT4_BYTES = 1 << 20
+
+CANNOT_BE_READ = b"image: cannot be read\n"
+DONE = 0
+REFUSED = 6
+
+
+@dataclass
+class Run:
+    """One run of the program over an image: its words after `sim`, its script, and what it must write."""
+
+    name: str
+    words: list
+    script: bytes = b""
+    stdout: bytes = b""
+    stderr: bytes = b""
+    status: int = DONE
+
+
+def sector_text(sector):
+    """A sector as a script prints it: two digits where all bytes are equal, else all digits."""
+    return sector[:1].hex() if sector == sector[:1] * SECTOR_BYTES else sector.hex()
+
+
+def reading(start, count, sectors):
+    """A script that reads a range by the work of the device, and what it prints."""
+    lines = f"attach 0 0 4\nread 0 1 {start} {count}\ndispatch\nwork 0 3\nwork 0 3\nreap 0 1\n"
+    read = " ".join(sector_text(sector) for sector in sectors)
+    text = f"attached 1\nqueued 2\nissued 0 3 fetch {start} {count}\nfinished 1\nrefused 20\ncompleted 2 read {read}\n"
+    return lines.encode(), text.encode()
+
+
+def written(folder, name, content):
+    """The path of a new file with this content."""
+    path = os.path.join(folder, name)
+    with open(path, "wb") as file:
+        file.write(content)
+    return path
+
+
+def runs(folder):
+    """The runs over small files."""
+    some = bytes(number * 7 % 251 for number in range(1000))
+    path = written(folder, "thousand", some)
+    script, text = reading(0, 1, [some[:SECTOR_BYTES]])
+    yield Run("1,000 bytes are one sector", ["--image", path], script, text)
+    yield Run("no sector past the image's last", ["--image", path], b"attach 0 0 4\nread 0 1 1 1\nsector 0\nsector 1\n",
+              b"attached 1\nrefused 14\nsector 0 base\nsector 1 none\n")
+    yield Run("the number of sectors is not used beside an image", ["--sectors", "70000", "--image", path], script, text)
+    letters = b"A" * SECTOR_BYTES + b"B" * SECTOR_BYTES
+    script, text = reading(0, 2, [letters[:SECTOR_BYTES], letters[SECTOR_BYTES:]])
+    yield Run("two sectors", [f"--image={written(folder, 'letters', letters)}"], script, text)
+    store = b"attach 0 0 4\nwrite 0 1 0 1 67\ndispatch\nwork 0 3\nreap 0 1\nread 0 1 0 2\ndispatch\nwork 0 7\nreap 0 1\n"
+    stored = (b"attached 1\nqueued 2\nissued 0 3 store 0 1\nfinished 1\ncompleted 2 written\n"
+              b"queued 6\nissued 0 7 fetch 0 2\nfinished 1\ncompleted 6 read 43 42\n")
+    yield Run("a store stays in memory", ["--image", os.path.join(folder, "letters")], store, stored)
+    yield Run("an empty file", ["--image", written(folder, "empty", b"")], b"attach 0 0 4\nread 0 1 0 1\n", b"attached 1\nrefused 14\n")
+    missing = os.path.join(folder, "missing")
+    yield Run("a file that is not there", ["--image", missing], b"hold\n", b"", CANNOT_BE_READ, REFUSED)
+    yield Run("a path that is empty", ["--image="], b"hold\n", b"", CANNOT_BE_READ, REFUSED)
+    yield Run("a folder", ["--image", folder], b"hold\n", b"", CANNOT_BE_READ, REFUSED)
+    yield Run("the configuration comes before the image", ["--tags", "0", "--image", missing], b"", b"", b"config: tags\n", REFUSED)
+    yield Run("the words come before the image", ["--tags", "x", "--image", missing], b"", b"", b"words: refused\n", REFUSED)
+    if os.geteuid() != 0:
+        os.chmod(written(folder, "closed", letters), 0)
+        yield Run("a file that may not be read", ["--image", os.path.join(folder, "closed")], b"hold\n", b"", CANNOT_BE_READ, REFUSED)
+
+
+def ext4_run(folder):
+    """A run that reads the superblock of a new ext4, whose bytes `xxd` shows."""
+    path = os.path.join(folder, "ext4")
+    subprocess.run(["truncate", "-s", str(EXT4_BYTES), path], check=True)
+    subprocess.run(["mkfs.ext4", "-q", "-F", path], check=True, stdout=subprocess.DEVNULL, stderr=subprocess.DEVNULL)
+    shown = subprocess.run(["xxd", "-p", "-c", "32", "-s", str(SUPERBLOCK_SECTOR * SECTOR_BYTES),
+                            "-l", str(SUPERBLOCK_SECTORS * SECTOR_BYTES), path], check=True, stdout=subprocess.PIPE).stdout
+    block = bytes.fromhex("".join(shown.decode().split()))
+    sectors = [block[at:at + SECTOR_BYTES] for at in range(0, len(block), SECTOR_BYTES)]
+    script, text = reading(SUPERBLOCK_SECTOR, SUPERBLOCK_SECTORS, sectors)
+    return Run("the superblock of an ext4", ["--image", path], script, text)
+
+
+def faults_of(program, run):
+    """What one run did in another way than wanted. The image's bytes are the same after it."""
+    ended = subprocess.run([program, "sim", *run.words], input=run.script, stdout=subprocess.PIPE, stderr=subprocess.PIPE,
+                           timeout=120, check=False)
+    faults = []
+    if ended.stdout != run.stdout:
+        faults.append(f"{run.name}: standard output is {ended.stdout[:200]} and not {run.stdout[:200]}")
+    if (ended.stderr, ended.returncode) != (run.stderr, run.status):
+        faults.append(f"{run.name}: {ended.stderr[:80]} with status {ended.returncode}")
+    return faults
+
+
+def contents(folder):
+    """The bytes of each file of a folder that can be read."""
+    found = {}
+    for name in os.listdir(folder):
+        path = os.path.join(folder, name)
+        if os.access(path, os.R_OK):
+            with open(path, "rb") as file:
+                found[name] = file.read()
+    return found
+
+
+def images(program, folder):
+    """The faults of each run over an image file in a new folder, by the run's name; and what was skipped, if anything."""
+    wanted = list(runs(folder))
+    lacking = [tool for tool in ("truncate", "mkfs.ext4", "xxd") if shutil.which(tool) is None]
+    if not lacking:
+        wanted.append(ext4_run(folder))
+    before = contents(folder)
+    results = {run.name: faults_of(program, run) for run in wanted}
+    results["image files are not written"] = [] if contents(folder) == before else ["a file has changed"]
+    return results, f"the superblock of an ext4: no {', '.join(lacking)} here" if lacking else None
