@@ -3,7 +3,8 @@
 
     python3 bench/sim.py [WORKLOAD]...
 
-There are four workloads over 1,024 sectors, each of cycles after an opening. With no workload named all are run.
+There are five workloads, each of cycles after an opening, over 1,024 sectors of zeros but for the last. With no
+workload named all are run.
 
 `writes` and `merging reads` run with the scheduler none, and open with one attach. A cycle of `writes` is one write of
 one sector, its dispatch, its finish and its reap. A cycle of `merging reads` is 32 reads of 8 sectors in a row, which
@@ -17,6 +18,10 @@ its finish with all bytes 0, and 32 reaps. The same calls run with the scheduler
 and is weighed, a client attaches to it and reads, its request is given back and sent again, it leaves with another one
 in flight, the group goes, the host is frozen, switched to none and back and thawed, and the first client writes.
 
+`reads of an image` runs with the scheduler none over a file of 64 MiB, and opens with one attach. A cycle is a read of 8
+sectors, all over the file, its dispatch, its work and its reap. How long `dd` takes for as many blocks of 4,096 bytes is
+shown beside it, where there is a `dd`.
+
 Each figure is the median of 25 rounds, in user plus system time of the process, with that of an empty script of the
 same round taken off. Peak memory is that of the process, by getrusage, with that of an empty script taken off. Beside
 each figure that has a bound stands the bound, and the status is 1 where one is not kept.
@@ -24,6 +29,7 @@ each figure that has a bound stands the bound, and the status is 1 where one is 
 
 import ctypes
 import os
+import shutil
 import statistics
 import subprocess
 import sys
@@ -47,6 +53,13 @@ MOST_GROWTH = 1.3
 MOST_UNDO = 0.5
 MOST_BYTES_PER_CALL = 1024
 MOST_AGAINST_NONE = 3
+
+# The image that is read, and how many of its blocks of 8 sectors lie between one read and the next: all come once.
+IMAGE_BYTES = 64 << 20
+BLOCK_SECTORS = 8
+BLOCK_BYTES = BLOCK_SECTORS * SECTOR_BYTES
+BLOCKS = IMAGE_BYTES // BLOCK_BYTES
+BLOCK_STRIDE = 4_099
 
 SEATS = 16
 GROUPS = 31
@@ -134,9 +147,25 @@ def all_steps_cycle(cycle, first):
     yield "reap 0 1", f"completed {first + 19} written"
 
 
-class Workload(namedtuple("Workload", "name scheduler opening cycle calls payload_sectors most_bytes most_against_none")):
+def image_bytes():
+    """The image that is read: each byte of a sector is the last one of the sector's number."""
+    for sector in range(IMAGE_BYTES // SECTOR_BYTES):
+        yield bytes([sector % 256]) * SECTOR_BYTES
+
+
+def image_read_cycle(cycle, first):
+    """Likewise."""
+    start, issue = BLOCK_SECTORS * (cycle * BLOCK_STRIDE % BLOCKS), first + 1
+    yield f"read 0 1 {start} {BLOCK_SECTORS}", f"queued {first}"
+    yield "dispatch", f"issued 0 {issue} fetch {start} {BLOCK_SECTORS}"
+    yield f"work 0 {issue}", "finished 1"
+    yield "reap 0 1", f"completed {first} read" + "".join(f" {(start + place) % 256:02x}" for place in range(BLOCK_SECTORS))
+
+
+class Workload(namedtuple("Workload", "name scheduler opening cycle calls payload_sectors most_bytes most_against_none has_image")):
     """The lines before the cycles and what they print, a cycle, the calls that it has, the sectors that it writes or
-    reads, and the bounds on a call's bytes and on its time against that with the scheduler none, if any."""
+    reads, the bounds on a call's bytes and on its time against that with the scheduler none, if any, and whether it runs
+    over an image file."""
 
     def whole(self, calls):
         """The greatest number of calls up to `calls` that whole cycles have."""
@@ -178,16 +207,17 @@ class Workload(namedtuple("Workload", "name scheduler opening cycle calls payloa
 
 
 WORKLOADS = [
-    Workload("writes", "none", ONE_ATTACH, write_cycle, 4, 1, MOST_BYTES_PER_CALL, None),
+    Workload("writes", "none", ONE_ATTACH, write_cycle, 4, 1, MOST_BYTES_PER_CALL, None, False),
     # The bytes of a read stay for as long as its reap can be undone, so what a call leaves is mostly payload.
-    Workload("merging reads", "none", ONE_ATTACH, merging_read_cycle, 66, 256, None, None),
-    Workload("reads in groups", "bfq", list(groups_and_seats()), grouped_read_cycle, 128, 32, None, MOST_AGAINST_NONE),
+    Workload("merging reads", "none", ONE_ATTACH, merging_read_cycle, 66, 256, None, None, False),
+    Workload("reads in groups", "bfq", list(groups_and_seats()), grouped_read_cycle, 128, 32, None, MOST_AGAINST_NONE, False),
     # With the scheduler none the first switch would be refused.
-    Workload("all kinds of steps", "bfq", ONE_ATTACH, all_steps_cycle, 23, 3, None, None),
+    Workload("all kinds of steps", "bfq", ONE_ATTACH, all_steps_cycle, 23, 3, None, None, False),
+    Workload("reads of an image", "none", ONE_ATTACH, image_read_cycle, 4, BLOCK_SECTORS, None, None, True),
 ]
 
 
-def spent(scheduler, path):
+def spent(words, path):
     """Seconds of user plus system time and KiB of peak memory of one run on a script.
 
     A process that Python starts counts Python's own memory in its peak. So a shell starts the program and ends, and
@@ -196,7 +226,7 @@ def spent(scheduler, path):
     """
     shell = 'exec 3<&0; { read -r go <&3; exec 3<&-; exec "$@" <"$script"; } >/dev/null & echo $!'
     started = subprocess.Popen(
-        ["/bin/sh", "-c", shell, "sh", PROGRAM, *WORDS, scheduler],
+        ["/bin/sh", "-c", shell, "sh", PROGRAM, *words],
         env={**os.environ, "script": path}, stdin=subprocess.PIPE, stdout=subprocess.PIPE)
     pid = int(started.stdout.read())
     if started.wait() != 0:
@@ -208,6 +238,14 @@ def spent(scheduler, path):
     if status != 0:
         sys.exit("bench: the program did not end well")
     return usage.ru_utime + usage.ru_stime, usage.ru_maxrss
+
+
+def copied(image):
+    """Seconds of user plus system time in which `dd` reads as many blocks as the longest script."""
+    before = os.times()
+    subprocess.run(["dd", f"if={image}", "of=/dev/null", f"bs={BLOCK_BYTES}", f"count={MANY // 4}", "status=none"], check=True)
+    after = os.times()
+    return after.children_user - before.children_user + after.children_system - before.children_system
 
 
 def in_any_order(lines):
@@ -227,12 +265,12 @@ def in_any_order(lines):
     return ordered
 
 
-def check(scheduler, path, wanted):
+def check(words, path, wanted):
     """Stops unless the script's output is as wanted: a call that is refused would cost less."""
     with open(path, "rb") as script:
-        run = subprocess.run([PROGRAM, *WORDS, scheduler], stdin=script, stdout=subprocess.PIPE)
+        run = subprocess.run([PROGRAM, *words], stdin=script, stdout=subprocess.PIPE)
     if run.returncode != 0:
-        sys.exit(f"bench: the program did not end well with the scheduler {scheduler}")
+        sys.exit(f"bench: the program did not end well as {' '.join(words)}")
     # The last line has its end too, so nothing stands behind it.
     if in_any_order(run.stdout.decode().split("\n")) != in_any_order([*wanted, ""]):
         sys.exit("bench: the program's answers are not those of accepted calls")
@@ -241,21 +279,30 @@ def check(scheduler, path, wanted):
 class Rounds:
     """What each run took in each round."""
 
-    def __init__(self, runs):
+    def __init__(self, runs, has_image):
         self.seconds = {name: [] for name in runs}
         self.peaks = {name: [] for name in runs}
+        self.copied = []
         with tempfile.TemporaryDirectory() as folder:
-            for name, (scheduler, pairs) in runs.items():
+            image = os.path.join(folder, "image")
+            over = ["--image", image] if has_image else []
+            if has_image:
+                with open(image, "wb") as file:
+                    file.writelines(image_bytes())
+            words = {name: [*WORDS, scheduler, *over] for name, (scheduler, _) in runs.items()}
+            for name, (_, pairs) in runs.items():
                 path = os.path.join(folder, name)
                 with open(path, "w") as script:
                     script.writelines(line + "\n" for line, _ in pairs)
-                check(scheduler, path, [printed for _, printed in pairs])
+                check(words[name], path, [printed for _, printed in pairs])
             # One round after the other, so that a slow moment of the machine meets all scripts alike.
             for _ in range(RUNS):
-                for name, (scheduler, _) in runs.items():
-                    time, peak = spent(scheduler, os.path.join(folder, name))
+                for name in runs:
+                    time, peak = spent(words[name], os.path.join(folder, name))
                     self.seconds[name].append(time)
                     self.peaks[name].append(peak)
+                if has_image and shutil.which("dd"):
+                    self.copied.append(copied(image))
 
     def peak(self, name):
         return statistics.median(self.peaks[name])
@@ -281,7 +328,7 @@ def run(workload):
     few, many, back = workload.whole(FEW), workload.whole(MANY), workload.whole(BACK)
     opening = len(workload.opening)
     payload = workload.payload_sectors * SECTOR_BYTES / workload.calls
-    rounds = Rounds(workload.runs())
+    rounds = Rounds(workload.runs(), workload.has_image)
 
     start = statistics.median(rounds.seconds["empty"])
     print(f"{workload.name}: medians of {RUNS} runs; start of the process: {start * 1e3:.2f} ms, {rounds.peak('empty'):.0f} KiB")
@@ -293,6 +340,9 @@ def run(workload):
     undo = rounds.between("undone", "held")
     redo = rounds.between("redone", "undone")
     print(f"{back:>7,} steps: {steps * 1e3:.2f} ms; undone in {undo * 1e3:.2f} ms, redone in {redo * 1e3:.2f} ms")
+
+    if rounds.copied:
+        print(f"{MANY // 4:>7,} blocks: dd bs={BLOCK_BYTES} reads them in {statistics.median(rounds.copied) * 1e3:.2f} ms")
 
     growth = rounds.per_call("many", opening + many) / rounds.per_call("few", opening + few)
     kept = [
