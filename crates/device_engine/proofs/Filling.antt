@@ -1,9 +1,8 @@
 -- A buffer that is filled read by read.
-use Rattle.std.proofs.Common.{◌≡◌, ℕ, ◌+◌, ◌<◌, ◌≤◌, List, ◌++◌, length, take, drop, refl, arith, take-add, take_all, drop-drop, take_at, drop_at, length-take-le}
+use Rattle.std.proofs.Common.{◌≡◌, ℕ, ◌+◌, ◌≤◌, List, ◌++◌, length, take, drop, take-add, drop-drop, take_at, drop_at, length-take-le}
 use Rattle.std.specs.Prelude.{None, Some}
 use Rattle.std.proofs.lemmas.List.{take-append-le}
 use Rattle.base_image.specs.Image.{Known, Tells}
-use Rattle.device_engine.specs.Fill.{IsPart, EndsBefore}
 
 -- the first bytes of a buffer are the image's bytes from an offset on
 abbrev pub IsRead : Known → ℕ → List ℕ → ℕ → Type 0

@@ -1,6 +1,5 @@
 use Rattle.std.proofs.Common.{◌+◌, arith, ◌∙◌, subst}
 use Rattle.std.proofs.lemmas.Grind.{common_steps}
-use Rattle.std.proofs.lemmas.Slice.{overwrites}
 use Rattle.base_image.specs.Image.{Disk, Tells}
 use Rattle.device_engine.proofs.Filling.{read_on}
 use Rattle.device_engine.proofs.fill.fill.Goals as goal
