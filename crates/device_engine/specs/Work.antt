@@ -1,26 +1,17 @@
 -- What a device answers for the work of one request, from an image (our profile).
-use Rattle.std.specs.Prelude.{◌≡◌, ℕ, ◌+◌, ◌*◌, ◌<◌, List, length, take, drop, None, Some}
+use Rattle.std.specs.Prelude.{◌≡◌, ◌+◌, ◌*◌, length}
 use Rattle.sector_core.specs.declared.bio.Op.{Op}
 use Rattle.sector_core.specs.declared.bio.Op.TheVariants as op
 use Rattle.sector_core.specs.declared.bio.FailKind.TheVariants.{Short, Fault}
 use Rattle.sector_core.specs.declared.bio.Outcome.{Outcome}
 use Rattle.sector_core.specs.declared.bio.Outcome.TheVariants.{Stored, Fetched, Failed}
 use Rattle.sector_core.specs.declared.range.Range.{Range}
-use Rattle.base_image.specs.Image.{Known, Disk, failed}
+use Rattle.base_image.specs.Image.{Disk, failed}
 use Rattle.base_image.specs.declared.image.ImageFault.TheVariants.{Busy, Device}
+use Rattle.device_engine.specs.Fill.{IsPart, EndsBefore}
 use Rattle.plain_machine.specs.declared.answer.Work.{Work}
 use Rattle.plain_machine.specs.declared.call.DeviceCall.{DeviceCall}
 use Rattle.plain_machine.specs.declared.call.DeviceCall.TheVariants.{Finish, Requeue}
-
--- these are the image's bytes from an offset on
-abbrev pub IsPart : Known → ℕ → List ℕ → Type 0
-IsPart None offset bytes = Unit {0}
-IsPart (Some all) offset bytes = bytes ≡ take (length bytes) (drop offset all)
-
--- the image ends before that many bytes
-abbrev pub EndsBefore : Known → ℕ → Type 0
-EndsBefore None stop = Unit {0}
-EndsBefore (Some all) stop = length all < stop
 
 -- a fetch ends: the bytes of all its sectors were read, or the image ended before, or a read failed, which is counted
 abbrev pub FetchEnds : Disk → Range → Outcome → Disk → Type 0

@@ -8,6 +8,12 @@
 //! A fetch reads until its range is full. Where the image ends before, it failed short; where the device fails, it failed by
 //! a fault; where the device is busy, the request is given back.
 
+mod fill;
 mod work;
 
 pub use work::work_once;
+
+#[cfg(test)]
+mod fakes;
+#[cfg(test)]
+mod tests;
