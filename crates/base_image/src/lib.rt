@@ -20,3 +20,6 @@ pub use file::FileImage;
 pub use image::{Image, ImageFault};
 pub use memory::MemoryImage;
 pub use zero::ZeroImage;
+
+#[cfg(test)]
+mod tests;
