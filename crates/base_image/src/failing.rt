@@ -61,21 +61,18 @@ impl<I: Image> Image for FailingImage<I> {
         ensures left { self.new.left ≡ self.old.left - 1 }
         ensures fault { self.new.fault ≡ self.old.fault }
     {
-        if self.left == 1 {
-            self.left = 0;
-            self.faults += 1;
-            self.last = Some(self.fault);
-            return Err(self.fault);
-        }
+        let fails = self.left == 1;
         self.left = self.left.saturating_sub(1);
-        match self.inner.read_at(offset, buffer) {
-            Ok(count) => Ok(count),
-            Err(fault) => {
-                self.faults += 1;
-                self.last = Some(fault);
-                Err(fault)
-            }
+        let read = if fails {
+            Err(self.fault)
+        } else {
+            self.inner.read_at(offset, buffer)
+        };
+        if let Err(fault) = read {
+            self.faults += 1;
+            self.last = Some(fault);
         }
+        read
     }
 
     fn faults(&self) -> u64 {
