@@ -9,6 +9,17 @@
 //! | `FileImage` | reads a file; of its bytes no contract can speak |
 //! | `FailingImage` | another image, of which the read with one number fails, and no other |
 
+mod failing;
+mod file;
 mod image;
+mod memory;
+mod zero;
 
+pub use failing::FailingImage;
+pub use file::FileImage;
 pub use image::{Image, ImageFault};
+pub use memory::MemoryImage;
+pub use zero::ZeroImage;
+
+#[cfg(test)]
+mod tests;

@@ -1,0 +1,41 @@
+-- The images that this crate has, as their contracts speak of them.
+use Rattle.std.specs.Prelude.{◌≡◌, ℕ, ◌-◌, List, length, min, Option, None, Some, Result, Ok}
+use Rattle.std.specs.declared.io.ErrorKind.{ErrorKind}
+use Rattle.std.specs.declared.io.ErrorKind.TheVariants.{Interrupted, WouldBlock}
+use Rattle.base_image.specs.declared.image.ImageFault.{ImageFault}
+use Rattle.base_image.specs.declared.image.ImageFault.TheVariants.{Busy, Device}
+use Rattle.base_image.specs.Image.{Known, Disk}
+
+-- an image of which no read has failed (our profile)
+abbrev pub fresh : ℕ → Known → Disk
+fresh sectors bytes = record { sectors = sectors; bytes = bytes; faults = 0; last = None }
+
+-- a read that never fails, and fills as much of the buffer as the known bytes reach (our profile)
+abbrev pub Fills : Known → ℕ → List ℕ → Result ℕ ImageFault → Type 0
+Fills None offset buffer result = Unit {0}
+Fills (Some bytes) offset buffer result = result ≡ Ok (min (length buffer) (length bytes - offset))
+
+-- An image of which one read fails: the image inside, how many reads there are to the one that fails
+-- (0: none fails of itself), how that one fails, how many failed, and how the last of these failed here (our profile).
+pub record Failing (I : Type 0) : Type 0 where
+  pub inner : I
+  pub left : ℕ
+  pub fault : ImageFault
+  pub faults : ℕ
+  pub last : Option ImageFault
+
+-- the last failure here, or else that of the image inside
+abbrev pub latest : Option ImageFault → Option ImageFault → Option ImageFault
+latest None inner = inner
+latest (Some fault) inner = Some fault
+
+-- what is known of an image of which one read fails, from what is known of the image inside (our profile)
+abbrev pub seen : {I : Type 0} → (I → Disk) → Failing I → Disk
+seen disk image =
+    record { sectors = (disk image.inner).sectors; bytes = (disk image.inner).bytes; faults = image.faults; last = latest image.last (disk image.inner).last }
+
+-- why a read of a file failed: a read that was cut short or would have waited may succeed later (our profile)
+abbrev pub fault_of : ErrorKind → ImageFault
+fault_of Interrupted = Busy
+fault_of WouldBlock = Busy
+fault_of _ = Device

@@ -1,0 +1,98 @@
+// An image in a file.
+ghost use Rattle.std.specs.Prelude.{◌≡◌, ◌<◌, ◌-◌, ◌^◌, IfOk, None};
+ghost use Rattle.base_image.specs.Image.{Reads, CanBeCounted};
+ghost use Rattle.base_image.specs.Kinds.{fresh, fault_of};
+
+use crate::image::{Image, ImageFault};
+use std::fs::File;
+use std::io;
+use std::io::{ErrorKind, Seek, SeekFrom};
+use std::marker::Model;
+use std::os::unix::fs::FileExt;
+
+/// An image in a file or on a block device. Of its bytes no contract can speak.
+#[derive(Drop)]
+pub struct FileImage {
+    file: File,
+    sectors: u64,
+    faults: u64,
+    last: Option<ImageFault>,
+}
+
+impl Model for FileImage {
+    ghost use Rattle.std.specs.Prelude.{None, ◌<◌, ◌^◌};
+    ghost use Rattle.base_image.specs.Image.{Disk};
+
+    ghost Value = { Disk };
+
+    ghost view = { λ i. record { sectors = i.sectors; bytes = None; faults = i.faults; last = i.last } };
+
+    ghost invariant = { λ i. i.sectors < 2 ^ 55 };
+}
+
+impl FileImage {
+    /// The image in an open file: so many whole sectors of 512 bytes as the file is long now.
+    ///
+    /// # Errors
+    ///
+    /// The file is a folder, cannot be read, or its length cannot be told.
+    pub fn from_file(file: File) -> io::Result<FileImage>
+        ensures { IfOk result (λ image. image ≡ fresh image.sectors None) }
+    {
+        // a folder opens as a file does, and only a read of it fails
+        file.read_at(&mut [0; 1], 0)?;
+        let sectors = length_in_bytes(&file)? / 512;
+        Ok(FileImage {
+            file,
+            sectors,
+            faults: 0,
+            last: None,
+        })
+    }
+}
+
+// A block device tells its length by its end alone.
+fn length_in_bytes(mut file: &File) -> io::Result<u64> {
+    let length = file.metadata()?.len();
+    if length > 0 {
+        return Ok(length);
+    }
+    file.seek(SeekFrom::End(0))
+}
+
+// Why a read failed that answered with this kind of error.
+fn fault_of(kind: ErrorKind) -> ImageFault
+    ensures { result ≡ fault_of kind }
+{
+    match kind {
+        ErrorKind::Interrupted | ErrorKind::WouldBlock => ImageFault::Busy,
+        _ => ImageFault::Device,
+    }
+}
+
+impl Image for FileImage {
+    ghost disk = { λ image. image };
+
+    fn sectors(&self) -> u64 {
+        self.sectors
+    }
+
+    fn read_at(&mut self, offset: u64, buffer: &mut [u8]) -> Result<usize, ImageFault>
+        requires countable { self.old.faults < 2 ^ 64 - 1 }
+        ensures { Reads self.old offset buffer.new result self.new }
+    {
+        match self.file.read_at(buffer, offset) {
+            Ok(count) => Ok(count),
+            Err(error) => {
+                let fault = fault_of(error.kind());
+                self.faults += 1;
+                self.last = Some(fault);
+                Err(fault)
+            }
+        }
+    }
+
+    fn faults(&self) -> u64 {
+        self.faults
+    }
+}
