@@ -4,6 +4,7 @@ ghost use Rattle.base_image.specs.Image.{Reads, CanBeCounted};
 ghost use Rattle.base_image.specs.Kinds.{fresh, fault_of};
 
 use crate::image::{Image, ImageFault};
+use sector_core::SECTOR_BYTES;
 use std::fs::File;
 use std::io;
 use std::io::{ErrorKind, Seek, SeekFrom};
@@ -41,7 +42,7 @@ impl FileImage {
     {
         // a folder opens as a file does, and only a read of it fails
         file.read_at(&mut [0; 1], 0)?;
-        let sectors = length_in_bytes(&file)? / 512;
+        let sectors = length_in_bytes(&file)? / SECTOR_BYTES as u64;
         Ok(FileImage {
             file,
             sectors,

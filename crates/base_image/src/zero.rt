@@ -4,6 +4,7 @@ ghost use Rattle.base_image.specs.Image.{Reads, CanBeCounted};
 ghost use Rattle.base_image.specs.Kinds.{fresh, Fills};
 
 use crate::image::{Image, ImageFault};
+use sector_core::SECTOR_BYTES;
 use std::marker::Model;
 
 /// An image of zeros, which takes no memory for them. No read of it fails.
@@ -45,7 +46,7 @@ impl Image for ZeroImage {
         ensures reads { Reads self.old offset buffer.new result self.new }
         ensures whole { Fills self.old.bytes offset buffer.new result }
     {
-        let left = (512 * self.sectors).saturating_sub(offset) as usize;
+        let left = (SECTOR_BYTES as u64 * self.sectors).saturating_sub(offset) as usize;
         let count = left.min(buffer.len());
         buffer[..count].fill(0);
         Ok(count)
