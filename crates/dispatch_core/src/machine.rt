@@ -12,7 +12,8 @@ ghost use Rattle.plain_machine.specs.Queued.{request_view};
 ghost use Rattle.dispatch_core.specs.WellFormed.{WellFormed};
 ghost use Rattle.dispatch_core.specs.Counts.{exchanges_of, rule_exchanges, IsCount};
 ghost use Rattle.dispatch_core.specs.Relation.{Answers, Leaves};
-ghost use Rattle.dispatch_core.specs.Running.{plain_of, sizes_of, making_of, IsFor, Records, work_of};
+ghost use Rattle.dispatch_core.specs.Running.{plain_of, sizes_of, making_of, IsFor, Records};
+ghost use Rattle.plain_machine.specs.Device.{work_of};
 
 use crate::attach::run_attach;
 use crate::entering::{member_in, service_of, stands};

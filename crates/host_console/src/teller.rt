@@ -35,7 +35,7 @@ impl<K: Keeps, I: Image> Model for Teller<K, I> {
 }
 
 impl<K: Keeps, I: Image> Console for Teller<K, I> {
-    ghost prints = { λ before line text after. Prints before line text after };
+    ghost prints = { Prints };
 
     fn run(&mut self, alloc: Global, line: Line, out: &mut Vec<u8>) -> Result<(), OutOfMemory> {
         match line {

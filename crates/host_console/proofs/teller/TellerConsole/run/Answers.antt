@@ -60,3 +60,6 @@ returns-in-Switch-clause-err g c =
 pub returns-in-Tick-clause-err : goal.returns-in-Tick-clause-err
 returns-in-Tick-clause-err g c =
     rw c.in-Tick.is (on_err_weaker c.step-in-Tick.result (λ h. inr h) (rw c.tick.ensures at c.step-in-Tick.ensures.err))
+
+pub returns-in-Work-clause-err : goal.returns-in-Work-clause-err
+returns-in-Work-clause-err g c = rw c.in-Work.is c.work.ensures.err
