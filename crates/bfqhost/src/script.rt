@@ -15,7 +15,7 @@ use std::io::{Read, Write};
 
 /// Runs the lines of the reader in turn on a new keeper over the image, and writes what each prints before the next runs.
 /// The writer is not flushed. So few reads of the image have failed before that those of a script can be counted too.
-pub fn run_script<R: Read, W: Write, I: Image>(
+pub fn run_script<R: Read, W: Write, I: Image + Drop>(
     alloc: Global,
     config: Config,
     reader: &mut R,
