@@ -36,7 +36,7 @@ pub struct InService {
 /// What the tables of a machine are made for.
 #[derive(Clone, Copy, Debug, PartialEq, Eq)]
 pub struct Making {
-    /// How many requests may be queued or in flight.
+    /// How many requests may be queued, in the dispatch list or in flight.
     pub requests: u16,
     /// How many tags the device has.
     pub tags: u8,

@@ -51,7 +51,7 @@ pub fn run_dispatch(
     }
 }
 
-/// The first of the dispatch list goes before all others, at no cost.
+// The first of the dispatch list goes before all others, at no cost.
 fn send_again(
     sizes: Sizes,
     parts: &mut Parts,
@@ -97,7 +97,7 @@ fn send_again(
     Ok(Answer::Accepted(reply))
 }
 
-/// Scheduler none: of the next queue in turn the earliest request is sent.
+// Scheduler none: of the next queue in turn the earliest request is sent.
 fn send_first(
     sizes: Sizes,
     parts: &mut Parts,

@@ -3,6 +3,7 @@ ghost use Rattle.script_line.specs.Plain.{FitsOrNone};
 
 use super::line::Line;
 
+/// `attach SEAT GROUP PRIO`
 pub fn attach(seat: u64, group: u64, prio: u64) -> Option<Line>
     ensures { FitsOrNone (Line.Attach seat group prio) result }
 {
@@ -12,6 +13,7 @@ pub fn attach(seat: u64, group: u64, prio: u64) -> Option<Line>
     }
 }
 
+/// `read SEAT SESSION START COUNT`
 pub fn read(seat: u64, session: u64, start: u64, count: u64) -> Option<Line>
     ensures { FitsOrNone (Line.Read seat session start count) result }
 {
@@ -26,6 +28,7 @@ pub fn read(seat: u64, session: u64, start: u64, count: u64) -> Option<Line>
     }
 }
 
+/// `write SEAT SESSION START COUNT BYTE`
 pub fn write(seat: u64, session: u64, start: u64, count: u64, byte: u64) -> Option<Line>
     ensures { FitsOrNone (Line.Write seat session start count byte) result }
 {
@@ -41,6 +44,7 @@ pub fn write(seat: u64, session: u64, start: u64, count: u64, byte: u64) -> Opti
     }
 }
 
+/// `reap SEAT SESSION`
 pub fn reap(seat: u64, session: u64) -> Option<Line>
     ensures { FitsOrNone (Line.Reap seat session) result }
 {
@@ -50,6 +54,7 @@ pub fn reap(seat: u64, session: u64) -> Option<Line>
     }
 }
 
+/// `leave SEAT`
 pub fn leave(seat: u64) -> Option<Line>
     ensures { FitsOrNone (Line.Leave seat) result }
 {
@@ -59,6 +64,7 @@ pub fn leave(seat: u64) -> Option<Line>
     }
 }
 
+/// `work TAG ISSUE`
 pub fn work(tag: u64, issue: u64) -> Option<Line>
     ensures { FitsOrNone (Line.Work tag issue) result }
 {
@@ -68,6 +74,7 @@ pub fn work(tag: u64, issue: u64) -> Option<Line>
     }
 }
 
+/// `requeue TAG ISSUE`
 pub fn requeue(tag: u64, issue: u64) -> Option<Line>
     ensures { FitsOrNone (Line.Requeue tag issue) result }
 {
@@ -77,6 +84,7 @@ pub fn requeue(tag: u64, issue: u64) -> Option<Line>
     }
 }
 
+/// `undo K`
 pub fn undo(k: u64) -> Option<Line>
     ensures { FitsOrNone (Line.Undo k) result }
 {
@@ -86,6 +94,7 @@ pub fn undo(k: u64) -> Option<Line>
     }
 }
 
+/// `redo K`
 pub fn redo(k: u64) -> Option<Line>
     ensures { FitsOrNone (Line.Redo k) result }
 {
@@ -95,6 +104,7 @@ pub fn redo(k: u64) -> Option<Line>
     }
 }
 
+/// `queue SEAT`
 pub fn queue(seat: u64) -> Option<Line>
     ensures { FitsOrNone (Line.Queue seat) result }
 {
@@ -104,6 +114,7 @@ pub fn queue(seat: u64) -> Option<Line>
     }
 }
 
+/// `group PARENT WEIGHT`
 pub fn group(parent: u64, weight: u64) -> Option<Line>
     ensures { FitsOrNone (Line.Group parent weight) result }
 {
@@ -113,6 +124,7 @@ pub fn group(parent: u64, weight: u64) -> Option<Line>
     }
 }
 
+/// `drop GROUP`
 pub fn drop_group(group: u64) -> Option<Line>
     ensures { FitsOrNone (Line.Drop group) result }
 {
@@ -122,6 +134,7 @@ pub fn drop_group(group: u64) -> Option<Line>
     }
 }
 
+/// `weight GROUP WEIGHT`
 pub fn weight(group: u64, weight: u64) -> Option<Line>
     ensures { FitsOrNone (Line.Weight group weight) result }
 {
@@ -131,6 +144,7 @@ pub fn weight(group: u64, weight: u64) -> Option<Line>
     }
 }
 
+/// `vtime GROUP`
 pub fn vtime(group: u64) -> Option<Line>
     ensures { FitsOrNone (Line.Vtime group) result }
 {
@@ -140,6 +154,7 @@ pub fn vtime(group: u64) -> Option<Line>
     }
 }
 
+/// `entity N`
 pub fn entity(number: u64) -> Option<Line>
     ensures { FitsOrNone (Line.Entity number) result }
 {

@@ -18,7 +18,7 @@ pub enum Scheduler {
 pub struct ConfigDraft {
     /// The scheduler that the host starts with.
     pub scheduler: Scheduler,
-    /// How many requests may be queued or in flight, 1 to 256.
+    /// How many requests may be queued, in the dispatch list or in flight, 1 to 256.
     pub nr_requests: u64,
     /// How many tags the device has, 1 to 64.
     pub tags: u64,
@@ -84,7 +84,7 @@ pub enum ConfigFault {
 pub struct Config {
     /// The scheduler that the host starts with.
     pub scheduler: Scheduler,
-    /// How many requests may be queued or in flight.
+    /// How many requests may be queued, in the dispatch list or in flight.
     pub nr_requests: u16,
     /// How many tags the device has.
     pub tags: u8,

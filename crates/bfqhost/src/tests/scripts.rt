@@ -1,4 +1,6 @@
 // Scripts: each line, and what it prints.
+ghost use Rattle.std.specs.Prelude.{◌<◌, ◌^◌};
+
 use crate::script::run_script;
 use base_image::{Image, ZeroImage};
 use script_run::ScriptEnd;
