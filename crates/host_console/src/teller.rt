@@ -1,6 +1,6 @@
 // A keeper over an image, run from a script.
 ghost use Rattle.std.specs.Prelude.{◌≡◌, ℕ, List, ◌++◌, IfOk, OnOk, OnErr, ◌⊎◌};
-ghost use Rattle.host_console.specs.Printed.{AnswersOver, Prints, outcome_of, ended, sector_text, queue_text, cursor_text, group_text, known_text};
+ghost use Rattle.host_console.specs.Printed.{AnswersOver, Prints, outcome_of, sectors_in_flight, ended, sector_text, queue_text, cursor_text, group_text, known_text};
 
 use crate::Keeps;
 use crate::answer::put_answer;
@@ -142,15 +142,22 @@ impl<K: Keeps, I: Image> Teller<K, I> {
         match ending {
             Ending::Stored => Ok(Outcome::Stored),
             Ending::Fill(byte) => {
-                let count = match self.keeper.work(tag, issue) {
-                    Some(work) => work.range.count,
-                    None => 0,
-                };
+                let count = self.sectors_in_flight(tag, issue);
                 let bytes = sectors_of(alloc, count, byte)?;
                 Ok(Outcome::Fetched(bytes))
             }
             Ending::Short => Ok(Outcome::Failed(FailKind::Short)),
             Ending::Fault => Ok(Outcome::Failed(FailKind::Fault)),
+        }
+    }
+
+    // How many sectors the request has that is in flight under this tag with this issue; none where there is none.
+    fn sectors_in_flight(&self, tag: u8, issue: u64) -> u32
+        ensures { result ≡ sectors_in_flight self.now.keeper tag issue }
+    {
+        match self.keeper.work(tag, issue) {
+            Some(work) => work.range.count,
+            None => 0,
         }
     }
 
