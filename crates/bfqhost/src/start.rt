@@ -35,11 +35,13 @@ const OUTPUT_BYTES: usize = 65_536;
 pub fn start(rt: &(impl Env + Files<File = File> + AllocGlobal + Input + Print + Eprint)) -> u8 {
     match asked(rt) {
         Ok(Request::Help) => help(rt),
-        Ok(Request::Sim {
-            draft,
-            sectors,
-            image,
-        }) => sim(rt, draft, sectors, image),
+        Ok(
+            Request::Sim {
+                draft,
+                sectors,
+                image,
+            },
+        ) => sim(rt, draft, sectors, image),
         Err(WordFault::Usage) => {
             let _ = rt.eprintln("words: refused");
             REFUSED

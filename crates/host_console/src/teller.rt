@@ -98,7 +98,12 @@ impl<K: Keeps, I: Image> Teller<K, I> {
     }
 
     // The call of a step.
-    pub(crate) fn step(&mut self, alloc: Global, step: Step, out: &mut Vec<u8>) -> Result<(), OutOfMemory>
+    pub(crate) fn step(
+        &mut self,
+        alloc: Global,
+        step: Step,
+        out: &mut Vec<u8>,
+    ) -> Result<(), OutOfMemory>
         ensures ok { OnOk result ((text : List ℕ) × (out.new.items ≡ out.old.items ++ text)
             × AnswersOver self.old (Call.Do step) text self.new) }
         ensures err { OnErr result ((text : List ℕ) × AnswersOver self.old (Call.Do step) text self.new) }

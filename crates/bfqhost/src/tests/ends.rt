@@ -19,7 +19,13 @@ fn bad_line_ends_the_run(rt: HostRuntime) -> Result<(), Fail> {
         let config = Config::check(ConfigDraft::default())?;
         let mut reader = script.as_bytes();
         let mut written = Vec::new(rt.alloc());
-        let end = run_script(rt.alloc(), config, &mut reader, &mut written, ZeroImage::new(1024));
+        let end = run_script(
+            rt.alloc(),
+            config,
+            &mut reader,
+            &mut written,
+            ZeroImage::new(1024),
+        );
         assert_eq!(rt; end, ScriptEnd::BadLine(number));
         assert_eq!(rt; written.as_slice(), text.as_bytes());
     }
@@ -33,7 +39,13 @@ fn read_fails_in_mid_stream(rt: HostRuntime) -> Result<(), Fail> {
         bytes: b"attach 0 0 4\nhold\nundo 1",
     };
     let mut written = Vec::new(rt.alloc());
-    let end = run_script(rt.alloc(), config, &mut reader, &mut written, ZeroImage::new(1024));
+    let end = run_script(
+        rt.alloc(),
+        config,
+        &mut reader,
+        &mut written,
+        ZeroImage::new(1024),
+    );
     assert_eq!(rt; end, ScriptEnd::ReadFault);
     assert_eq!(rt; written.as_slice(), b"attached 1\nmoved 1 1\n".as_slice());
     Ok(())
@@ -49,7 +61,13 @@ fn write_fails_in_mid_stream(rt: HostRuntime) -> Result<(), Fail> {
             taken: Vec::new(rt.alloc()),
             room,
         };
-        let end = run_script(rt.alloc(), config, &mut reader, &mut writer, ZeroImage::new(1024));
+        let end = run_script(
+            rt.alloc(),
+            config,
+            &mut reader,
+            &mut writer,
+            ZeroImage::new(1024),
+        );
         assert_eq!(rt; end, ScriptEnd::WriteFault);
         assert_eq!(rt; Some(writer.taken.as_slice()), text.get(..room));
     }

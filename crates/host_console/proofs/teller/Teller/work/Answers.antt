@@ -12,8 +12,8 @@ pub returns-clause-err : goal.returns-clause-err
 returns-clause-err g c =
     let step = c.in_ok-step.step in
     let D : Disk → Type 0 = λ d. StepOfWork c.args.self.now.disk c.args.tag c.args.issue
-        (work_in_flight (machine_of c.args.self.now.keeper) c.args.tag c.args.issue) step d in
+    (work_in_flight (machine_of c.args.self.now.keeper) c.args.tag c.args.issue) step d in
     let A : List ℕ → State → Type 0 = λ text k. Answers k (call.Do step) text c.step.new.self.keeper in
     on_err_weaker c.step.result
-        (λ h. inr (h.0, (step, subst D (sym h.1.1) c.in_ok-step.ensures.ok, subst (A h.0) c.step_of_work.ensures.keeper h.1.0)))
-        c.step.ensures.err
+    (λ h. inr (h.0, (step, subst D (sym h.1.1) c.in_ok-step.ensures.ok, subst (A h.0) c.step_of_work.ensures.keeper h.1.0)))
+    c.step.ensures.err
