@@ -2,7 +2,7 @@ use super::{Ending, Line, line_of, number};
 use sector_core::Scheduler;
 
 // A line, as it is spelled and as it is.
-const FORMS: [(&[u8], Line); 37] = [
+const FORMS: [(&[u8], Line); 39] = [
     (
         b"attach 0 1 4",
         Line::Attach {
@@ -163,7 +163,7 @@ fn each_form_is_read(rt: HostRuntime) {
 }
 
 // Lines that are none.
-const BAD: [&[u8]; 103] = [
+const BAD: [&[u8]; 109] = [
     b"",
     b" ",
     b"#",
