@@ -29,6 +29,7 @@ each figure that has a bound stands the bound, and the status is 1 where one is 
 
 import ctypes
 import os
+import resource
 import shutil
 import statistics
 import subprocess
@@ -162,7 +163,10 @@ def image_read_cycle(cycle, first):
     yield "reap 0 1", f"completed {first} read" + "".join(f" {(start + place) % 256:02x}" for place in range(BLOCK_SECTORS))
 
 
-class Workload(namedtuple("Workload", "name scheduler opening cycle calls payload_sectors most_bytes most_against_none has_image")):
+FIELDS = "name scheduler opening cycle calls payload_sectors most_bytes most_against_none has_image"
+
+
+class Workload(namedtuple("Workload", FIELDS)):
     """The lines before the cycles and what they print, a cycle, the calls that it has, the sectors that it writes or
     reads, the bounds on a call's bytes and on its time against that with the scheduler none, if any, and whether it runs
     over an image file."""
@@ -242,10 +246,10 @@ def spent(words, path):
 
 def copied(image):
     """Seconds of user plus system time in which `dd` reads as many blocks as the longest script."""
-    before = os.times()
+    before = resource.getrusage(resource.RUSAGE_CHILDREN)
     subprocess.run(["dd", f"if={image}", "of=/dev/null", f"bs={BLOCK_BYTES}", f"count={MANY // 4}", "status=none"], check=True)
-    after = os.times()
-    return after.children_user - before.children_user + after.children_system - before.children_system
+    after = resource.getrusage(resource.RUSAGE_CHILDREN)
+    return after.ru_utime - before.ru_utime + after.ru_stime - before.ru_stime
 
 
 def in_any_order(lines):
