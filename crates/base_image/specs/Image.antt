@@ -2,7 +2,7 @@
 use Rattle.std.specs.Prelude.{◌≡◌, ℕ, ◌+◌, ◌<◌, ◌≤◌, ◌^◌, List, length, take, drop, Option, None, Some, Result, Ok, Err}
 use Rattle.base_image.specs.declared.image.ImageFault.{ImageFault}
 
--- bytes that are known, or not: of a real file no contract can tell them
+-- bytes that are known, or not: of a real file no contract can tell them (our profile)
 abbrev pub Known : Type 0
 Known = Option (List ℕ)
 
@@ -18,7 +18,7 @@ pub record Disk : Type 0 where
 abbrev pub failed : Disk → ImageFault → Disk
 failed disk fault = record { sectors = disk.sectors; bytes = disk.bytes; faults = disk.faults + 1; last = Some fault }
 
--- the first n bytes of a buffer are the image's bytes from an offset on; there are none only at the image's end
+-- the first n bytes of a buffer are the image's bytes from an offset on; there are none only at the image's end (our profile)
 abbrev pub Tells : Known → ℕ → List ℕ → ℕ → Type 0
 Tells None offset buffer n = Unit {0}
 Tells (Some bytes) offset buffer n =
@@ -29,7 +29,7 @@ abbrev pub Reads : Disk → ℕ → List ℕ → Result ℕ ImageFault → Disk 
 Reads before offset buffer (Ok n) after = (n ≤ length buffer) × Tells before.bytes offset buffer n × (after ≡ before)
 Reads before offset buffer (Err fault) after = after ≡ failed before fault
 
--- the image's bytes, where they are known, can be counted
+-- the image's bytes, where they are known, can be counted (our profile)
 abbrev pub CanBeCounted : Known → Type 0
 CanBeCounted None = Unit {0}
 CanBeCounted (Some bytes) = length bytes < 2 ^ 64

@@ -11,9 +11,9 @@ abbrev pub fresh : ℕ → Known → Disk
 fresh sectors bytes = record { sectors = sectors; bytes = bytes; faults = 0; last = None }
 
 -- a read that never fails, and fills as much of the buffer as the known bytes reach (our profile)
-abbrev pub Fills : Known → ℕ → List ℕ → Result ℕ ImageFault → Type 0
-Fills None offset buffer result = Unit {0}
-Fills (Some bytes) offset buffer result = result ≡ Ok (min (length buffer) (length bytes - offset))
+abbrev pub FillsAll : Known → ℕ → List ℕ → Result ℕ ImageFault → Type 0
+FillsAll None offset buffer result = Unit {0}
+FillsAll (Some bytes) offset buffer result = result ≡ Ok (min (length buffer) (length bytes - offset))
 
 -- An image of which one read fails: the image inside, how many reads there are to the one that fails
 -- (0: none fails of itself), how that one fails, how many failed, and how the last of these failed here (our profile).
@@ -24,7 +24,7 @@ pub record Failing (I : Type 0) : Type 0 where
   pub faults : ℕ
   pub last : Option ImageFault
 
--- the last failure here, or else that of the image inside
+-- the last failure here, or else that of the image inside (our profile)
 abbrev pub latest : Option ImageFault → Option ImageFault → Option ImageFault
 latest None inner = inner
 latest (Some fault) inner = Some fault

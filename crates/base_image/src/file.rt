@@ -1,6 +1,6 @@
 // An image in a file.
 ghost use Rattle.std.specs.Prelude.{◌≡◌, ◌<◌, ◌-◌, ◌^◌, IfOk, None};
-ghost use Rattle.base_image.specs.Image.{Reads, CanBeCounted};
+ghost use Rattle.base_image.specs.Image.{Reads, CanBeCounted, failed};
 ghost use Rattle.base_image.specs.Kinds.{fresh, fault_of};
 
 use crate::image::{Image, ImageFault};
@@ -50,6 +50,18 @@ impl FileImage {
             last: None,
         })
     }
+
+    // Counts a read that failed with this kind of error, and tells why it failed.
+    fn note(&mut self, kind: ErrorKind) -> ImageFault
+        requires countable { self.old.faults < 2 ^ 64 - 1 }
+        ensures fault { result ≡ fault_of kind }
+        ensures counted { self.new ≡ failed self.old (fault_of kind) }
+    {
+        let fault = fault_of(kind);
+        self.faults += 1;
+        self.last = Some(fault);
+        fault
+    }
 }
 
 // A block device tells its length by its end alone.
@@ -84,12 +96,7 @@ impl Image for FileImage {
     {
         match self.file.read_at(buffer, offset) {
             Ok(count) => Ok(count),
-            Err(error) => {
-                let fault = fault_of(error.kind());
-                self.faults += 1;
-                self.last = Some(fault);
-                Err(fault)
-            }
+            Err(error) => Err(self.note(error.kind())),
         }
     }
 

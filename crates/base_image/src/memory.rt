@@ -1,7 +1,7 @@
 // An image of bytes in memory.
 ghost use Rattle.std.specs.Prelude.{◌≡◌, ◌<◌, ◌^◌, Some};
 ghost use Rattle.base_image.specs.Image.{Reads, CanBeCounted};
-ghost use Rattle.base_image.specs.Kinds.{fresh, Fills};
+ghost use Rattle.base_image.specs.Kinds.{fresh, FillsAll};
 
 use crate::image::{Image, ImageFault};
 use bytes::Bytes;
@@ -48,7 +48,7 @@ impl Image for MemoryImage {
 
     fn read_at(&mut self, offset: u64, buffer: &mut [u8]) -> Result<usize, ImageFault>
         ensures reads { Reads self.old offset buffer.new result self.new }
-        ensures whole { Fills self.old.bytes offset buffer.new result }
+        ensures whole { FillsAll self.old.bytes offset buffer.new result }
     {
         let start = offset.min(self.bytes.len() as u64) as usize;
         let left = &self.bytes.as_slice()[start..];

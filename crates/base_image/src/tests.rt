@@ -135,6 +135,22 @@ fn file_image(rt: HostRuntime) -> Result<(), Fail> {
     Ok(())
 }
 
+// It still tells the sector that it had when it was opened, and has nothing to read.
+#[test]
+fn file_that_has_become_shorter(rt: HostRuntime) -> Result<(), Fail> {
+    let process = process::id(rt.process());
+    let path = format!(in rt.alloc(); "/tmp/base_image-shorter-{process}")?;
+    fs::write(&rt, path.as_str(), [0x37; 1000].as_slice())?;
+    let file = File::open(&rt, path.as_str())?;
+    let writable = File::options().write(true).open(&rt, path.as_str())?;
+    fs::remove_file(&rt, path.as_str())?;
+    let mut image = FileImage::from_file(file)?;
+    writable.set_len(0)?;
+    assert_eq!(rt; image.sectors(), 1);
+    assert_eq!(rt; read(&mut image, 0, 512, 0x37), (Ok(0), 0));
+    Ok(())
+}
+
 // The system refuses an offset past its greatest.
 #[test]
 fn file_image_counts_failures(rt: HostRuntime) -> Result<(), Fail> {

@@ -1,7 +1,7 @@
 // An image of zeros.
 ghost use Rattle.std.specs.Prelude.{◌≡◌, ◌<◌, ◌^◌, ◌*◌, Some, replicate};
 ghost use Rattle.base_image.specs.Image.{Reads, CanBeCounted};
-ghost use Rattle.base_image.specs.Kinds.{fresh, Fills};
+ghost use Rattle.base_image.specs.Kinds.{fresh, FillsAll};
 
 use crate::image::{Image, ImageFault};
 use sector_core::SECTOR_BYTES;
@@ -44,7 +44,7 @@ impl Image for ZeroImage {
 
     fn read_at(&mut self, offset: u64, buffer: &mut [u8]) -> Result<usize, ImageFault>
         ensures reads { Reads self.old offset buffer.new result self.new }
-        ensures whole { Fills self.old.bytes offset buffer.new result }
+        ensures whole { FillsAll self.old.bytes offset buffer.new result }
     {
         let left = (SECTOR_BYTES as u64 * self.sectors).saturating_sub(offset) as usize;
         let count = left.min(buffer.len());

@@ -78,7 +78,7 @@ fn write_help(rt: &impl Print) -> io::Result<()> {
 }
 
 // Runs the script, where the configuration is within its limits and then the image can be had: the file that is named,
-// or sectors of zeros, so many as there may be.
+// or sectors of zeros, where they are not too many.
 fn sim(
     rt: &(impl Files<File = File> + AllocGlobal + Input + Print + Eprint),
     draft: ConfigDraft,

@@ -1,7 +1,7 @@
 // What a fetch and a store of images that give little, end early or fail are answered.
 use super::fakes::Scripted;
 use super::work_once;
-use base_image::ImageFault;
+use base_image::{FailingImage, Image, ImageFault, MemoryImage};
 use bytes::Bytes;
 use plain_machine::{DeviceCall, Work};
 use sector_core::{FailKind, Op, Outcome, Range};
@@ -136,5 +136,74 @@ fn store_reads_nothing(rt: HostRuntime) -> Result<(), Fail> {
     );
     assert!(rt; is_stored);
     assert_eq!(rt; image.reads, 0);
+    Ok(())
+}
+
+#[test]
+fn busy_in_mid_stream(rt: HostRuntime) -> Result<(), Fail> {
+    let mut image = Scripted::new(&BYTES);
+    image.piece = 100;
+    image.fails_at = 3;
+    image.fault = ImageFault::Busy;
+    let busy = work_once(rt.alloc(), &mut image, &fetch(0, 1))?;
+    let is_given_back = matches!(busy, DeviceCall::Requeue { tag: 3, issue: 7 });
+    assert!(rt; is_given_back);
+    assert_eq!(rt; image.reads, 3);
+    let call = work_once(rt.alloc(), &mut image, &fetch(0, 1))?;
+    let bytes = bytes_of(call).ok_or("bytes")?;
+    assert_eq!(rt; bytes.as_slice(), BYTES.as_slice());
+    Ok(())
+}
+
+#[test]
+fn memory_image_is_fetched(rt: HostRuntime) -> Result<(), Fail> {
+    let bytes = Bytes::from_vec(BYTES.to_vec(rt.alloc())?)?;
+    let mut image = MemoryImage::new(bytes, 2);
+    let call = work_once(rt.alloc(), &mut image, &fetch(0, 1))?;
+    let read = bytes_of(call).ok_or("bytes")?;
+    assert_eq!(rt; read.as_slice(), BYTES.as_slice());
+    Ok(())
+}
+
+#[test]
+fn memory_image_ends_before_the_sectors_that_it_tells(rt: HostRuntime) -> Result<(), Fail> {
+    for (start, count) in [(1, 1), (0, 2)] {
+        let bytes = Bytes::from_vec(BYTES.to_vec(rt.alloc())?)?;
+        let mut image = MemoryImage::new(bytes, 2);
+        let call = work_once(rt.alloc(), &mut image, &fetch(start, count))?;
+        assert_eq!(rt; failure_of(call), Some(FailKind::Short));
+    }
+    Ok(())
+}
+
+#[test]
+fn failing_image_is_busy_once(rt: HostRuntime) -> Result<(), Fail> {
+    let bytes = Bytes::from_vec(BYTES.to_vec(rt.alloc())?)?;
+    let mut image = FailingImage::new(MemoryImage::new(bytes, 2), 1, ImageFault::Busy);
+    let busy = work_once(rt.alloc(), &mut image, &fetch(0, 1))?;
+    let is_given_back = matches!(busy, DeviceCall::Requeue { tag: 3, issue: 7 });
+    assert!(rt; is_given_back);
+    let call = work_once(rt.alloc(), &mut image, &fetch(0, 1))?;
+    let read = bytes_of(call).ok_or("bytes")?;
+    assert_eq!(rt; read.as_slice(), BYTES.as_slice());
+    Ok(())
+}
+
+#[test]
+fn failing_image_fails_after_a_store(rt: HostRuntime) -> Result<(), Fail> {
+    let bytes = Bytes::from_vec(BYTES.to_vec(rt.alloc())?)?;
+    let mut image = FailingImage::new(MemoryImage::new(bytes, 2), 1, ImageFault::Device);
+    let stored = work_once(rt.alloc(), &mut image, &work(Op::Store, 0, 1))?;
+    let is_stored = matches!(
+        stored,
+        DeviceCall::Finish {
+            outcome: Outcome::Stored,
+            ..
+        }
+    );
+    assert!(rt; is_stored);
+    assert_eq!(rt; image.faults(), 0);
+    let call = work_once(rt.alloc(), &mut image, &fetch(0, 1))?;
+    assert_eq!(rt; failure_of(call), Some(FailKind::Fault));
     Ok(())
 }

@@ -11,7 +11,7 @@ use plain_machine::{DeviceCall, Work};
 use sector_core::{FailKind, Op, OutOfMemory, Outcome, Range};
 use std::alloc::Global;
 
-// So many sectors have more bytes than a u64 numbers.
+// So many sectors have 2^64 bytes, one more than a u64 counts.
 const TOO_MANY_SECTORS: u64 = 1 << 55;
 
 /// Does the work of a request in flight, and gives the device's call.
@@ -27,6 +27,7 @@ pub fn work_once<I: Image>(
     requires countable { (I.disk image.old).faults < 2 ^ 64 - 1 }
     ensures ok { IfOk result (λ call. Works (I.disk image.old) work.now call (I.disk image.new)) }
     ensures err { OnErr result (I.disk image.new ≡ I.disk image.old) }
+    ensures store { work.now.op ≡ op.Store → image.new ≡ image.old }
 {
     match work.op {
         Op::Store => Ok(finish(work, Outcome::Stored)),
@@ -42,7 +43,7 @@ fn fetch<I: Image>(alloc: Global, image: &mut I, work: &Work) -> Result<DeviceCa
     ensures err { OnErr result (I.disk image.new ≡ I.disk image.old) }
 {
     if is_past_all(&work.range) {
-        // no image has so many bytes
+        // An image says with its sectors that its bytes can be counted, so it ends before this range.
         let _sectors = image.sectors();
         return Ok(finish(work, Outcome::Failed(FailKind::Short)));
     }
@@ -58,7 +59,7 @@ fn fetch<I: Image>(alloc: Global, image: &mut I, work: &Work) -> Result<DeviceCa
     }
 }
 
-// Whether the range ends past every byte that a u64 numbers.
+// Whether the range has its end, in bytes, where no u64 counts them.
 fn is_past_all(range: &Range) -> bool
     ensures { IsTrue result ↔ 2 ^ 64 ≤ 512 * (range.now.start + range.now.count) }
 {

@@ -1,4 +1,4 @@
--- What a line of a script asks of a keeper, and what it prints.
+-- What a line of a script asks of a keeper over an image, and what it prints.
 use Rattle.std.specs.Prelude.{◌≡◌, ℕ, ◌*◌, ◌≤◌, ◌<◌, ◌==◌, nat_le, nat_lt, List, [], ◌∷◌, ◌++◌, length, replicate, codes, Option, None, Some, if◌then◌else◌}
 use Rattle.std.specs.Fmt.{decimal}
 use Rattle.std.specs.FinMap as blocks
@@ -37,7 +37,7 @@ use Rattle.host_console.specs.declared.content.Content.TheVariants as content
 abbrev pub payload_of : ℕ → ℕ → List ℕ
 payload_of count byte = if nat_lt 64 count then [] else replicate (512 * count) byte
 
--- the sectors of some work, or none
+-- the sectors of some work, or none (our profile)
 abbrev pub sectors_of : Option Taken → ℕ
 sectors_of None = 0
 sectors_of (Some work) = work.range.count
@@ -53,7 +53,7 @@ outcome_of k tag issue (Fill byte) = outcome.Fetched (replicate (512 * sectors_i
 outcome_of k tag issue Short = outcome.Failed kind.Short
 outcome_of k tag issue Fault = outcome.Failed kind.Fault
 
--- the step of a `work` line: what the device answers from the image for the work, or, where there is none, that it was stored
+-- the step of a `work` line: what the device answers from the image for the work, or, where there is none, that it was stored (our profile)
 abbrev pub StepOfWork : Disk → ℕ → ℕ → Option Taken → Step → Disk → Type 0
 StepOfWork before tag issue None asked after = (asked ≡ step.Finish tag issue outcome.Stored) × (after ≡ before)
 StepOfWork before tag issue (Some work) asked after = (answer : DeviceCall) × Works before work answer after × (asked ≡ device_step answer)
@@ -115,7 +115,7 @@ IsContent k number (content.Stored block) = (number < k.limits.sectors) × (bloc
 
 -- Lines.
 
--- A keeper, and the image that its device reads.
+-- A keeper, and the image that its device reads (our profile).
 pub record Desk : Type 0 where
   pub keeper : State
   pub disk : Disk

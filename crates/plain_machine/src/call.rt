@@ -25,13 +25,18 @@ pub enum Call {
 pub enum DeviceCall {
     /// The request in flight under the tag with this issue has ended so.
     Finish {
+        /// Its tag.
         tag: u8,
+        /// The serial of its dispatch.
         issue: u64,
+        /// How it ended.
         outcome: Outcome,
     },
     /// The request is given back.
     Requeue {
+        /// Its tag.
         tag: u8,
+        /// The serial of its dispatch.
         issue: u64,
     },
 }
