@@ -1,20 +1,22 @@
--- On the machine of every keeper a dispatch under BFQ finds a queue and a request, under BFQ a session's entity is idle exactly where its
--- queue is empty, and a group's tree has just the entities that are in the group.
-use Rattle.std.proofs.Common.{true, false, ◌≡◌, ℕ, List, Option, Some, None, is_some, refl, sym, ◌∙◌}
+-- On the machine of every keeper a dispatch under BFQ finds a queue and a request, a session's entity waits or is served exactly where,
+-- under BFQ, its queue is not empty, a group's tree has just the entities that are in the group, and a queue the requests of its session.
+use Rattle.std.proofs.Common.{true, false, Bool, not, ◌&&◌, cond, ◌≡◌, ℕ, List, [], Option, Some, None, is_some, refl, sym, ap, ◌∙◌}
 use Rattle.process_queue.specs.Queue.{is_empty}
 use Rattle.change_record.specs.declared.change.InService.{InService}
-use Rattle.change_record.specs.Machine.{Plain}
+use Rattle.change_record.specs.Machine.{WholeRequest, Plain}
+use Rattle.bfq_select.specs.Rules.{member_of, is_idle}
 use Rattle.plain_machine.specs.declared.call.Call.{Call}
-use Rattle.plain_machine.specs.Step.{Limits, with_slot}
+use Rattle.plain_machine.specs.Step.{Limits, is_bfq, with_slot}
 use Rattle.plain_machine.specs.Keeper.{machine_of, replay}
 use Rattle.plain_machine.specs.Whole.{KeepsWhole}
 use Rattle.bfq_laws.specs.Found.{DispatchFindsARequest, EachDispatchFindsARequest}
 use Rattle.bfq_laws.specs.Busy.{BusySessionsWaitOrAreServed}
 use Rattle.bfq_laws.specs.Members.{AreMembers, EntitiesAreMembers}
+use Rattle.bfq_laws.specs.Queues.{QueuesAreOfTheirSessions}
 use Rattle.bfq_laws.proofs.Tree.{idle}
 use Rattle.bfq_laws.proofs.Busy.{Busy, Tidy, with_budget_in-busy, with_slot-busy}
 use Rattle.bfq_laws.proofs.Shape.{parent-at}
-use Rattle.bfq_laws.proofs.Calm.{calm-tidy}
+use Rattle.bfq_laws.proofs.Calm.{Calm, calm-tidy}
 use Rattle.bfq_laws.proofs.Choosing.{slot-found}
 use Rattle.bfq_laws.proofs.Upcoming.{next-some, next_queue-is}
 use Rattle.bfq_laws.proofs.Sound.{Sound, with_budget_in-alive, machine-sound}
@@ -44,9 +46,22 @@ finds l m h under some b e =
 pub dispatch-finds : ((l : Limits) (m : Plain) → KeepsWhole l m) → (l : Limits) (most : ℕ) (journal : List Call) → EachDispatchFindsARequest l most journal
 dispatch-finds stay l most journal = finds l (machine_of (replay l most journal)) (machine-sound stay l most journal)
 
+-- where this queue is known or not
+seen-busy : (known idle : Bool) (xs : List WholeRequest) → idle ≡ is_empty (cond known xs []) → not idle ≡ (known && not (is_empty xs))
+seen-busy true idle xs e = ap not e
+seen-busy false idle xs e = ap not e
+
+seen-served : (known : Bool) (xs : List WholeRequest) → is_empty (cond known xs []) ≡ false → (known ≡ true) × (is_empty xs ≡ false)
+seen-served true xs e = (refl, e)
+seen-served false xs e = cc
+
 pub busy-not-idle : ((l : Limits) (m : Plain) → KeepsWhole l m) → (l : Limits) (most : ℕ) (journal : List Call) → BusySessionsWaitOrAreServed l most journal
-busy-not-idle stay l most journal under seat lt sits =
-    (calm-tidy (machine_of (replay l most journal)) under (machine-sound stay l most journal).calm).busy.rests seat lt sits
+busy-not-idle stay l most journal =
+    let m : Plain = machine_of (replay l most journal) in
+    let calm : Calm m = (machine-sound stay l most journal).calm in (
+      λ seat lt sits. seen-busy (is_bfq m.scheduler) (is_idle (member_of m.bfq seat).state) (m.queue seat) (calm.busy.rests seat lt sits),
+      λ slot at. seen-served (is_bfq m.scheduler) (m.queue slot.seat) (calm.busy.serves slot at).2,
+    )
 
 members-are : (m : Plain) → Sound m → AreMembers m.bfq
 members-are m h =
@@ -58,3 +73,6 @@ members-are m h =
 
 pub entities-members : ((l : Limits) (m : Plain) → KeepsWhole l m) → (l : Limits) (most : ℕ) (journal : List Call) → EntitiesAreMembers l most journal
 entities-members stay l most journal = members-are (machine_of (replay l most journal)) (machine-sound stay l most journal)
+
+pub queues-owned : ((l : Limits) (m : Plain) → KeepsWhole l m) → (l : Limits) (most : ℕ) (journal : List Call) → QueuesAreOfTheirSessions l most journal
+queues-owned stay l most journal = (machine-sound stay l most journal).owned

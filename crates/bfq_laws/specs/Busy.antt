@@ -1,18 +1,24 @@
--- Which sessions' queues wait or are served under BFQ.
-use Rattle.std.specs.Prelude.{◌≡◌, ℕ, ◌<◌, true, List, is_some}
+-- Which sessions' queues wait or are served.
+use Rattle.std.specs.Prelude.{◌≡◌, ℕ, ◌<◌, true, false, not, ◌&&◌, List, Some, is_some}
 use Rattle.process_queue.specs.Queue.{is_empty}
 use Rattle.bfq_select.specs.Rules.{member_of, is_idle}
+use Rattle.change_record.specs.declared.change.InService.{InService}
 use Rattle.change_record.specs.Machine.{Plain}
 use Rattle.plain_machine.specs.declared.call.Call.{Call}
 use Rattle.plain_machine.specs.Step.{Limits, is_bfq}
 use Rattle.plain_machine.specs.Keeper.{machine_of, replay}
 
--- under bfq the entity of each session is idle exactly where its queue is empty (B-WF2Q+: a backlogged entity waits to be picked, or is
--- served)
+-- the entity of each session waits or is served exactly where, under bfq, its queue is not empty (B-WF2Q+: a backlogged entity waits to be
+-- picked, or is served; under another scheduler nobody does, by our profile)
 abbrev pub BusyAreNotIdle : Plain → Type 0
 BusyAreNotIdle m =
-    is_bfq m.scheduler ≡ true → (seat : ℕ) → seat < 16 → is_some (m.seat seat) ≡ true → is_idle (member_of m.bfq seat).state ≡ is_empty (m.queue seat)
+    (seat : ℕ) → seat < 16 → is_some (m.seat seat) ≡ true
+    → not (is_idle (member_of m.bfq seat).state) ≡ (is_bfq m.scheduler && not (is_empty (m.queue seat)))
+
+-- and the queue in service, if one is, is one that is not empty, under bfq
+abbrev pub ServedIsBusy : Plain → Type 0
+ServedIsBusy m = (slot : InService) → m.bfq.slot ≡ Some slot → (is_bfq m.scheduler ≡ true) × (is_empty (m.queue slot.seat) ≡ false)
 
 -- so it is on the machine of every keeper that a journal makes
 abbrev pub BusySessionsWaitOrAreServed : Limits → ℕ → List Call → Type 0
-BusySessionsWaitOrAreServed l most journal = BusyAreNotIdle (machine_of (replay l most journal))
+BusySessionsWaitOrAreServed l most journal = BusyAreNotIdle (machine_of (replay l most journal)) × ServedIsBusy (machine_of (replay l most journal))

@@ -4,3 +4,4 @@ pub mod Found
 pub mod Weights
 pub mod Sums
 pub mod Members
+pub mod Queues

@@ -5,6 +5,7 @@ ghost use Rattle.bfq_laws.specs.Budgets.{BudgetsAreEnough, ServiceIsWithinBudget
 ghost use Rattle.bfq_laws.specs.Weights.{WeightsArePositive};
 ghost use Rattle.bfq_laws.specs.Sums.{SumsArePositive};
 ghost use Rattle.bfq_laws.specs.Members.{EntitiesAreMembers};
+ghost use Rattle.bfq_laws.specs.Queues.{QueuesAreOfTheirSessions};
 ghost use Rattle.plain_machine.specs.Step.{Limits};
 ghost use Rattle.plain_machine.specs.declared.call.Call.{Call};
 ghost use Rattle.std.specs.Prelude.{ℕ, List};
@@ -27,8 +28,8 @@ pub fn service_is_within_budget()
     requests_stay_whole();
 }
 
-/// B-WF2Q+: under BFQ the entity of a session is idle exactly where its queue is empty, on the machine of every keeper that
-/// a journal makes. The contract is the law.
+/// B-WF2Q+: the entity of a session waits or is served exactly where, under BFQ, its queue is not empty, on the machine of
+/// every keeper that a journal makes; and the queue in service, if one is, is not empty. The contract is the law.
 pub fn busy_sessions_wait_or_are_served()
     ensures { (l : Limits) (most : ℕ) (journal : List Call) → BusySessionsWaitOrAreServed l most journal }
 {
@@ -62,6 +63,14 @@ pub fn sums_are_positive()
 /// contract is the law.
 pub fn entities_are_members()
     ensures { (l : Limits) (most : ℕ) (journal : List Call) → EntitiesAreMembers l most journal }
+{
+    requests_stay_whole();
+}
+
+/// On the machine of every keeper that a journal makes, each request in the queue of a seat is of the session that sits
+/// there. The contract is the law.
+pub fn queues_are_of_their_sessions()
+    ensures { (l : Limits) (most : ℕ) (journal : List Call) → QueuesAreOfTheirSessions l most journal }
 {
     requests_stay_whole();
 }
