@@ -9,8 +9,11 @@ use Rattle.service_tree.specs.Members.{Service}
 use Rattle.change_record.specs.Tables.{Tables}
 
 -- the tree of a group; where there is no such group, one without a place
+abbrev pub tree_of : List Service → ℕ → Service
+tree_of trees group = slice_index_or trees group (record { vtime = 0; members = [] })
+
 abbrev pub tree_at : Tables → ℕ → Service
-tree_at t group = slice_index_or t.trees group (record { vtime = 0; members = [] })
+tree_at t group = tree_of t.trees group
 
 -- a tree with this at an entity's place, and one at this virtual time
 abbrev pub with_member : Service → ℕ → Option Member → Service

@@ -1,17 +1,19 @@
 // All tables of the host.
-ghost use Rattle.std.specs.Prelude.{◌≡◌, ◌+◌, ◌%◌, ◌^◌, None, IfOk, IsOk, OnOk, OnErr, IfSome, MatchOption, ◌++◌, replicate, slice_index_or, slice_get, []};
+ghost use Rattle.std.specs.Prelude.{◌≡◌, ◌+◌, ◌%◌, ◌^◌, None, IfOk, IsOk, OnOk, OnErr, IfSome, IsSome, MatchOption, ◌++◌, replicate, slice_index_or, slice_get, slice_set, []};
 ghost use Rattle.std.specs.Option.{option_copied};
 ghost use Rattle.change_record.specs.Tables.{empty_tables, empty_service};
-ghost use Rattle.change_record.specs.Exchange.{after, left_by, AddsBlock, FitsIn};
+ghost use Rattle.std.specs.FinMap as map;
+ghost use Rattle.overlay.specs.Blocks.{exchanged};
+ghost use Rattle.change_record.specs.Exchange.{after, left_by, AddsBlock, FitsAt, FitsIn, tree_of, with_member, with_vtime};
 
 use crate::{Change, InService, Making, Outbox, Seat};
 use arrayvec::ArrayVec;
 use group_tree::GroupTree;
 use overlay::Overlay;
-use process_queue::ProcessQueue;
+use process_queue::{Link, ProcessQueue};
 use request_pool::RequestPool;
-use sector_core::{Entity, OutOfMemory, Scheduler, empty_table};
-use service_tree::ServiceTree;
+use sector_core::{Block, Entity, OutOfMemory, Scheduler, Slot, empty_table};
+use service_tree::{Member, ServiceTree};
 use std::alloc::Global;
 use std::marker::Model;
 use std::mem;
@@ -246,18 +248,7 @@ impl Parts {
         ensures fits { FitsIn self.old.tables change.old → IsOk result }
     {
         match change {
-            Change::Sector { sector, block } => {
-                let given = block.take();
-                match self.overlay.exchange(*sector, given) {
-                    Ok(left) => {
-                        *block = left;
-                    }
-                    Err(back) => {
-                        *block = back.0;
-                        return Err(OutOfMemory);
-                    }
-                }
-            }
+            Change::Sector { sector, block } => exchange_block(&mut self.overlay, *sector, block)?,
             Change::RequestSlot { slot, request } => {
                 let given = request.take();
                 *request = self.pool.exchange_request(*slot, given);
@@ -266,31 +257,11 @@ impl Parts {
                 let given = bio.take();
                 *bio = self.pool.exchange_bio(*slot, given);
             }
-            Change::Tag { tag, issue } => {
-                *issue = self.tags.exchange(*tag, *issue);
-            }
-            Change::QueueLink { slot, link } => {
-                *link = match *link {
-                    Some(given) => self.queues.link(*slot, given.seat, given.serial),
-                    None => self.queues.unlink(*slot),
-                };
-            }
-            Change::OutboxWhole { seat, outbox } => {
-                if let Some(place) = self.outboxes.get_mut(usize::from(*seat)) {
-                    mem::swap(place, outbox);
-                }
-            }
-            Change::SeatEntry { seat, entry } => {
-                if let Some(place) = self.seats.get_mut(usize::from(*seat)) {
-                    mem::swap(place, entry);
-                }
-            }
-            Change::Requeued { slot, link } => {
-                *link = match *link {
-                    Some(given) => self.requeued.link(*slot, given.seat, given.serial),
-                    None => self.requeued.unlink(*slot),
-                };
-            }
+            Change::Tag { tag, issue } => *issue = self.tags.exchange(*tag, *issue),
+            Change::QueueLink { slot, link } => exchange_link(&mut self.queues, *slot, link),
+            Change::OutboxWhole { seat, outbox } => swap_at(&mut self.outboxes, *seat, outbox),
+            Change::SeatEntry { seat, entry } => swap_at(&mut self.seats, *seat, entry),
+            Change::Requeued { slot, link } => exchange_link(&mut self.requeued, *slot, link),
             Change::Mode {
                 scheduler,
                 frozen,
@@ -300,44 +271,93 @@ impl Parts {
                 mem::swap(&mut self.frozen, frozen);
                 mem::swap(&mut self.served, served);
             }
-            Change::Head { seat, head } => {
-                if let Some(place) = self.heads.get_mut(usize::from(*seat)) {
-                    mem::swap(place, head);
-                }
-            }
+            Change::Head { seat, head } => swap_at(&mut self.heads, *seat, head),
             Change::TreeMember {
                 group,
                 entity,
                 member,
-            } => {
-                if let Some(tree) = self.trees.get_mut(usize::from(*group)) {
-                    *member = tree.exchange(*entity, *member);
-                }
-            }
-            Change::Vtime { group, vtime } => {
-                if let Some(tree) = self.trees.get_mut(usize::from(*group)) {
-                    *vtime = tree.exchange_vtime(*vtime);
-                }
-            }
-            Change::GroupEntry { entity, group } => {
-                *group = self.groups.exchange_group(*entity, *group);
-            }
-            Change::Pending { entity, weight } => {
-                if let Some(place) = self.weights.get_mut(usize::from(*entity)) {
-                    mem::swap(place, weight);
-                }
-            }
-            Change::Budget { entity, budget } => {
-                if let Some(place) = self.budgets.get_mut(usize::from(*entity)) {
-                    mem::swap(place, budget);
-                }
-            }
-            Change::Serving { slot } => {
-                mem::swap(&mut self.slot, slot);
-            }
+            } => exchange_member(&mut self.trees, *group, *entity, member),
+            Change::Vtime { group, vtime } => exchange_vtime(&mut self.trees, *group, vtime),
+            Change::GroupEntry { entity, group } => *group = self
+                .groups
+                .exchange_group(*entity, *group),
+            Change::Pending { entity, weight } => swap_at(&mut self.weights, *entity, weight),
+            Change::Budget { entity, budget } => swap_at(&mut self.budgets, *entity, budget),
+            Change::Serving { slot } => mem::swap(&mut self.slot, slot),
         }
         self.turns = self.turns.wrapping_add(1);
         Ok(())
+    }
+}
+
+// Puts the block at the sector, and what stood there into its stead. Where there is no memory for it nothing changes.
+fn exchange_block(
+    overlay: &mut Overlay,
+    sector: u64,
+    block: &mut Option<Block>,
+) -> Result<(), OutOfMemory>
+    ensures overlay { OnOk result (overlay.new ≡ exchanged overlay.old sector block.old) }
+    ensures left { OnOk result (block.new ≡ map.get overlay.old sector) }
+    ensures err { OnErr result (overlay.new ≡ overlay.old) }
+    ensures handed_back { OnErr result (block.new ≡ block.old) }
+    ensures adds { OnErr result ((map.get overlay.old sector ≡ None) × IsSome block.old) }
+    ensures fits { FitsAt overlay.old sector block.old → IsOk result }
+{
+    match overlay.exchange(sector, block.take()) {
+        Ok(left) => {
+            *block = left;
+            Ok(())
+        }
+        Err(back) => {
+            *block = back.0;
+            Err(OutOfMemory)
+        }
+    }
+}
+
+// Links the slot or takes it out of its queue, and puts the link that it had in the stead of the new one.
+fn exchange_link(queues: &mut ProcessQueue, slot: Slot, link: &mut Option<Link>)
+    ensures queues { queues.new ≡ slice_set queues.old slot link.old }
+    ensures left { link.new ≡ slice_index_or queues.old slot link.old }
+{
+    *link = match *link {
+        Some(given) => queues.link(slot, given.seat, given.serial),
+        None => queues.unlink(slot),
+    };
+}
+
+// Puts a value at a place of a table, and what stood there into its stead; where there is no such place nothing changes.
+fn swap_at<T>(table: &mut Vec<T>, at: u8, value: &mut T)
+    ensures table { table.new.items ≡ slice_set table.old.items at value.old }
+    ensures left { value.new ≡ slice_index_or table.old.items at value.old }
+{
+    if let Some(place) = table.get_mut(usize::from(at)) {
+        mem::swap(place, value);
+    }
+}
+
+// The same for what a group's tree knows of an entity.
+fn exchange_member(
+    trees: &mut Vec<ServiceTree>,
+    group: u8,
+    entity: Entity,
+    member: &mut Option<Member>,
+)
+    ensures trees { trees.new.items ≡ slice_set trees.old.items group (with_member (tree_of trees.old.items group) entity member.old) }
+    ensures left { member.new ≡ slice_index_or (tree_of trees.old.items group).members entity member.old }
+{
+    if let Some(tree) = trees.get_mut(usize::from(group)) {
+        *member = tree.exchange(entity, *member);
+    }
+}
+
+// The same for a group's virtual time.
+fn exchange_vtime(trees: &mut Vec<ServiceTree>, group: u8, vtime: &mut u64)
+    ensures trees { trees.new.items ≡ slice_set trees.old.items group (with_vtime (tree_of trees.old.items group) vtime.old) }
+    ensures left { vtime.new ≡ (slice_index_or trees.old.items group (with_vtime (tree_of trees.old.items group) vtime.old)).vtime }
+{
+    if let Some(tree) = trees.get_mut(usize::from(group)) {
+        *vtime = tree.exchange_vtime(*vtime);
     }
 }
 
