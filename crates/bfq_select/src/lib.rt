@@ -7,6 +7,7 @@
 //! | [`select`] | at each level from the root down the pick is taken into service |
 //! | [`charge`] | the virtual times on the path of the queue in service rise by what it was sent |
 //! | [`expire`] | the queue in service leaves it with a new budget, and its path at the finish of what it was served |
+//! | [`member_in`] | what a group's tree knows of an entity; the rules read it |
 //!
 //! The rules stand in `specs/Rules.antt`, on the plain machine: a call makes the exchanges that lead there, through the
 //! tape. An exchange on one place is made by its setter alone, whose clauses speak of the plain machine already.
@@ -23,6 +24,7 @@ mod selecting;
 mod stamping;
 
 pub use expiry::{Expiry, VtimeFull};
+pub use reading::member_in;
 pub use rules::{activate, charge, expire, select};
 
 #[cfg(test)]

@@ -29,7 +29,7 @@ pub fn group_of(parts: &Parts, entity: Entity) -> u8
     }
 }
 
-// What a group's tree knows of an entity.
+/// What a group's tree knows of an entity: of one that it has not, an idle member with its times and its weight at 0.
 pub fn member_in(parts: &Parts, group: u8, entity: Entity) -> Member
     ensures value { result ≡ member_in (bfq_of parts.now.tables) group entity }
     ensures start { IsBounded (bfq_of parts.now.tables) → result.start ≤ 2 ^ 62 }

@@ -26,16 +26,11 @@ use Rattle.dispatch_core.proofs.QueueLists.{find_first, find_none}
 use Rattle.dispatch_core.proofs.Ruling.{put_set, well_with, entered-bfq, bounded_entity, bounded_without, bounded_vtime, bounded_pending, ruled_of, groups_set}
 use Rattle.dispatch_core.proofs.Laws.{WellFormed-later}
 
--- a list past its end, and within it
+-- a list past its end
 pub get-none : {A : Type 0} (xs : List A) (i : ℕ) (d : A) → slice_get xs i ≡ None → get_or xs i d ≡ d
 get-none [] i d e = refl
 get-none (x ∷ xs) zero d e = cc
 get-none (x ∷ xs) (suc i) d e = get-none xs i d e
-
-pub get-some : {A : Type 0} (xs : List A) (i : ℕ) (d v : A) → slice_get xs i ≡ Some v → get_or xs i d ≡ v
-get-some [] i d v e = cc
-get-some (x ∷ xs) zero d v e = cc
-get-some (x ∷ xs) (suc i) d v e = get-some xs i d v e
 
 -- the first group that does not stand is the free one
 pub free_is : (b : Bfq) (group : ℕ) → 1 ≤ group → group < 32 → stands b group ≡ false → ((j : ℕ) → 1 ≤ j → j < group → stands b j ≡ true) → Some group ≡ free_group b

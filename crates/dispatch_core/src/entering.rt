@@ -2,7 +2,7 @@
 ghost use Rattle.std.specs.Prelude.{◌≡◌, ◌+◌, ◌≤◌, length};
 ghost use Rattle.change_record.specs.Trail.{KeepsTrail};
 ghost use Rattle.change_record.specs.Machine.{bfq_of};
-ghost use Rattle.bfq_select.specs.Rules.{member_in, stands};
+ghost use Rattle.bfq_select.specs.Rules.{stands};
 ghost use Rattle.plain_machine.specs.Step.{of_sizes};
 ghost use Rattle.plain_machine.specs.Entities.{service_of};
 ghost use Rattle.dispatch_core.specs.Changes.{entered};
@@ -64,25 +64,6 @@ pub fn enter(
         },
     );
     tape.exchange(parts, Change::Pending { entity, weight });
-}
-
-/// What the tree of a group knows of an entity.
-pub fn member_in(parts: &Parts, group: u8, entity: Entity) -> Member
-    ensures { result ≡ member_in (bfq_of parts.now.tables) group entity }
-{
-    let absent = Member {
-        state: State::Idle,
-        start: 0,
-        finish: 0,
-        weight: 0,
-    };
-    let Some(tree) = parts.tree(group) else {
-        return absent;
-    };
-    match tree.get(entity) {
-        Some(member) => member,
-        None => absent,
-    }
 }
 
 /// The sectors that were sent for an entity of this state since it was selected.

@@ -16,7 +16,7 @@ ghost use Rattle.dispatch_core.specs.Running.{plain_of, sizes_of, making_of, IsF
 ghost use Rattle.plain_machine.specs.Device.{work_of};
 
 use crate::attach::run_attach;
-use crate::entering::{member_in, service_of, stands};
+use crate::entering::{service_of, stands};
 use crate::finish::run_finish;
 use crate::groups::{run_group_drop, run_group_make, run_set_weight};
 use crate::leave::run_leave;
@@ -28,6 +28,7 @@ use crate::slots::outbox_slots;
 use crate::submit::run_submit;
 use crate::switch::run_switch;
 use crate::{Answer, Code, EntityView, RequestView, Sizes, Step, Work};
+use bfq_select::member_in;
 use change_record::{Making, Parts, Tape};
 use plain_machine::requests_stay_whole;
 use sector_core::{Block, Config, OutOfMemory, Scheduler};

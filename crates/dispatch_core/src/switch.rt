@@ -10,8 +10,8 @@ ghost use Rattle.dispatch_core.specs.Counts.{switch_exchanges};
 ghost use Rattle.dispatch_core.specs.Relation.{Answers, Leaves};
 ghost use Rattle.dispatch_core.specs.WellFormed.{WellFormed, taken};
 
-use crate::entering::member_in;
 use crate::{Answer, Code, Reply, Sizes};
+use bfq_select::member_in;
 use change_record::{Change, Parts, Tape};
 use sector_core::{Entity, OutOfMemory, Scheduler};
 use service_tree::Member;
