@@ -6,7 +6,8 @@ The expected bytes are those that this program writes into the files, or that `x
 import os
 import shutil
 import subprocess
-from dataclasses import dataclass
+
+from bad_input import BAD_WORDS, REFUSED, Case
 
 SECTOR_BYTES = 512
 # The superblock of ext4 stands 1,024 bytes from the start and has 1,024 bytes: sectors 2 and 3.
@@ -17,20 +18,17 @@ EXT4_BYTES = 1 << 20
 FAR_SECTOR = 70_000
 
 CANNOT_BE_READ = b"image: cannot be read\n"
-DONE = 0
-REFUSED = 6
 
 
-@dataclass
-class Run:
-    """One run of the program over an image: its words after `sim`, its script, and what it must write."""
+def read_case(name, words, start, count, sectors):
+    """A run that reads a range by the work of the device."""
+    script, text = reading(start, count, sectors)
+    return Case(name, ["sim", *words], script, text)
 
-    name: str
-    words: list
-    script: bytes = b""
-    stdout: bytes = b""
-    stderr: bytes = b""
-    status: int = DONE
+
+def refused(name, words, stderr):
+    """A run that ends before its first line."""
+    return Case(name, ["sim", *words], b"hold\n", b"", stderr, BAD_WORDS)
 
 
 def sector_text(sector):
@@ -54,42 +52,46 @@ def written(folder, name, content):
     return path
 
 
-def runs(folder):
+def small_files(folder):
     """The runs over small files."""
     some = bytes(number * 7 % 251 for number in range(1000))
     path = written(folder, "thousand", some)
-    script, text = reading(0, 1, [some[:SECTOR_BYTES]])
-    yield Run("1,000 bytes are one sector", ["--image", path], script, text)
-    yield Run("no sector past the image's last", ["--image", path],
-              b"attach 0 0 4\nread 0 1 1 1\nread 0 1 0 1\ndispatch\nwork 0 3\nwork 0 3\nsector 0\nsector 1\n",
-              b"attached 1\nrefused 14\nqueued 2\nissued 0 3 fetch 0 1\nfinished 1\nrefused 20\nsector 0 base\nsector 1 none\n")
-    yield Run("the number of sectors is not used beside an image", ["--sectors", "70000", "--image", path], script, text)
+    yield read_case("1,000 bytes are one sector", ["--image", path], 0, 1, [some[:SECTOR_BYTES]])
+    yield Case("no sector past the image's last", ["sim", "--image", path],
+               b"attach 0 0 4\nread 0 1 1 1\nread 0 1 0 1\ndispatch\nwork 0 3\nwork 0 3\nsector 0\nsector 1\n",
+               b"attached 1\nrefused 14\nqueued 2\nissued 0 3 fetch 0 1\nfinished 1\nrefused 20\nsector 0 base\nsector 1 none\n")
+    yield read_case("the number of sectors is not used beside an image", ["--sectors", "70000", "--image", path],
+                    0, 1, [some[:SECTOR_BYTES]])
     letters = b"A" * SECTOR_BYTES + b"B" * SECTOR_BYTES
-    script, text = reading(0, 2, [letters[:SECTOR_BYTES], letters[SECTOR_BYTES:]])
-    yield Run("two sectors", [f"--image={written(folder, 'letters', letters)}"], script, text)
-    store = b"attach 0 0 4\nwrite 0 1 0 1 67\ndispatch\nwork 0 3\nreap 0 1\nread 0 1 0 2\ndispatch\nwork 0 7\nreap 0 1\n"
-    stored = (b"attached 1\nqueued 2\nissued 0 3 store 0 1\nfinished 1\ncompleted 2 written\n"
-              b"queued 6\nissued 0 7 fetch 0 2\nfinished 1\ncompleted 6 read 43 42\n")
-    yield Run("a store stays in memory", ["--image", os.path.join(folder, "letters")], store, stored)
-    yield Run("an empty file", ["--image", written(folder, "empty", b"")], b"attach 0 0 4\nread 0 1 0 1\n", b"attached 1\nrefused 14\n")
+    both = [letters[:SECTOR_BYTES], letters[SECTOR_BYTES:]]
+    yield read_case("two sectors", [f"--image={written(folder, 'letters', letters)}"], 0, 2, both)
+    yield Case("a store stays in memory", ["sim", "--image", os.path.join(folder, "letters")],
+               b"attach 0 0 4\nwrite 0 1 0 1 67\ndispatch\nwork 0 3\nreap 0 1\nread 0 1 0 2\ndispatch\nwork 0 7\nreap 0 1\n",
+               b"attached 1\nqueued 2\nissued 0 3 store 0 1\nfinished 1\ncompleted 2 written\n"
+               b"queued 6\nissued 0 7 fetch 0 2\nfinished 1\ncompleted 6 read 43 42\n")
+    yield Case("an empty file", ["sim", "--image", written(folder, "empty", b"")],
+               b"attach 0 0 4\nread 0 1 0 1\n", b"attached 1\nrefused 14\n")
     far = written(folder, "far", b"")
     with open(far, "wb") as file:
         file.seek(FAR_SECTOR * SECTOR_BYTES)
         file.write(letters)
-    script, text = reading(FAR_SECTOR, 2, [letters[:SECTOR_BYTES], letters[SECTOR_BYTES:]])
-    yield Run("more sectors than a device of zeros may have", ["--image", far], script, text)
-    missing = os.path.join(folder, "missing")
-    yield Run("a file that is not there", ["--image", missing], b"hold\n", b"", CANNOT_BE_READ, REFUSED)
-    yield Run("a path that is empty", ["--image="], b"hold\n", b"", CANNOT_BE_READ, REFUSED)
-    yield Run("a folder", ["--image", folder], b"hold\n", b"", CANNOT_BE_READ, REFUSED)
-    yield Run("the configuration comes before the image", ["--tags", "0", "--image", missing], b"", b"", b"config: tags\n", REFUSED)
-    yield Run("the words come before the image", ["--tags", "x", "--image", missing], b"", b"", b"words: refused\n", REFUSED)
+    yield read_case("more sectors than a device of zeros may have", ["--image", far], FAR_SECTOR, 2, both)
     if os.geteuid() != 0:
         os.chmod(written(folder, "closed", letters), 0)
-        yield Run("a file that may not be read", ["--image", os.path.join(folder, "closed")], b"hold\n", b"", CANNOT_BE_READ, REFUSED)
+        yield refused("a file that may not be read", ["--image", os.path.join(folder, "closed")], CANNOT_BE_READ)
 
 
-def ext4_run(folder):
+def no_files(folder):
+    """The runs that have no image to read."""
+    missing = os.path.join(folder, "missing")
+    yield refused("a file that is not there", ["--image", missing], CANNOT_BE_READ)
+    yield refused("a path that is empty", ["--image="], CANNOT_BE_READ)
+    yield refused("a folder", ["--image", folder], CANNOT_BE_READ)
+    yield refused("the configuration comes before the image", ["--tags", "0", "--image", missing], b"config: tags\n")
+    yield refused("the words come before the image", ["--tags", "x", "--image", missing], REFUSED)
+
+
+def ext4(folder):
     """A run that reads the superblock of a new ext4, whose bytes `xxd` shows."""
     path = os.path.join(folder, "ext4")
     subprocess.run(["truncate", "-s", str(EXT4_BYTES), path], check=True)
@@ -98,23 +100,10 @@ def ext4_run(folder):
                             "-l", str(SUPERBLOCK_SECTORS * SECTOR_BYTES), path], check=True, stdout=subprocess.PIPE).stdout
     block = bytes.fromhex("".join(shown.decode().split()))
     sectors = [block[at:at + SECTOR_BYTES] for at in range(0, len(block), SECTOR_BYTES)]
-    script, text = reading(SUPERBLOCK_SECTOR, SUPERBLOCK_SECTORS, sectors)
-    return Run("the superblock of an ext4", ["--image", path], script, text)
+    return read_case("the superblock of an ext4", ["--image", path], SUPERBLOCK_SECTOR, SUPERBLOCK_SECTORS, sectors)
 
 
-def faults_of(program, run):
-    """What one run did in another way than wanted."""
-    ended = subprocess.run([program, "sim", *run.words], input=run.script, stdout=subprocess.PIPE, stderr=subprocess.PIPE,
-                           timeout=120, check=False)
-    faults = []
-    if ended.stdout != run.stdout:
-        faults.append(f"{run.name}: standard output is {ended.stdout[:200]} and not {run.stdout[:200]}")
-    if (ended.stderr, ended.returncode) != (run.stderr, run.status):
-        faults.append(f"{run.name}: {ended.stderr[:80]} with status {ended.returncode}")
-    return faults
-
-
-def contents(folder):
+def files_of(folder):
     """The bytes of each file of a folder that can be read."""
     found = {}
     for name in os.listdir(folder):
@@ -125,16 +114,13 @@ def contents(folder):
     return found
 
 
-def images(program, folder):
-    """The faults of each run over an image file in a new folder, by the run's name; and what was skipped, a text for each."""
-    wanted = list(runs(folder))
+def images(folder):
+    """Makes the files in this folder: the cases over them, and what is skipped, a text for each."""
+    cases = [*small_files(folder), *no_files(folder)]
     skipped = ["a file that may not be read: root may read every file"] if os.geteuid() == 0 else []
     lacking = [tool for tool in ("truncate", "mkfs.ext4", "xxd") if shutil.which(tool) is None]
     if lacking:
         skipped.append(f"the superblock of an ext4: no {', '.join(lacking)} here")
     else:
-        wanted.append(ext4_run(folder))
-    before = contents(folder)
-    results = {run.name: faults_of(program, run) for run in wanted}
-    results["image files are not written"] = [] if contents(folder) == before else ["a file has changed"]
-    return results, skipped
+        cases.append(ext4(folder))
+    return cases, skipped

@@ -12,6 +12,12 @@ fn busy_image_gives_the_request_back(rt: HostRuntime) -> Result<(), Fail> {
 }
 
 #[test]
+fn busy_image_after_a_good_read(rt: HostRuntime) -> Result<(), Fail> {
+    let image = FailingImage::new(ZeroImage::new(1024), 2, ImageFault::Busy);
+    expect_row_over(&rt, ConfigDraft::default(), image, SECOND_READ_IS_BUSY)
+}
+
+#[test]
 fn failed_read_fails_its_bios_alone(rt: HostRuntime) -> Result<(), Fail> {
     let image = FailingImage::new(ZeroImage::new(1024), 2, ImageFault::Device);
     expect_row_over(&rt, ConfigDraft::default(), image, SECOND_READ_FAILS)
@@ -46,6 +52,22 @@ dispatch -> issued 0 5 fetch 0 1
 work 0 3 -> refused 20
 work 0 5 -> finished 1
 reap 0 1 -> completed 2 read 00
+";
+
+// The second read is given back whole and then done; the one before keeps what it read.
+const SECOND_READ_IS_BUSY: &str = "\
+attach 0 0 4 -> attached 1
+read 0 1 0 1 -> queued 2
+dispatch -> issued 0 3 fetch 0 1
+work 0 3 -> finished 1
+read 0 1 8 2 -> queued 5
+dispatch -> issued 0 6 fetch 8 2
+work 0 6 -> requeued
+work 0 6 -> refused 20
+reap 0 1 -> completed 2 read 00
+dispatch -> issued 0 9 fetch 8 2
+work 0 9 -> finished 1
+reap 0 1 -> completed 5 read 00 00
 ";
 
 // The read that fails fails its own bio; the one before and the one after are read.
