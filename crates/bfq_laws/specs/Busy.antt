@@ -15,7 +15,7 @@ BusyAreNotIdle m =
     (seat : ℕ) → seat < 16 → is_some (m.seat seat) ≡ true
     → not (is_idle (member_of m.bfq seat).state) ≡ (is_bfq m.scheduler && not (is_empty (m.queue seat)))
 
--- and the queue in service, if one is, is one that is not empty, under bfq
+-- and a queue is in service under bfq alone, and is not empty (bfq: a queue that has become empty expires)
 abbrev pub ServedIsBusy : Plain → Type 0
 ServedIsBusy m = (slot : InService) → m.bfq.slot ≡ Some slot → (is_bfq m.scheduler ≡ true) × (is_empty (m.queue slot.seat) ≡ false)
 

@@ -336,7 +336,7 @@ fn swap_at<T>(table: &mut Vec<T>, at: u8, value: &mut T)
     }
 }
 
-// The same for what a group's tree knows of an entity.
+// Puts a member, or none, at an entity's place in a group's tree, and what stood there into its stead.
 fn exchange_member(
     trees: &mut Vec<ServiceTree>,
     group: u8,
@@ -351,7 +351,7 @@ fn exchange_member(
     }
 }
 
-// The same for a group's virtual time.
+// Puts a virtual time at a group, and the one that stood there into its stead.
 fn exchange_vtime(trees: &mut Vec<ServiceTree>, group: u8, vtime: &mut u64)
     ensures trees { trees.new.items ≡ slice_set trees.old.items group (with_vtime (tree_of trees.old.items group) vtime.old) }
     ensures left { vtime.new ≡ (slice_index_or trees.old.items group (with_vtime (tree_of trees.old.items group) vtime.old)).vtime }
