@@ -51,8 +51,8 @@ class Kind:
 
     name: str
     cycle: Callable
-    # A call that must once be without memory: it is refused, or the run ends at it.
-    wants: str
+    # One of these must be met: that a call is refused for want of memory, or that the run ends at it.
+    wants: set
 
     def calls(self):
         """All calls, each with its answer where there is ample memory."""
@@ -60,7 +60,10 @@ class Kind:
         return [("attach 0 0 4", "attached 1"), *(call for cycle in cycles for call in cycle)]
 
 
-KINDS = [Kind("stores", storing, "write"), Kind("device work", working, "work")]
+KINDS = [
+    Kind("stores", storing, {"write refused", "finish refused"}),
+    Kind("device work", working, {"work refused", "work ended"}),
+]
 
 
 def limited(program, script, limit):
@@ -91,14 +94,14 @@ def faults_of_run(answers, stdout, stderr, status):
     return faults[:3]
 
 
-def words_without(lines, texts, status):
-    """The words of the lines that found no memory: those that were refused for it, and the one at which the run ended."""
-    found = {line.split()[0] for line, text in zip(lines, texts) if text == "refused 34"}
-    return found | {line.split()[0] for line in lines[len(texts):][:1] if status == 5}
+def without_memory(lines, texts, status):
+    """How the calls of a run found no memory: those that were refused for it, and the one at which the run ended."""
+    refused = {f"{line.split()[0]} refused" for line, text in zip(lines, texts) if text == "refused 34"}
+    return refused | {f"{line.split()[0]} ended" for line in lines[len(texts):][:1] if status == 5}
 
 
 def no_memory(program, kind):
-    """Tries the limits in turn: what went wrong. No memory for the host, and one of the calls without, must each be met."""
+    """Tries the limits in turn: what went wrong. No memory for the host, and one of what the kind wants, must be met."""
     lines = [text for line, _ in kind.calls() for text in (line, "line")]
     script = "".join(f"{line}\n" for line in lines).encode()
     answers = [answer for _, answer in kind.calls()]
@@ -117,9 +120,9 @@ def no_memory(program, kind):
         if faults:
             return [f"with {limit} bytes: {'; '.join(faults)}"]
         at_start = at_start or (status == 5 and not stdout)
-        without |= words_without(lines, stdout.splitlines(), status) if stdout else set()
+        without |= without_memory(lines, stdout.splitlines(), status) if stdout else set()
         if status == 0 and "refused 34" not in stdout:
             break
-    missing = [what for what, met in [("no memory for the host", at_start), (f"a {kind.wants} without memory", kind.wants in without)]
-               if not met]
-    return [f"never met: {', '.join(missing)}"] if missing else []
+    if not at_start:
+        return ["never met: no memory for the host"]
+    return [] if without & kind.wants else [f"never met: {' or '.join(sorted(kind.wants))}"]
