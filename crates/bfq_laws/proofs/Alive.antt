@@ -10,7 +10,7 @@ use Rattle.change_record.specs.Machine.{Bfq, put}
 use Rattle.bfq_select.specs.Rules.{top, group_of, member_of, put_vtime, is_idle, along, stamp, start_from, activate_path, activate, risen, charge_one, served_more, charge}
 use Rattle.bfq_laws.proofs.Puts.{put_here, put_other, some_is, and_then_is}
 use Rattle.bfq_laws.proofs.Quiet.{unrefused}
-use Rattle.bfq_laws.proofs.Shape.{In, Levels, Stands, parent-stands, stands-low, climbing, At, parent-at, stamp-at, vtime-at}
+use Rattle.bfq_laws.proofs.Shape.{In, Levels, Stands, parent-stands, stands-low, climbing, At, state, parent-at, stamp-at, vtime-at}
 
 -- some member of a group is active
 abbrev pub Has : (ℕ → Option ℕ) → (ℕ → State) → ℕ → Type 0
@@ -30,7 +30,7 @@ DownBut above st x = (g : ℕ) → st (16 + g) ≡ Active → g ≢ 0 → g ≢ 
 abbrev pub Down : (ℕ → Option ℕ) → (ℕ → State) → Type 0
 Down above st = DownBut above st 0
 
--- who is served is on the path of the queue in service, and so nobody is where no queue is
+-- who is served is on the path of the queue in service, and so nobody is where no queue is; and who is on it is served
 pub record Alive (b : Bfq) : Type 0 where
   pub above : ℕ → Option ℕ
   pub st : ℕ → State
@@ -39,6 +39,7 @@ pub record Alive (b : Bfq) : Type 0 where
   pub up : Up above st
   pub down : Down above st
   pub serving : (e : ℕ) → st e ≡ Serving → (slot : InService) × (b.slot ≡ Some slot) × In e (path above slot.seat)
+  pub served : (slot : InService) → b.slot ≡ Some slot → (e : ℕ) → In e (path above slot.seat) → st e ≡ Serving
 
 pub not_idle : (s : State) → is_idle s ≡ false → s ≢ Idle
 not_idle Idle e = cc
@@ -72,6 +73,7 @@ pub record Risen (above : ℕ → Option ℕ) (st : ℕ → State) (c : Bfq) : T
   pub up : Up above now
   pub down : Down above now
   pub serving : (e : ℕ) → now e ≡ Serving → st e ≡ Serving
+  pub still : (e : ℕ) → st e ≡ Serving → now e ≡ Serving
 
 -- the first entity of a way becomes active where it is idle
 abbrev Activates : (above : ℕ → Option ℕ) → ℕ → List ℕ → Type 0
@@ -107,6 +109,9 @@ rises-at above levels k g ways parent more st b c at up down has e =
             up = last.up;
             down = last.down;
             serving = λ i s. (put-was st k i Active Serving (λ x. cc) (last.serving i s)).1;
+            still = λ i s.
+                let other : i ≢ k = λ same. let no : is_idle (state b k) ≡ false = ap is_idle (at.are k ∙ ap st (sym same) ∙ s) in cc in
+                last.still i (put_other st k Active i other ∙ s);
           }
       | false ↦ λ awake f.
           let awake_k : is_idle (st k) ≡ false = ap is_idle (sym (at.are k)) ∙ awake in
@@ -119,6 +124,7 @@ rises-at above levels k g ways parent more st b c at up down has e =
             ];
             down = down;
             serving = λ i s. s;
+            still = λ i s. s;
           }
     ] refl e
 
@@ -127,7 +133,7 @@ add16 j g e = omega (arith, e)
 
 activates : (above : ℕ → Option ℕ) (levels : Levels above) (n g : ℕ) → levels.level g ≤ n → Stands above g → Activates above g (climb n above (Some g))
 activates above levels n g = climbing above levels (Activates above)
-    (λ st b c at up down has e. record { now = st; at = subst (At above st) (some_is b c e) at; up = up; down = down; serving = λ i s. s })
+    (λ st b c at up down has e. record { now = st; at = subst (At above st) (some_is b c e) at; up = up; down = down; serving = λ i s. s; still = λ i s. s })
     (λ g h ways ne lt parent more st b c at up down has.
     rises-at above levels (16 + g) h ways parent more st b c at
     (λ i j above_i awake nz other. up i j above_i awake nz (λ same. other (ap (λ x. 16 + x) same))) down
@@ -155,6 +161,7 @@ activate-alive k b c lt g parent slots e h =
       up = r.up;
       down = r.down;
       serving = λ i s. let old = h.serving i (r.serving i s) in (old.0, slots ∙ old.1, old.2);
+      served = λ slot is i on. r.still i (h.served slot (sym slots ∙ is) i on);
     }
 
 -- Charge: times alone

@@ -15,7 +15,7 @@ use Rattle.bfq_laws.proofs.Quiet.{jumped-quiet}
 use Rattle.bfq_laws.proofs.Tree.{placed, idle}
 use Rattle.bfq_laws.proofs.Busy.{no_slot}
 use Rattle.bfq_laws.proofs.Picks.{picked-is, jumped-picks}
-use Rattle.bfq_laws.proofs.Shape.{In, Levels, Stands, parent-stands, stands-low, climbing, climb-more, climb-under, At, group-at, state-at, member-at, move-at, vtime-at}
+use Rattle.bfq_laws.proofs.Shape.{In, Levels, Stands, parent-stands, stands-low, climbing, climb-more, climb-under, climb-back, climb-none, climb-whole, At, group-at, state-at, member-at, move-at, vtime-at}
 use Rattle.bfq_laws.proofs.Alive.{Has, Up, Down, Alive, not_idle, awake-active, has-kept, put-was}
 
 -- what selecting leaves where a queue is in service then
@@ -25,6 +25,7 @@ pub record Done (above : ℕ → Option ℕ) (c : Bfq) (slot : InService) : Type
   pub up : Up above now
   pub down : Down above now
   pub serving : (e : ℕ) → now e ≡ Serving → In e (path above slot.seat)
+  pub served : (e : ℕ) → In e (path above slot.seat) → now e ≡ Serving
 
 -- and one is where this holds
 pub record Chosen (above : ℕ → Option ℕ) (H : Type 0) (c : Bfq) : Type 0 where
@@ -64,14 +65,19 @@ serves-down above st k g parent served down j act nz _ =
 -- an entity that was picked is served: a session's queue is in service now, and from a group the way goes on
 taken-chosen : (above : ℕ → Option ℕ) (levels : Levels above) (choose : ℕ → Bfq → Bfq) (n g : ℕ) (st : ℕ → State) (b : Bfq) (e : ℕ)
     → ((h : ℕ) (now : ℕ → State) (d : Bfq) → levels.level h ≡ suc n → Stands above h → At above now d → Up above now → Down above now → (h ≢ 0 → now (16 + h) ≡ Serving)
-    → d.slot ≡ None → ((x : ℕ) → now x ≡ Serving → In x (climb (suc n) above (Some h))) → Chosen above (Has above now h) (choose h d))
+    → d.slot ≡ None → ((x : ℕ) → now x ≡ Serving → In x (climb (suc n) above (Some h))) → ((x : ℕ) → In x (climb (suc n) above (Some h)) → now x ≡ Serving)
+    → Chosen above (Has above now h) (choose h d))
     → levels.level g ≡ n → n ≤ 4 → At above st b → Up above st → Down above st → (g ≢ 0 → st (16 + g) ≡ Serving) → b.slot ≡ None
-    → ((x : ℕ) → st x ≡ Serving → In x (climb n above (Some g))) → picked b g ≡ Some e → (H : Type 0) → Chosen above H (taken choose g b e)
-taken-chosen above levels choose n g st b e more deep few at up down served none serving is H =
+    → ((x : ℕ) → st x ≡ Serving → In x (climb n above (Some g))) → ((x : ℕ) → In x (climb n above (Some g)) → st x ≡ Serving) → picked b g ≡ Some e
+    → (H : Type 0) → Chosen above H (taken choose g b e)
+taken-chosen above levels choose n g st b e more deep few at up down served none serving way is H =
     let m = picked-is b g e is in
     let parent : above e ≡ Some g = at.places.known g e (ap is_some m.1) in
     let act : st e ≡ Active = state-at above st b g e m.0 at m.1 ∙ m.2 in
     let now : ℕ → State = put st e Serving in
+    let stays : (x : ℕ) → In x (climb n above (Some g)) → now x ≡ Serving = λ x i.
+    let other : x ≢ e = λ same. let bad : Serving ≡ Active = sym (way x i) ∙ ap st same ∙ act in cc in
+    put_other st e Serving x other ∙ way x i in
     let d : Bfq = in_service g e b in
     let at_d : At above now d = move-at above levels st b e g _ at parent in
     let up_d : Up above now = serves-up above st e act up in
@@ -86,7 +92,20 @@ taken-chosen above levels choose n g st b e more deep few at up down served none
                 let far : In x (climb 4 above (Some g)) = climb-more above n 4 (Some g) x few (serving x (sym (put_other st e Serving x other) ∙ s)) in
                 inr (subst (λ o. In x (climb 4 above o)) (sym parent) far)
           ] in
-          let done : Done above begun slot = record { now = now; at = record { parents = at_d.parents; places = at_d.places; are = at_d.are }; up = up_d; down = down_d; serving = on } in
+          let all : (x : ℕ) → In x (path above e) → now x ≡ Serving = λ x i. elim i [
+            | inl same ↦ put_here st e Serving x same
+            | inr later ↦
+                let far : In x (climb 4 above (Some g)) = subst (λ o. In x (climb 4 above o)) parent later in
+                stays x (climb-whole above levels n 4 g x (omega (arith, deep)) (parent-stands above levels e g parent) far)
+          ] in
+          let done : Done above begun slot = record {
+            now = now;
+            at = record { parents = at_d.parents; places = at_d.places; are = at_d.are };
+            up = up_d;
+            down = down_d;
+            serving = on;
+            served = all;
+          } in
           record { done = λ s here. subst (Done above begun) (some_is slot s here) done; found = λ _. refl }
       | false ↦ λ no.
           let high : 16 ≤ e = ltb-false e 16 no in
@@ -105,16 +124,21 @@ taken-chosen above levels choose n g st b e more deep few at up down served none
           (λ x s. elim (cases_eq x e) [
             | inl same ↦ climb-under above n h g x low nz parent_h (inl (same ∙ sym one))
             | inr other ↦ climb-under above n h g x low nz parent_h (inr (serving x (sym (put_other st e Serving x other) ∙ s)))
+          ])
+          (λ x i. elim (climb-back above n h g x low nz parent_h i) [
+            | inl same ↦ put_here st e Serving x (same ∙ one)
+            | inr later ↦ stays x later
           ]) in
           record { done = rest.done; found = λ _. rest.found has }
     ] refl
 
 chooses : (above : ℕ → Option ℕ) (levels : Levels above) (fuel n g : ℕ) (st : ℕ → State) (b : Bfq) → n + fuel ≡ 5 → levels.level g ≡ n → Stands above g → At above st b → Up above st → Down above st
-    → (g ≢ 0 → st (16 + g) ≡ Serving) → b.slot ≡ None → ((x : ℕ) → st x ≡ Serving → In x (climb n above (Some g))) → Chosen above (Has above st g) (select_from fuel g b)
+    → (g ≢ 0 → st (16 + g) ≡ Serving) → b.slot ≡ None → ((x : ℕ) → st x ≡ Serving → In x (climb n above (Some g))) → ((x : ℕ) → In x (climb n above (Some g)) → st x ≡ Serving)
+    → Chosen above (Has above st g) (select_from fuel g b)
 unfolding select_from
-chooses above levels zero n g st b sum deep stands at up down served none serving =
+chooses above levels zero n g st b sum deep stands at up down served none serving way =
     let few : levels.level g ≤ 4 = stands-low above levels g stands in absurd (omega (arith, sum, deep, few))
-chooses above levels (suc fuel) n g st b sum deep stands at up down served none serving =
+chooses above levels (suc fuel) n g st b sum deep stands at up down served none serving way =
     let c : Bfq = jumped g b in
     let H : Type 0 = Has above st g in
     let choose : ℕ → Bfq → Bfq = λ h d. select_from fuel h d in
@@ -131,21 +155,31 @@ chooses above levels (suc fuel) n g st b sum deep stands at up down served none 
       }
       | Some e ↦ λ is.
           taken-chosen above levels choose n g st c e
-          (λ h now d deeper stands_h at_d up_d down_d served_d none_d serving_d. chooses above levels fuel (suc n) h now d next deeper stands_h at_d up_d down_d served_d none_d serving_d)
-          deep few at_c up down served none_c serving is H
+          (λ h now d deeper stands_h at_d up_d down_d served_d none_d serving_d way_d.
+          chooses above levels fuel (suc n) h now d next deeper stands_h at_d up_d down_d served_d none_d serving_d way_d)
+          deep few at_c up down served none_c serving way is H
     ] refl
 
 -- where no queue is in service
 selects : (b : Bfq) (h : Alive b) → b.slot ≡ None → Chosen h.above (Has h.above h.st 0) (select b)
 selects b h none =
     chooses h.above h.levels 5 0 0 h.st b refl h.levels.root (omega arith, λ ne. absurd (ne refl)) h.at h.up h.down (λ ne. absurd (ne refl)) none
-    (λ x s. let on = h.serving x s in let bad : Some on.0 ≡ None = sym on.1 ∙ none in cc)
+    (λ x s. let on = h.serving x s in let bad : Some on.0 ≡ None = sym on.1 ∙ none in cc) (λ x i. absurd (climb-none h.above (Some 0) x i))
 
 pub with_slot-alive : (b : Bfq) → Alive b → (slot : InService) → (with_slot b).slot ≡ Some slot → Alive (with_slot b)
 with_slot-alive b h slot = elim (is_none b.slot) as (λ t. is_none b.slot ≡ t → (cond t (select b) b).slot ≡ Some slot → Alive (cond t (select b) b)) [
   | true ↦ λ none is.
       let d : Done h.above (select b) slot = (selects b h (no_slot b.slot none)).done slot is in
-      record { above = h.above; st = d.now; levels = h.levels; at = d.at; up = d.up; down = d.down; serving = λ e s. (slot, is, d.serving e s) }
+      record {
+        above = h.above;
+        st = d.now;
+        levels = h.levels;
+        at = d.at;
+        up = d.up;
+        down = d.down;
+        serving = λ e s. (slot, is, d.serving e s);
+        served = λ other its e on. d.served e (subst (λ (z : InService). In e (path h.above z.seat)) (some_is other slot (sym its ∙ is)) on);
+      }
   | false ↦ λ _ _. h
 ] refl
 

@@ -10,6 +10,7 @@ use Rattle.change_record.specs.Machine.{Bfq, put}
 use Rattle.bfq_select.specs.declared.expiry.Expiry.{Expiry}
 use Rattle.bfq_select.specs.Rules.{top, group_of, is_idle, along, stamp, ended, is_backlogged, rested, expire_one, out_of_service, expire}
 use Rattle.bfq_laws.proofs.Puts.{put_here, put_other, some_is, and_then_is}
+use Rattle.bfq_laws.proofs.Quiet.{expire-slot}
 use Rattle.bfq_laws.proofs.Tree.{placed, idle}
 use Rattle.bfq_laws.proofs.Picks.{start-of-active, active-of-start}
 use Rattle.bfq_laws.proofs.Shape.{In, Levels, Stands, parent-stands, stands-low, climbing, At, group-at, state-at, member-at, own-at, stamp-at}
@@ -185,4 +186,5 @@ expire-alive cause most queued b c awake e h =
       up = f.up;
       down = f.down;
       serving = λ i is. absurd (f.nobody i is);
+      served = λ other is i on. let none : Some other ≡ None = sym is ∙ (expire-slot cause most queued b c e).3 in cc;
     }

@@ -21,3 +21,4 @@ pub mod Found
 pub mod Within
 pub mod Weighing
 pub mod Summing
+pub mod Serving

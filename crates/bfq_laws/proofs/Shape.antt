@@ -94,6 +94,49 @@ climb-under above n g h x lt ne up i =
     let same : climb (suc n) above (Some g) ≡ entity_of g ∷ climb n above (Some h) = now ∙ ap (λ o. entity_of g ∷ climb n above o) up in
     subst (In x) (sym same) i
 
+-- and the other way round
+pub climb-back : (above : ℕ → Option ℕ) (n g h : ℕ) (x : ℕ) → g < 32 → g ≢ 0 → above (16 + g) ≡ Some h → In x (climb (suc n) above (Some g)) → (x ≡ 16 + g) ⊎ In x (climb n above (Some h))
+unfolding climb
+climb-back above n g h x lt ne up i =
+    let has : has_entity g ≡ true = has-entity g lt ne in
+    let now : climb (suc n) above (Some g) ≡ entity_of g ∷ climb n above (above (entity_of g)) = cond-true (has_entity g) (entity_of g ∷ climb n above (above (entity_of g))) [] has in
+    let same : climb (suc n) above (Some g) ≡ entity_of g ∷ climb n above (Some h) = now ∙ ap (λ o. entity_of g ∷ climb n above o) up in
+    subst (In x) same i
+
+-- no level is no way
+pub climb-none : (above : ℕ → Option ℕ) (o : Option ℕ) (x : ℕ) → In x (climb 0 above o) → ⊥
+unfolding climb
+climb-none above o x i = absurd i
+
+-- nor is there one from the root
+climb-root : (above : ℕ → Option ℕ) (m x : ℕ) → In x (climb m above (Some 0)) → ⊥
+unfolding climb
+climb-root above zero x i = absurd i
+climb-root above (suc m) x i = absurd i
+
+-- and who is on it is the group's entity, or on its parent's way
+whole-way : (above : ℕ → Option ℕ) (g h : ℕ) (ways : List ℕ) (x : ℕ) → g < 32 → g ≢ 0 → above (16 + g) ≡ Some h
+    → ((m : ℕ) → In x (climb m above (Some h)) → In x ways) → (m : ℕ) → In x (climb m above (Some g)) → In x ((16 + g) ∷ ways)
+whole-way above g h ways x lt ne parent more zero i = absurd (climb-none above (Some g) x i)
+whole-way above g h ways x lt ne parent more (suc m) i = elim (climb-back above m g h x lt ne parent i) [ inl same ↦ inl same | inr later ↦ inr (more m later) ]
+
+-- the way up of as many levels as a group is deep has all of it
+pub climb-whole : (above : ℕ → Option ℕ) (levels : Levels above) (n m g x : ℕ) → levels.level g ≤ n → Stands above g → In x (climb m above (Some g)) → In x (climb n above (Some g))
+climb-whole above levels n m g x le stands i =
+    climbing above levels (λ g ways. (m : ℕ) → In x (climb m above (Some g)) → In x ways) (λ m i. absurd (climb-root above m x i))
+    (λ g h ways ne lt parent more. whole-way above g h ways x lt ne parent more) n g le stands m i
+
+-- who is on a way up is a group's entity, which some entity is in
+pub climb-has : (above : ℕ → Option ℕ) (n k : ℕ) (o : Option ℕ) (x : ℕ) → above k ≡ o → In x (climb n above o) → (e j : ℕ) × (above e ≡ Some j) × (16 + j ≡ x)
+unfolding climb
+climb-has above zero k o x up i = absurd i
+climb-has above (suc n) k None x up i = absurd i
+climb-has above (suc n) k (Some g) x up i =
+    elim (has_entity g) as (λ t. In x (cond t (entity_of g ∷ climb n above (above (entity_of g))) []) → (e j : ℕ) × (above e ≡ Some j) × (16 + j ≡ x)) [
+      | true ↦ λ i. elim i [ inl same ↦ (k, g, up, sym same) | inr later ↦ climb-has above n (entity_of g) (above (entity_of g)) x refl later ]
+      | false ↦ λ i. absurd i
+    ] i
+
 -- the places of the entities in the trees of groups: who is in a tree is in that group, and who is in a group is in its tree
 pub record Places (above : ℕ → Option ℕ) (service : ℕ → Service) : Type 0 where
   pub known : (g e : ℕ) → is_some (placed service g e) ≡ true → above e ≡ Some g

@@ -58,6 +58,7 @@ alive-same b c p s o h = record {
   up = h.up;
   down = h.down;
   serving = λ e is. let on = h.serving e is in (on.0, o ∙ on.1, on.2);
+  served = λ slot is. h.served slot (sym o ∙ is);
 }
 
 -- Attach: a free seat is in no group, and not in service.
@@ -115,6 +116,9 @@ charge-alive size b c e h =
           let on = h.serving i s in
           let one : on.0.seat ≡ x.0.seat = ap (λ (z : InService). z.seat) (some_is on.0 x.0 (sym on.1 ∙ x.1)) in
           (now, x.3, subst (λ k. In i (path h.above k)) one on.2);
+      served = λ slot is i on.
+          let one : slot.seat ≡ x.0.seat = ap (λ (z : InService). z.seat) (some_is slot now (sym is ∙ x.3)) in
+          h.served x.0 x.1 i (subst (λ k. In i (path h.above k)) one on);
     }
 
 sent_by_bfq-alive : (l : Limits) (m : Plain) (n tag : ℕ) (o : Plain × Reply) → sent_by_bfq l m n tag ≡ Some o → Tidy m → Alive m.bfq → Alive o.0.bfq
@@ -175,6 +179,7 @@ opening-alive l = record {
   up = λ e g is awake nz _. cc;
   down = λ g act nz _. cc;
   serving = λ e s. cc;
+  served = λ slot is e on. cc;
 }
 
 -- Tick
@@ -191,6 +196,9 @@ ticked-alive b slot is h =
           let on = h.serving e s in
           let one : on.0.seat ≡ slot.seat = ap (λ (z : InService). z.seat) (some_is on.0 slot (sym on.1 ∙ is)) in
           (older slot, refl, subst (λ k. In e (path h.above k)) one on.2);
+      served = λ now its e on.
+          let one : now.seat ≡ slot.seat = ap (λ (z : InService). z.seat) (some_is now (older slot) (sym its)) in
+          h.served slot is e (subst (λ k. In e (path h.above k)) one on);
     }
 
 -- Switch: times and budgets alone
@@ -223,6 +231,7 @@ begun-alive l scheduler b h =
       up = h.up;
       down = h.down;
       serving = λ e s. let on = h.serving e s in (on.0, last.1 ∙ on.1, on.2);
+      served = λ slot is. h.served slot (sym last.1 ∙ is);
     }
 
 -- what is known of a machine

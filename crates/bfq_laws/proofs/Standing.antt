@@ -15,7 +15,7 @@ use Rattle.bfq_laws.proofs.Puts.{put_here, put_other, put_cases, some_is, find-w
 use Rattle.bfq_laws.proofs.Tree.{placed, placed-here, placed-elsewhere, placed-other, length-member}
 use Rattle.bfq_laws.proofs.Busy.{stood}
 use Rattle.bfq_laws.proofs.Walk.{made}
-use Rattle.bfq_laws.proofs.Shape.{In, Levels, Stands, stands-low, has-entity, climbing, At, state, parent-at, group-at, member-at, vtime-at}
+use Rattle.bfq_laws.proofs.Shape.{In, Levels, Stands, stands-low, has-entity, climbing, climb-has, At, state, parent-at, group-at, member-at, vtime-at}
 use Rattle.bfq_laws.proofs.Upcoming.{some_of, passes-of, was-false}
 use Rattle.bfq_laws.proofs.Alive.{Alive, put-was}
 
@@ -112,6 +112,9 @@ enters-alive l b h k g weight small low nowhere levels apart away =
           let on = h.serving e s in
           let same : path after on.0.seat ≡ path h.above on.0.seat = path-same h.above after agree on.0.seat (put_other h.above k (Some g) on.0.seat (away on.0 on.1)) in
           (on.0, on.1, subst (In e) (sym same) on.2);
+      served = λ slot is e on.
+          let same : path after slot.seat ≡ path h.above slot.seat = path-same h.above after agree slot.seat (put_other h.above k (Some g) slot.seat (away slot is)) in
+          h.served slot is e (subst (In e) same on);
     }
 
 -- a group that stands has an entity, but the root
@@ -239,6 +242,7 @@ made-alive l b q p weight stand shallow free low_slot h =
       up = in_it.up;
       down = in_it.down;
       serving = in_it.serving;
+      served = in_it.served;
     }
 
 nobody-idle : (o : Option Member) → (is_some o ≡ true → ⊥) → (unwrap_or o absent).state ≡ Idle
@@ -315,6 +319,14 @@ gone-alive b h k up above_k unused rests away =
           let on = h.serving e was.1 in
           let same : path after on.0.seat ≡ path above on.0.seat = path-same above after agree on.0.seat (put_other above k None on.0.seat (away on.0 on.1)) in
           (on.0, on.1, subst (In e) (sym same) on.2);
+      served = λ slot is e on.
+          let same : path after slot.seat ≡ path above slot.seat = path-same above after agree slot.seat (put_other above k None slot.seat (away slot is)) in
+          let way : In e (path above slot.seat) = subst (In e) same on in
+          let other : e ≢ k = λ its. elim way [
+            | inl one ↦ away slot is (sym one ∙ its)
+            | inr later ↦ let has = climb-has above most_levels slot.seat (above slot.seat) e refl later in unused has.0 has.1 has.2 (has.3 ∙ its)
+          ] in
+          put_other st k Idle e other ∙ h.served slot is e way;
     }
 
 -- a group in which nobody is goes

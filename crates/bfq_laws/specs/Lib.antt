@@ -5,3 +5,5 @@ pub mod Weights
 pub mod Sums
 pub mod Members
 pub mod Queues
+pub mod Served
+pub mod Seats

@@ -6,6 +6,8 @@ ghost use Rattle.bfq_laws.specs.Weights.{WeightsArePositive};
 ghost use Rattle.bfq_laws.specs.Sums.{SumsArePositive};
 ghost use Rattle.bfq_laws.specs.Members.{EntitiesAreMembers};
 ghost use Rattle.bfq_laws.specs.Queues.{QueuesAreOfTheirSessions};
+ghost use Rattle.bfq_laws.specs.Served.{ThePathIsServed};
+ghost use Rattle.bfq_laws.specs.Seats.{TakenSeatsAreInGroups};
 ghost use Rattle.plain_machine.specs.Step.{Limits};
 ghost use Rattle.plain_machine.specs.declared.call.Call.{Call};
 ghost use Rattle.std.specs.Prelude.{ℕ, List};
@@ -71,6 +73,22 @@ pub fn entities_are_members()
 /// there. The contract is the law.
 pub fn queues_are_of_their_sessions()
     ensures { (l : Limits) (most : ℕ) (journal : List Call) → QueuesAreOfTheirSessions l most journal }
+{
+    requests_stay_whole();
+}
+
+/// On the machine of every keeper that a journal makes, an entity is in service exactly where it is on the path of the queue
+/// in service: the entity of its session, or that of a group above it. The contract is the law.
+pub fn serving_is_the_path()
+    ensures { (l : Limits) (most : ℕ) (journal : List Call) → ThePathIsServed l most journal }
+{
+    requests_stay_whole();
+}
+
+/// On the machine of every keeper that a journal makes, the entity of a seat is in a group exactly where a session sits
+/// there. The contract is the law.
+pub fn seats_are_in_groups()
+    ensures { (l : Limits) (most : ℕ) (journal : List Call) → TakenSeatsAreInGroups l most journal }
 {
     requests_stay_whole();
 }

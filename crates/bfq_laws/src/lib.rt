@@ -3,7 +3,7 @@
 //!
 //! `specs/` has what the laws say: `Budgets` has budgets, and the service that is within them; `Busy` who waits or is served;
 //! `Found` what a dispatch finds; `Weights` has weights, and `Sums` their sums; `Members` which entities a group's tree has;
-//! `Queues` whose requests a queue has.
+//! `Queues` whose requests a queue has; `Served` who is in service; `Seats` which seats' entities are in a group.
 //!
 //! | call | rule that it meets |
 //! |---|---|
@@ -15,11 +15,13 @@
 //! | [`sums_are_positive`] | in each group on the path of the queue in service the sum of weights is not 0 |
 //! | [`entities_are_members`] | a group's tree has just the entities that are in the group |
 //! | [`queues_are_of_their_sessions`] | each request in a seat's queue is of the session that sits there |
+//! | [`serving_is_the_path`] | an entity is in service exactly where it is on the path of the queue in service |
+//! | [`seats_are_in_groups`] | a seat's entity is in a group exactly where a session sits there |
 
 mod laws;
 
 pub use laws::{
     budgets_are_enough, busy_sessions_wait_or_are_served, dispatch_finds_a_request,
-    entities_are_members, queues_are_of_their_sessions, service_is_within_budget,
-    sums_are_positive, weights_are_positive,
+    entities_are_members, queues_are_of_their_sessions, seats_are_in_groups,
+    service_is_within_budget, serving_is_the_path, sums_are_positive, weights_are_positive,
 };

@@ -21,3 +21,7 @@ IsRefused draft sectors = IsSome (fault_of draft) ⊎ (65536 < sectors)
 abbrev pub IsSimStatus : ConfigDraft → ℕ → Bool → ℕ → Type 0
 IsSimStatus draft sectors false status = status ≡ 6 ↔ IsRefused draft sectors
 IsSimStatus draft sectors true status = IsSome (fault_of draft) → status ≡ 6
+
+-- a status of a run: it is refused, or has come to an end
+abbrev pub IsStatus : ℕ → Type 0
+IsStatus status = (status ≡ 6) ⊎ ((end : ScriptEnd) × (status ≡ status_of end))

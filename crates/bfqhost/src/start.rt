@@ -1,7 +1,8 @@
 // From the words of the command line to the status.
 ghost use Rattle.std.specs.Prelude.{◌≡◌, ◌≤◌, ◌<◌, ◌^◌, ◌↔◌, IsSome, is_some};
 ghost use Rattle.sector_core.specs.Config.{fault_of};
-ghost use Rattle.bfqhost.specs.Status.{status_of, IsRefused, IsSimStatus};
+ghost use Rattle.script_run.specs.declared.ending.ScriptEnd.{ScriptEnd};
+ghost use Rattle.bfqhost.specs.Status.{status_of, IsRefused, IsSimStatus, IsStatus};
 
 use crate::script::run_script;
 use base_image::{FileImage, Image, ZeroImage};
@@ -85,7 +86,8 @@ fn sim(
     sectors: u64,
     image: Option<String>,
 ) -> u8
-    ensures { IsSimStatus draft sectors (is_some image) result }
+    ensures field { IsSimStatus draft sectors (is_some image) result }
+    ensures status { IsStatus result }
 {
     match (Config::check(draft), image) {
         (Err(fault), _) => bad_field(rt, fault),
@@ -102,7 +104,9 @@ fn over_file(
     rt: &(impl Files<File = File> + AllocGlobal + Input + Print + Eprint),
     config: Config,
     path: &str,
-) -> u8 {
+) -> u8
+    ensures { IsStatus result }
+{
     match File::open(rt, path).and_then(FileImage::from_file) {
         Ok(image) => simulate(rt, config, image),
         Err(error) if error.kind() == ErrorKind::OutOfMemory => no_memory(rt),
@@ -134,7 +138,8 @@ fn simulate<I: Image + Drop>(
     image: I,
 ) -> u8
     requires { (I.disk image).faults < 2 ^ 63 }
-    ensures { result ≤ NO_MEMORY }
+    ensures status { (end : ScriptEnd) × (result ≡ status_of end) }
+    ensures few { result ≤ NO_MEMORY }
 {
     let mut output = match BufWriter::with_capacity(rt.alloc(), OUTPUT_BYTES, io::writer(rt)) {
         Ok(output) => output,

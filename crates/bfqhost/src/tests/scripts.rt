@@ -54,6 +54,7 @@ fn rows_of_the_usual_host(rt: HostRuntime) -> Result<(), Fail> {
         STALE_FINISH_AFTER_UNDO,
         FAILED_READ_UNDONE_AND_REDONE,
         STORED_SECTORS_UNDONE_AND_REDONE,
+        OUTCOMES_THAT_DO_NOT_FIT,
     ] {
         expect_row(&rt, ConfigDraft::default(), 1024, row)?;
     }
@@ -170,6 +171,20 @@ dispatch -> issued 0 3 fetch 0 1
 finish 0 3 fill 0 -> refused 33
 finish 9 3 stored -> refused 19
 hold -> refused 33
+";
+
+const OUTCOMES_THAT_DO_NOT_FIT: &str = "\
+attach 0 0 4 -> attached 1
+write 0 1 5 1 65 -> queued 2
+dispatch -> issued 0 3 store 5 1
+finish 0 3 fault -> refused 21
+finish 0 3 short -> refused 21
+finish 0 3 fill 65 -> refused 21
+finish 0 3 stored -> finished 1
+read 0 1 5 1 -> queued 5
+dispatch -> issued 0 6 fetch 5 1
+finish 0 6 stored -> refused 21
+finish 0 6 fault -> finished 1
 ";
 
 const ONE_TAG: &str = "\
