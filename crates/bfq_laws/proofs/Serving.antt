@@ -1,6 +1,6 @@
 -- On the machine of every keeper an entity is in service exactly where it is on the path of the queue in service, and a seat's entity is in
 -- a group exactly where a session sits there.
-use Rattle.std.proofs.Common.{true, false, ◌≡◌, inl, inr, ℕ, zero, suc, ◌<◌, List, [], ◌∷◌, length, Contains, slice_index_or, Option, Some, None, is_some, refl, sym, ap, ◌∙◌, subst, arith}
+use Rattle.std.proofs.Common.{true, false, ◌≡◌, inl, inr, ℕ, zero, suc, ◌<◌, List, [], ◌∷◌, length, Contains, slice_index_or, Option, is_some, refl, sym, ap, ◌∙◌, subst, arith}
 use Rattle.group_tree.specs.Groups.{path}
 use Rattle.change_record.specs.Machine.{Bfq, Plain}
 use Rattle.plain_machine.specs.declared.call.Call.{Call}
@@ -12,6 +12,7 @@ use Rattle.bfq_laws.specs.Seats.{SeatsAreInGroups, TakenSeatsAreInGroups}
 use Rattle.bfq_laws.proofs.Tree.{Tree}
 use Rattle.bfq_laws.proofs.Shape.{In, parent-at}
 use Rattle.bfq_laws.proofs.Alive.{Alive}
+use Rattle.bfq_laws.proofs.Upcoming.{some_of}
 use Rattle.bfq_laws.proofs.Sound.{Sound, machine-sound}
 
 -- who is in a list stands at a place of it
@@ -39,10 +40,6 @@ path-served b h entity = (
 
 pub the-path-served : ((l : Limits) (m : Plain) → KeepsWhole l m) → (l : Limits) (most : ℕ) (journal : List Call) → ThePathIsServed l most journal
 the-path-served stay l most journal = path-served (machine_of (replay l most journal)).bfq (machine-sound stay l most journal).alive
-
-some_of : (o : Option ℕ) → is_some o ≡ true → (g : ℕ) × (o ≡ Some g)
-some_of None e = cc
-some_of (Some g) e = (g, refl)
 
 seats-in : (m : Plain) → Sound m → SeatsAreInGroups m
 seats-in m h seat lt =
