@@ -1,0 +1,105 @@
+#!/usr/bin/env python3
+"""Proves libraries side by side, if they are missing or older than what they are made of.
+
+    tests/build.py [CRATE..]
+
+Proved are those of the crates that are named and all that they stand on; with no name, all that the program stands on. The toolchain
+lets only one run at a time work over the same library. So each crate is proved in a copy of what it reads, and what was made is
+moved into the checkout. On standard error stand how long it may take, and each crate as it begins.
+"""
+
+import fcntl
+import shutil
+import subprocess
+import sys
+import tempfile
+from concurrent.futures import FIRST_COMPLETED, ThreadPoolExecutor, wait
+
+from checkout import CRATES, TOP, below, copy_for, crate_lines, lanes
+
+PROGRAM = "bfqhost"
+# What all crates took by docs/GATE.md, in minutes by the clock times processors.
+MINUTES_OF_ALL = 55
+
+
+def tell(text):
+    """Says what the build is at."""
+    print(f"bfqhost: {text}", file=sys.stderr, flush=True)
+
+
+def sources(name):
+    """The files that a crate is made of."""
+    return [it for part in ("src", "specs", "proofs") for it in (CRATES / name / part).rglob("*") if it.is_file()]
+
+
+def made(name):
+    """When the library of a crate was made, or 0."""
+    stamp = CRATES / name / "out" / "rlib" / "stamp"
+    return stamp.stat().st_mtime if stamp.exists() else 0
+
+
+def stale(names, lines):
+    """The libraries of these crates and below them that are missing, or older than their sources or than one below, lowest first."""
+    found = []
+    for name in dict.fromkeys(it for name in names for it in [*below(name, lines), name] if it != PROGRAM):
+        newest = max([it.stat().st_mtime for it in sources(name)] + [made(it) for it in below(name, lines)])
+        if not made(name) or made(name) < newest or any(it in found for it in below(name, lines)):
+            found.append(name)
+    return found
+
+
+def prove(name, lines, jobs):
+    """Proves a crate in a copy, and moves what was made into the checkout. Gives what was said if it is not proved."""
+    with tempfile.TemporaryDirectory(prefix="build-") as folder:
+        crate = copy_for(name, lines, folder)
+        ran = subprocess.run(["rt", "lib", "--jobs", str(jobs)], cwd=crate, stdin=subprocess.DEVNULL, stdout=subprocess.PIPE,
+                             stderr=subprocess.STDOUT, text=True, errors="replace", check=False)
+        if ran.returncode:
+            return f"{ran.stdout}bfqhost: {name} is not proved"
+        # The stamp comes last, so that a move that is interrupted leaves no library that counts.
+        stamp = (crate / "out" / "rlib" / "stamp").read_text()
+        (crate / "out" / "rlib" / "stamp").unlink()
+        shutil.rmtree(CRATES / name / "out", ignore_errors=True)
+        shutil.move(crate / "out", CRATES / name / "out")
+        (CRATES / name / "out" / "rlib" / "stamp").write_text(stamp)
+    return None
+
+
+def prove_all(left, lines):
+    """Proves crates, each once those below it are, and first those with the most work above them. Gives what was said if one is not proved."""
+    behind = {}
+    for name in reversed(left):
+        above = [behind[it] for it in behind if name in below(it, lines)]
+        behind[name] = sum(it.stat().st_size for it in sources(name)) + max(above, default=0)
+    number, count, running = len(left), lanes(), {}
+    with ThreadPoolExecutor(count) as pool:
+        while left or running:
+            ready = [it for it in left if not {*below(it, lines)} & {*left, *running.values()}]
+            for name in sorted(ready, key=lambda it: -behind[it])[:count - len(running)]:
+                tell(f"proving {name}; {number - len(left) - len(running)} of {number} are proved")
+                # The longest chain sets the time, so its crate gets all processors.
+                jobs = count if behind[name] == max(behind[it] for it in [*left, *running.values()]) else 1
+                running[pool.submit(prove, name, lines, jobs)] = name
+                left.remove(name)
+            for ran in wait(running, return_when=FIRST_COMPLETED).done:
+                del running[ran]
+                if ran.result():
+                    return ran.result()
+    return None
+
+
+def main():
+    with open(TOP / "crates.txt", encoding="utf-8") as lock:
+        # One build at a time.
+        fcntl.flock(lock, fcntl.LOCK_EX)
+        lines = crate_lines()
+        left = stale(sys.argv[1:] or [PROGRAM], lines)
+        if not left:
+            return 0
+        minutes = MINUTES_OF_ALL * len(left) / len(lines) / lanes()
+        tell(f"libraries to be proved first: {len(left)}, which may take {max(1, round(minutes))} minutes on {lanes()} processors")
+        return prove_all(left, lines)
+
+
+if __name__ == "__main__":
+    sys.exit(main())

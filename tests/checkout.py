@@ -1,0 +1,41 @@
+"""The crates of this checkout, a copy of what a check of one reads, and how many checks run side by side."""
+
+import os
+import re
+import shutil
+from pathlib import Path
+
+TOP = Path(__file__).resolve().parent.parent
+CRATES = TOP / "crates"
+
+
+def crate_lines():
+    """The line of crates.txt for each crate."""
+    lines = [line.partition("#")[0].strip() for line in (TOP / "crates.txt").read_text().splitlines()]
+    return {re.split(r"[\s:]", line)[0]: line for line in lines if line}
+
+
+def below(name, lines):
+    """The crates that a crate stands on, directly or not, each after those that it stands on itself."""
+    found = []
+    for word in lines[name].partition(":")[2].split():
+        if word in lines:
+            found += [it for it in [*below(word, lines), word] if it not in found]
+    return found
+
+
+def copy_for(name, lines, folder):
+    """Copies what a check of a crate reads: the crate with its kept work, and those below it with the libraries that they made."""
+    names = [*below(name, lines), name]
+    Path(folder, "crates.txt").write_text("".join(lines[it] + "\n" for it in names))
+    shutil.copy(TOP / "HANDLES", folder)
+    for it in names:
+        left_out = ["wrong", "must-fail"] if it == name else ["wrong", "must-fail", "incremental"]
+        shutil.copytree(CRATES / it, Path(folder, "crates", it), ignore=shutil.ignore_patterns(*left_out))
+    return Path(folder, "crates", name)
+
+
+def lanes():
+    """How many checks run side by side: one for each processor, and no more than memory holds at 4 GB each."""
+    free = int(re.search(r"MemAvailable:\s+(\d+)", Path("/proc/meminfo").read_text())[1])
+    return max(1, min(len(os.sched_getaffinity(0)), free // (4 << 20)))
