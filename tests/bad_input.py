@@ -157,6 +157,9 @@ BAD_LINES = [
         ("line of one word", b"line 0"),
     ]
 ] + [
+    Case("bad line: the first, under bfq", ["sim"], b"attach 0 0\n", b"bad line 1\n", b"", BAD_LINE),
+    Case("bad line: no line after it runs, under bfq", ["sim"], b"# one\n\nhold\nhold 1\nhold\n", b"moved 0 0\nbad line 4\n",
+         b"", BAD_LINE),
     Case("bad line: the first", SIM, b"hold 0\n", b"bad line 1\n", b"", BAD_LINE),
     Case("bad line: the last, with no newline", SIM, b"hold\nhol", b"moved 0 0\nbad line 2\n", b"", BAD_LINE),
     Case("bad line: empty lines and comments count", SIM, b"\n# one\n\nhold\nline\n# two\nholds\nline\n",
@@ -165,6 +168,20 @@ BAD_LINES = [
          b"refused 17\nrefused 1\nrefused 28\nrefused 28\nbad line 5\n", b"", BAD_LINE),
     Case("bad line: the one after 1,048,576 lines", SIM, 1_048_577 * b"\n", b"bad line 1048577\n", b"", BAD_LINE),
 ]
+
+# Lines that are nearly good. The name of each is the line.
+BAD_LINES += [bad_line(repr(line)[2:-1], line) for line in [
+    b"hold ", b" hold", b"Hold", b"hold\r", b"hol", b"holds", b"undo ", b"undo  1", b"undo\t1", b"undo 1 ",
+    b"undo 1 2", b"undo 1\xff", b"sector 99999999999999999999999", b"queued 0", b"group", b"group 0", b"group 0 1 2",
+    b"group 256 1", b"group 0 65536", b"group 0 01", b"group 0  1", b"groups 0 1", b"drop", b"drop 256", b"drop 0 0",
+    b"dropped 0", b"weight 0", b"weight 256 1", b"weight 0 65536", b"weight 0 1 2", b"weights 0 1", b"vtime",
+    b"vtime 256", b"vtime 0 0", b"vtime +0", b"vtimes 0", b"entity", b"entity 256", b"entity 0 0", b"entity 00",
+    b"Entity 0", b"attach 256 0 0", b"attach 0 256 0", b"attach 0 0", b"attach 0 0 0 0", b"read 0 0 0 65536",
+    b"read 0 0 0", b"write 0 0 0 1", b"write 0 0 0 1 256", b"write 0 0 0 1 2 3", b"leaves 0", b"work", b"works 0 1",
+    b"requeue 0 1 stored", b"freezes", b"Thaw", b"switch Bfq", b"switch none ", b"switch bfq none", b"switch\tbfq",
+    b"switchbfq", b"finish 0 1 2", b"finish 0 1  stored", b"finish 0 1 stored ", b"finish 0 1 fill ",
+    b"finish 0 1 fill 1 2", b"finish 0 1 filled", b"finish stored", b"finish",
+]]
 
 GOOD_LINES = [
     Case("good: no input", SIM),
@@ -239,6 +256,26 @@ BAD_WORDS_CASES = [
     ]
 ]
 
+# Words that are nearly good, joined by single spaces; two spaces, or one at the end, have the empty word beside them.
+BAD_WORDS_CASES += [refused(repr(line)[1:-1], line.split(" ")) for line in [
+    "", "help", "--scheduler none sim", "--version", "sim --scheduler ", "sim --scheduler Bfq",
+    "sim --scheduler bfq2", "sim --scheduler plain", "sim --scheduler mq-deadline", "sim --tags 4 --scheduler=x",
+    "sim bfq", "sim --scheduler None", "sim --scheduler none none", "sim --scheduler none sim",
+    "sim --scheduler none help", "sim --scheduler bfq --scheduler none", "sim --scheduler none --tags=4 --tags=5",
+    "sim --scheduler none --sectors 1 --sectors 1", "sim --scheduler none --tags --sectors 4",
+    "sim --scheduler none --tags 4 5", "sim --scheduler none --tags ", "sim --scheduler none --tags 05",
+    "sim --scheduler none --tags 00", "sim --scheduler none --tags +5", "sim --scheduler none --tags -5",
+    "sim --scheduler none --tags=-5", "sim --scheduler none --tags x", "sim --scheduler none --tags 4x",
+    "sim --scheduler none --tags 0x4", "sim --scheduler none --tags 4,5", "sim --scheduler none --tags=4=5",
+    "sim --scheduler none --tags 18446744073709551616", "sim --scheduler none --nr-requests 05",
+    "sim --scheduler none --first-budget x", "sim --scheduler none --max-budget +5",
+    "sim --scheduler none --timeout 18446744073709551616", "sim --scheduler none --history x",
+    "sim --scheduler none --first-vtime 05", "sim --scheduler none --sectors +5", "sim --image --sectors 4",
+    "sim --image a --image b", "sim --image a b", "sim --image a --sectors x", "sim --scheduler none --Tags 4",
+    "sim --scheduler none -t 4", "sim --scheduler none --version", "sim --scheduler none --help=x",
+    "sim --scheduler none -", "sim --scheduler none --", "sim --scheduler none -- --tags 4",
+]]
+
 
 def fault(field, *words):
     return Case(f"config: {field}: {' '.join(words)}", SIM + list(words), b"", b"", b"config: %s\n" % field.encode(), BAD_WORDS)
@@ -293,6 +330,14 @@ GOOD_WORDS = [
     Case("good words: the number of requests holds", SIM + ["--nr-requests=1"], b"attach 0 0 4\nread 0 1 0 8\nread 0 1 100 8\n",
          b"attached 1\nqueued 2\nnotyet 43\n"),
     Case("help", ["--help"], has=[b"bfqhost sim [OPTION]", b"bfq or none (bfq)"]),
+    Case("help names each option", ["--help"], has=[
+        b"--scheduler", b"--nr-requests", b"--tags", b"--first-budget", b"--max-budget", b"--timeout", b"--history",
+        b"--first-vtime", b"--sectors", b"--image", b"--help", b"the scheduler: bfq or none (bfq)",
+    ]),
+    Case("help names each step", ["--help"], has=[
+        b"attach SEAT", b"read SEAT", b"write SEAT", b"reap SEAT", b"leave SEAT", b"dispatch", b"finish TAG", b"work TAG",
+        b"requeue TAG", b"group PARENT", b"drop GROUP", b"weight GROUP", b"freeze", b"thaw", b"switch none|bfq", b"tick",
+    ]),
 ]
 
 # More lines than a buffer holds, so that a write fails before the end; and one, that fails at the end.

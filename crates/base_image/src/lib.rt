@@ -20,6 +20,3 @@ pub use file::FileImage;
 pub use image::{Image, ImageFault};
 pub use memory::MemoryImage;
 pub use zero::ZeroImage;
-
-#[cfg(test)]
-mod tests;

@@ -4,4 +4,3 @@ pub mod Bounds
 pub mod Paths
 pub mod Levels
 pub mod Slots
-pub mod Opening

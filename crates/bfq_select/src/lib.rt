@@ -26,6 +26,3 @@ mod stamping;
 pub use expiry::{Expiry, VtimeFull};
 pub use reading::member_in;
 pub use rules::{activate, charge, expire, select};
-
-#[cfg(test)]
-mod tests;

@@ -26,9 +26,6 @@ mod start;
 use start::start;
 use std::process::ExitCode;
 
-#[cfg(test)]
-mod tests;
-
 fn main(rt: HostRuntime) -> ExitCode {
     ExitCode::from(start(&rt))
 }

@@ -26,6 +26,3 @@ pub use laws::{back_leads_forth, turned_twice};
 pub use parts::Parts;
 pub use room::push_within;
 pub use tape::Tape;
-
-#[cfg(test)]
-mod tests;

@@ -12,8 +12,3 @@ mod fill;
 mod work;
 
 pub use work::work_once;
-
-#[cfg(test)]
-mod fakes;
-#[cfg(test)]
-mod tests;

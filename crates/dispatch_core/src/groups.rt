@@ -73,6 +73,7 @@ pub fn run_group_drop(
     if !stands(parts, group) {
         return Ok(Answer::Refused(Code::NoGroup));
     }
+    // The root always stands.
     if group == 0 {
         return Ok(Answer::Refused(Code::RootGroup));
     }

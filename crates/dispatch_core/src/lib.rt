@@ -23,6 +23,3 @@ pub use machine::{Machine, SectorView, View};
 pub use plain_machine::{
     Answer, Cause, Code, EntityView, Reply, RequestView, Sizes, Step, Why, Work,
 };
-
-#[cfg(test)]
-mod tests;

@@ -128,6 +128,3 @@ fn entity_of(group: u8) -> Entity
 {
     16 + group
 }
-
-#[cfg(test)]
-mod tests;

@@ -4,4 +4,3 @@ pub mod Ways
 pub mod Calls
 pub mod Counts
 pub mod Runs
-pub mod Given

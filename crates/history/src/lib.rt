@@ -10,21 +10,15 @@
 //! | [`Keeper::journal_len`] | the keeper is what its accepted calls, one after the other, make of a new one |
 //! | [`KeeperView::machine`] | the fold of the plain steps over the steps that stand |
 //! | [`KeeperView::cursor`], [`KeeperView::length`], [`KeeperView::last_serial`], [`KeeperView::held`] | that field |
-//! | [`two_undos_are_one`], [`redo_gives_back`] | the laws of Undo and Redo |
 //!
 //! The exchanges of each step stay on a tape. An undo makes them backwards, which leaves what undoes the undo; so nothing
 //! is copied and nothing is computed again.
 
 mod keeper;
-mod laws;
 mod moves;
 mod roll;
 mod run;
 
 pub use keeper::{Keeper, KeeperView};
-pub use laws::{redo_gives_back, two_undos_are_one};
 pub use plain_machine::{Call, DeviceCall, Stamped};
 pub use run::RunStop;
-
-#[cfg(test)]
-mod tests;

@@ -39,8 +39,3 @@ pub use content::Content;
 pub use keeps::Keeps;
 pub use run::run_keeper;
 pub use teller::Teller;
-
-#[cfg(test)]
-mod fakes;
-#[cfg(test)]
-mod tests;

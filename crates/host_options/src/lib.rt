@@ -22,6 +22,3 @@ mod request;
 
 pub use help::help_text;
 pub use request::{Request, WordFault, request_of};
-
-#[cfg(test)]
-mod tests;

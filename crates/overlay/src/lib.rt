@@ -79,6 +79,3 @@ impl Overlay {
         }
     }
 }
-
-#[cfg(test)]
-mod tests;

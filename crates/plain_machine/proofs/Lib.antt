@@ -12,3 +12,4 @@ pub mod Serials
 pub mod Wholes
 pub mod Times
 pub mod Monotonic
+pub mod Undone

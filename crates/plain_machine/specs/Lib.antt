@@ -6,5 +6,6 @@ pub mod Whole
 pub mod Queued
 pub mod Entities
 pub mod Times
+pub mod Undone
 pub mod Device
 pub use Rattle.change_record.specs.Machine

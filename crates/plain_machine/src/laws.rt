@@ -1,7 +1,9 @@
-// Laws of the machine of every keeper.
+// Laws of the keeper, and of the machine of every keeper.
 ghost use Rattle.plain_machine.specs.Owed.{UnreapedIsOwed};
 ghost use Rattle.plain_machine.specs.Whole.{KeepsWhole, RequestsAreWhole};
 ghost use Rattle.plain_machine.specs.Times.{KeepsVtimes};
+ghost use Rattle.plain_machine.specs.Undone.{TwoUndosAreOne, RedoGivesBack};
+ghost use Rattle.plain_machine.specs.Keeper.{State};
 ghost use Rattle.plain_machine.specs.Step.{Limits};
 ghost use Rattle.change_record.specs.Machine.{Plain};
 ghost use Rattle.plain_machine.specs.declared.call.Call.{Call};
@@ -29,4 +31,16 @@ pub fn requests_are_whole()
 /// stands before and after it. The body is empty: the contract is the law.
 pub fn vtimes_never_fall()
     ensures { (l : Limits) (m : Plain) → KeepsVtimes l m }
+{}
+
+/// Two Undos are one: of a keeper that accepts an Undo of `first` steps and then one of `second` steps, an Undo of all
+/// of them is accepted, and leaves the same machine, line and cursor. The body is empty: the contract is the law.
+pub fn two_undos_are_one(first: u32, second: u32)
+    ensures { (k : State) → TwoUndosAreOne k first second }
+{}
+
+/// A Redo gives back what an Undo took away: the machine, the line and the cursor are those from before. The body is
+/// empty: the contract is the law.
+pub fn redo_gives_back(count: u32)
+    ensures { (k : State) → RedoGivesBack k count }
 {}

@@ -139,6 +139,3 @@ impl ProcessQueue {
         true
     }
 }
-
-#[cfg(test)]
-mod tests;

@@ -137,6 +137,3 @@ impl RequestPool {
         }
     }
 }
-
-#[cfg(test)]
-mod tests;

@@ -30,6 +30,3 @@ pub use decimal::number;
 pub use law::one_line;
 pub use line::{Ending, Line};
 pub use read::line_of;
-
-#[cfg(test)]
-mod tests;

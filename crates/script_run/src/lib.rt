@@ -28,8 +28,3 @@ mod whole;
 pub use console::Console;
 pub use ending::ScriptEnd;
 pub use run::run_lines;
-
-#[cfg(test)]
-mod fakes;
-#[cfg(test)]
-mod tests;

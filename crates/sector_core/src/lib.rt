@@ -20,6 +20,3 @@ pub use config::{Config, ConfigDraft, ConfigFault, Scheduler};
 pub use memory::OutOfMemory;
 pub use range::Range;
 pub use table::{empty_table, first_free};
-
-#[cfg(test)]
-mod tests;

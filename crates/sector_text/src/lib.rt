@@ -19,6 +19,3 @@ mod words;
 
 pub use sector::put_hex;
 pub use words::put_hex_words;
-
-#[cfg(test)]
-mod tests;

@@ -181,6 +181,3 @@ impl ServiceTree {
         sum
     }
 }
-
-#[cfg(test)]
-mod tests;

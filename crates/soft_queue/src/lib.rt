@@ -35,6 +35,3 @@ fn first_waiting(queues: &ProcessQueue, from: u8, end: u8) -> Option<u8>
     }
     None
 }
-
-#[cfg(test)]
-mod tests;

@@ -85,6 +85,3 @@ impl TagSet {
         }
     }
 }
-
-#[cfg(test)]
-mod tests;

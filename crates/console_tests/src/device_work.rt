@@ -1,0 +1,160 @@
+// Device work over images that no file is: each line, and what it prints.
+use crate::host::Host;
+use base_image::{FailingImage, Image, ImageFault, MemoryImage, ZeroImage};
+use bytes::Bytes;
+use history::Keeper;
+use host_console::{Teller, run_keeper};
+use script_run::ScriptEnd;
+use sector_core::{Config, ConfigDraft};
+use std::process::Abort;
+use std::test::Fail;
+
+// Each line of the rows prints its text on a new host over the image.
+fn expect_rows<I: Image + Drop>(
+    rt: &(impl Abort + AllocGlobal),
+    image: I,
+    rows: &str,
+) -> Result<(), Fail> {
+    let mut script = String::new(rt.alloc());
+    let mut text = String::new(rt.alloc());
+    for row in rows.lines() {
+        let (line, printed) = row.split_once(" -> ").ok_or("a line and its text")?;
+        script.push_str(line)?;
+        script.push('\n')?;
+        text.push_str(printed)?;
+        text.push('\n')?;
+    }
+    let config = Config::check(ConfigDraft::default())?;
+    let keeper = Keeper::new(rt.alloc(), config, image.sectors())?;
+    let mut teller = Teller {
+        keeper: Host { keeper },
+        image,
+    };
+    let mut reader = script.as_bytes();
+    let mut written = Vec::new(rt.alloc());
+    let end = run_keeper(rt.alloc(), &mut reader, &mut written, &mut teller);
+    assert_eq!(rt; end, ScriptEnd::Done);
+    assert_eq!(rt; written.as_slice(), text.as_bytes(), "{rows}");
+    Ok(())
+}
+
+// One read of zeros fails, counted from 1.
+#[test]
+fn images_of_which_a_read_fails(rt: HostRuntime) -> Result<(), Fail> {
+    for (read, fault, rows) in [
+        (1, ImageFault::Busy, GIVEN_BACK),
+        (2, ImageFault::Busy, SECOND_READ_IS_BUSY),
+        (2, ImageFault::Device, SECOND_READ_FAILS),
+        (2, ImageFault::Device, UNDONE_AND_REDONE),
+        (1, ImageFault::Busy, HELD),
+    ] {
+        let image = FailingImage::new(ZeroImage::new(1024), read, fault);
+        expect_rows(&rt, image, rows)?;
+    }
+    Ok(())
+}
+
+#[test]
+fn image_that_tells_more_than_it_has(rt: HostRuntime) -> Result<(), Fail> {
+    let bytes = Bytes::from_vec(vec![in rt.alloc(); 0x37; 512]?)?;
+    expect_rows(&rt, MemoryImage::new(bytes, 2), ONE_SECTOR_OF_TWO)
+}
+
+// A busy device gives the request back, and the work of its next issue is done.
+const GIVEN_BACK: &str = "\
+attach 0 0 4 -> attached 1
+read 0 1 0 1 -> queued 2
+dispatch -> issued 0 3 fetch 0 1
+work 0 3 -> requeued
+dispatch -> issued 0 5 fetch 0 1
+work 0 3 -> refused 20
+work 0 5 -> finished 1
+reap 0 1 -> completed 2 read 00
+";
+
+// The second read is given back whole and then done; the one before keeps what it read.
+const SECOND_READ_IS_BUSY: &str = "\
+attach 0 0 4 -> attached 1
+read 0 1 0 1 -> queued 2
+dispatch -> issued 0 3 fetch 0 1
+work 0 3 -> finished 1
+read 0 1 8 2 -> queued 5
+dispatch -> issued 0 6 fetch 8 2
+work 0 6 -> requeued
+work 0 6 -> refused 20
+reap 0 1 -> completed 2 read 00
+dispatch -> issued 0 9 fetch 8 2
+work 0 9 -> finished 1
+reap 0 1 -> completed 5 read 00 00
+";
+
+// The read that fails fails its own bio; the one before and the one after are read.
+const SECOND_READ_FAILS: &str = "\
+attach 0 0 4 -> attached 1
+read 0 1 0 1 -> queued 2
+dispatch -> issued 0 3 fetch 0 1
+work 0 3 -> finished 1
+reap 0 1 -> completed 2 read 00
+read 0 1 8 2 -> queued 6
+dispatch -> issued 0 7 fetch 8 2
+work 0 7 -> finished 1
+reap 0 1 -> completed 6 error fault
+read 0 1 8 2 -> queued 10
+dispatch -> issued 0 11 fetch 8 2
+work 0 11 -> finished 1
+reap 0 1 -> completed 10 read 00 00
+";
+
+// The image has its first sector alone. A store is done without it, and is read from the overlay.
+const ONE_SECTOR_OF_TWO: &str = "\
+attach 0 0 4 -> attached 1
+read 0 1 0 1 -> queued 2
+dispatch -> issued 0 3 fetch 0 1
+work 0 3 -> finished 1
+reap 0 1 -> completed 2 read 37
+read 0 1 1 1 -> queued 6
+dispatch -> issued 0 7 fetch 1 1
+work 0 7 -> finished 1
+reap 0 1 -> completed 6 error short
+read 0 1 0 2 -> queued 10
+dispatch -> issued 0 11 fetch 0 2
+work 0 11 -> finished 1
+reap 0 1 -> completed 10 error short
+write 0 1 1 1 65 -> queued 14
+dispatch -> issued 0 15 store 1 1
+work 0 15 -> finished 1
+reap 0 1 -> completed 14 written
+work 0 15 -> refused 20
+sector 1 -> sector 1 overlay 41
+read 0 1 2 1 -> refused 14
+";
+
+// What the device answered stands in the line: it is undone and redone with no further read, though that would fail.
+const UNDONE_AND_REDONE: &str = "\
+attach 0 0 4 -> attached 1
+read 0 1 0 1 -> queued 2
+dispatch -> issued 0 3 fetch 0 1
+work 0 3 -> finished 1
+hold -> moved 4 4
+undo 2 -> moved 2 4
+redo 2 -> moved 4 4
+release -> done
+reap 0 1 -> completed 2 read 00
+read 0 1 0 1 -> queued 6
+dispatch -> issued 0 7 fetch 0 1
+work 0 7 -> finished 1
+reap 0 1 -> completed 6 error fault
+";
+
+// While the host is held the device reads, and its call is not yet answered; so its next read is the second.
+const HELD: &str = "\
+attach 0 0 4 -> attached 1
+read 0 1 0 1 -> queued 2
+dispatch -> issued 0 3 fetch 0 1
+hold -> moved 3 3
+work 0 3 -> notyet 41
+work 5 3 -> notyet 41
+release -> done
+work 0 3 -> finished 1
+reap 0 1 -> completed 2 read 00
+";

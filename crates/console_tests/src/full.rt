@@ -1,0 +1,67 @@
+// A keeper that never changes.
+ghost use Rattle.std.specs.Prelude.{true};
+ghost use Rattle.sector_core.specs.declared.config.Scheduler.TheVariants.{Plain};
+ghost use Rattle.plain_machine.specs.Keeper.{opened};
+
+use host_console::{Content, Keeps};
+use plain_machine::{Answer, Call, Cause, Code, EntityView, RequestView, Work};
+use std::alloc::Global;
+
+// It is held and its history is full, so that it accepts nothing. It counts its calls.
+#[derive(Drop)]
+pub struct Full {
+    pub sectors: u64,
+    pub calls: u64,
+}
+
+impl Keeps for Full {
+    ghost state = { λ full. record (opened (record { sectors = full.sectors; requests = 1; tags = 1; scheduler = Plain; first_budget = 256; max_budget = 256; timeout = 8; first_vtime = 7 }) 0) { held = true } };
+
+    fn call(&mut self, _alloc: Global, call: &Call) -> Answer {
+        self.calls = self.calls.wrapping_add(1);
+        match call {
+            Call::Do(_) => Answer::NotYet(Cause::Held),
+            Call::Hold => Answer::Refused(Code::AlreadyHeld),
+            Call::Release => Answer::Refused(Code::HistoryFull),
+            Call::Undo { k: 0 } | Call::Redo { k: 0 } => Answer::Refused(Code::ZeroCount),
+            Call::Undo { .. } => Answer::Refused(Code::NothingToUndo),
+            Call::Redo { .. } => Answer::Refused(Code::NothingToRedo),
+        }
+    }
+
+    fn work(&self, _tag: u8, _issue: u64) -> Option<Work> {
+        None
+    }
+
+    fn sector(&self, number: u64) -> Content<'_> {
+        if number < self.sectors {
+            Content::Base
+        } else {
+            Content::Outside
+        }
+    }
+
+    fn request(&self, _seat: u8, _place: usize) -> RequestView {
+        RequestView::Free
+    }
+
+    fn vtime(&self, group: u8) -> Option<u64> {
+        if group == 0 { Some(7) } else { None }
+    }
+
+    fn entity(&self, _number: u8) -> Option<EntityView> {
+        None
+    }
+
+    fn cursor(&self) -> u32 {
+        0
+    }
+
+    fn length(&self) -> u32 {
+        0
+    }
+
+    fn last_serial(&self) -> u64 {
+        0
+    }
+}

@@ -1,0 +1,100 @@
+// A keeper whose steps the tests make, and turn back and forth.
+use dispatch_core::{Answer, Reply, SectorView, Step, View};
+use history::{Call, Keeper};
+use sector_core::{Config, ConfigDraft};
+use std::alloc::Global;
+use std::process::Abort;
+use std::test::Fail;
+
+#[derive(Drop)]
+pub struct Host {
+    keeper: Keeper,
+}
+
+impl Host {
+    // Before its first step, with the default configuration, over an image of so many sectors.
+    pub fn new(alloc: Global, sectors: u32) -> Result<Host, Fail> {
+        let config = Config::check(ConfigDraft::default())?;
+        let keeper = Keeper::new(alloc, config, u64::from(sectors))?;
+        Ok(Host { keeper })
+    }
+
+    // Makes a step, and tells the number of what was accepted, or of a refusal after 100, or of a wait after 200.
+    pub fn applied(&mut self, alloc: Global, step: Step) -> u64 {
+        match self.keeper.call(alloc, &Call::Do(step)) {
+            Answer::Accepted(Reply::Attached { session }) => session,
+            Answer::Accepted(Reply::Queued { bio }) => bio,
+            Answer::Accepted(Reply::Completed { bio, .. }) => bio,
+            Answer::Accepted(Reply::Issued { issue, .. }) => issue,
+            Answer::Accepted(Reply::Finished { bios }) => u64::from(bios),
+            Answer::Accepted(_) => 0,
+            Answer::Refused(code) => 100 + u64::from(code.number()),
+            Answer::NotYet(cause) => 200 + u64::from(cause.number()),
+        }
+    }
+
+    // Makes a step that is accepted, and turns its list of so many exchanges back and then forth. While it is turned back,
+    // nothing is stored at this sector.
+    pub fn turned(
+        &mut self,
+        rt: &(impl Abort + AllocGlobal),
+        step: Step,
+        exchanges: u32,
+        sector: u64,
+    ) -> Result<Reply, Fail> {
+        let before = self.turns();
+        let count = u64::from(exchanges);
+        let Answer::Accepted(reply) = self.keeper.call(rt.alloc(), &Call::Do(step)) else {
+            return Err(Fail::from("the step is not accepted"));
+        };
+        let steps = self.steps();
+        assert_eq!(rt; self.turns(), before.wrapping_add(count), "step {steps}");
+        self.accepts(rt.alloc(), &Call::Hold)?;
+        self.accepts(rt.alloc(), &Call::Undo { k: 1 })?;
+        assert_eq!(rt;
+            self.turns(),
+            before.wrapping_add(2 * count),
+            "step {steps}"
+        );
+        assert!(rt; self.is_base(sector), "step {steps}");
+        self.accepts(rt.alloc(), &Call::Redo { k: 1 })?;
+        assert_eq!(rt;
+            self.turns(),
+            before.wrapping_add(3 * count),
+            "step {steps}"
+        );
+        self.accepts(rt.alloc(), &Call::Release)?;
+        Ok(reply)
+    }
+
+    fn accepts(&mut self, alloc: Global, call: &Call) -> Result<(), Fail> {
+        match self.keeper.call(alloc, call) {
+            Answer::Accepted(_) => Ok(()),
+            _ => Err(Fail::from("the operator's call is not accepted")),
+        }
+    }
+
+    // The machine.
+    pub fn view(&self) -> View<'_> {
+        self.keeper.view().machine()
+    }
+
+    // How many exchanges were made.
+    pub fn turns(&self) -> u64 {
+        self.keeper.view().machine().turns()
+    }
+
+    // How many steps the line has, and so how many lists the tape.
+    pub fn steps(&self) -> u32 {
+        self.keeper.view().length()
+    }
+
+    // Nothing is stored at the sector.
+    fn is_base(&self, sector: u64) -> bool {
+        match self.view().sector(sector) {
+            SectorView::Outside => false,
+            SectorView::Base => true,
+            SectorView::Stored(_) => false,
+        }
+    }
+}
