@@ -1,18 +1,20 @@
 #!/usr/bin/env python3
-"""Proves libraries side by side, if they are missing or older than what they are made of.
+"""Proves libraries side by side, if they are missing or older than what they are made of; and builds the program.
 
     tests/build.py [CRATE..]
 
-Proved are those of the crates that are named and all that they stand on; with no name, all that the program stands on. The toolchain
-lets only one run at a time work over the same library. So each crate is proved in a copy of what it reads, and what was made is
-moved into the checkout. On standard error stand how long it may take, and each crate as it begins.
+Proved are those of the crates that are named and all that they stand on; with no name, all that the program stands on, and then
+the program. The toolchain lets only one run at a time work over the same library. So each library is proved in a copy of what it
+reads, and what was made is moved into the checkout. On standard error stand how long it may take, and each crate as it begins.
 """
 
 import fcntl
+import os
 import shutil
 import subprocess
 import sys
 import tempfile
+import time
 from concurrent.futures import FIRST_COMPLETED, ThreadPoolExecutor, wait
 
 from checkout import CRATES, TOP, below, copy_for, crate_lines, lanes
@@ -48,20 +50,32 @@ def stale(names, lines):
     return found
 
 
-def prove(name, lines, jobs):
+def run(words, folder):
+    """Runs a command of the toolchain in a folder. Gives its status and what it said."""
+    ran = subprocess.run(words, cwd=folder, stdin=subprocess.DEVNULL, stdout=subprocess.PIPE, stderr=subprocess.STDOUT, text=True,
+                         errors="replace", check=False)
+    return ran.returncode, ran.stdout
+
+
+def prove(name, lines, is_longest):
     """Proves a crate in a copy, and moves what was made into the checkout. Gives what was said if it is not proved."""
+    began = time.time()
     with tempfile.TemporaryDirectory(prefix="build-") as folder:
         crate = copy_for(name, lines, folder)
-        ran = subprocess.run(["rt", "lib", "--jobs", str(jobs)], cwd=crate, stdin=subprocess.DEVNULL, stdout=subprocess.PIPE,
-                             stderr=subprocess.STDOUT, text=True, errors="replace", check=False)
-        if ran.returncode:
-            return f"{ran.stdout}bfqhost: {name} is not proved"
+        # The longest chain of crates sets the time, so its crate may use all processors, and the others what it leaves.
+        words = ["rt", "lib", "--jobs", str(lanes())] if is_longest else ["nice", "-n", "19", "rt", "lib", "--jobs", "1"]
+        status, said = run(words, crate)
+        if status:
+            return f"{said}bfqhost: {name} is not proved"
         # The stamp comes last, so that a move that is interrupted leaves no library that counts.
         stamp = (crate / "out" / "rlib" / "stamp").read_text()
         (crate / "out" / "rlib" / "stamp").unlink()
         shutil.rmtree(CRATES / name / "out", ignore_errors=True)
         shutil.move(crate / "out", CRATES / name / "out")
-        (CRATES / name / "out" / "rlib" / "stamp").write_text(stamp)
+        made_stamp = CRATES / name / "out" / "rlib" / "stamp"
+        made_stamp.write_text(stamp)
+        # What was made gets the time from before, so that a file that is changed meanwhile is seen to be newer.
+        os.utime(made_stamp, (began, began))
     return None
 
 
@@ -77,9 +91,8 @@ def prove_all(left, lines):
             ready = [it for it in left if not {*below(it, lines)} & {*left, *running.values()}]
             for name in sorted(ready, key=lambda it: -behind[it])[:count - len(running)]:
                 tell(f"proving {name}; {number - len(left) - len(running)} of {number} are proved")
-                # The longest chain sets the time, so its crate gets all processors.
-                jobs = count if behind[name] == max(behind[it] for it in [*left, *running.values()]) else 1
-                running[pool.submit(prove, name, lines, jobs)] = name
+                is_longest = behind[name] == max(behind[it] for it in [*left, *running.values()])
+                running[pool.submit(prove, name, lines, is_longest)] = name
                 left.remove(name)
             for ran in wait(running, return_when=FIRST_COMPLETED).done:
                 del running[ran]
@@ -88,17 +101,27 @@ def prove_all(left, lines):
     return None
 
 
+def build_program(began):
+    """Proves and builds the program over its libraries, which began at this time. Gives what was said where none results."""
+    program = CRATES / PROGRAM / "out" / PROGRAM
+    tell("proving and building the program")
+    status, said = run(["rt", "run", "--jobs", str(lanes()), "--", "--help"], CRATES / PROGRAM)
+    if status or not program.exists():
+        return f"{said}bfqhost: no program was built"
+    os.utime(program, (began, began))
+    return None
+
+
 def main():
     with open(TOP / "crates.txt", encoding="utf-8") as lock:
         # One build at a time.
         fcntl.flock(lock, fcntl.LOCK_EX)
-        lines = crate_lines()
-        left = stale(sys.argv[1:] or [PROGRAM], lines)
-        if not left:
-            return 0
-        minutes = MINUTES_OF_ALL * len(left) / len(lines) / lanes()
-        tell(f"libraries to be proved first: {len(left)}, which may take {max(1, round(minutes))} minutes on {lanes()} processors")
-        return prove_all(left, lines)
+        lines, named, began = crate_lines(), sys.argv[1:], time.time()
+        left = stale(named or [PROGRAM], lines)
+        if left:
+            minutes = MINUTES_OF_ALL * len(left) / len(lines) / lanes()
+            tell(f"libraries to be proved first: {len(left)}, which may take {max(1, round(minutes))} minutes on {lanes()} processors")
+        return prove_all(left, lines) or (None if named else build_program(began))
 
 
 if __name__ == "__main__":

@@ -65,7 +65,7 @@ def trial(name, lines, keeps_on):
 
 
 def try_all(named=(), every=False, deadline=float("inf")):
-    """Tries wrong bodies, and says of which it has not. Gives how many were refused and how many failed."""
+    """Tries wrong bodies, and says of which it has not. Gives how many were refused, and what was told of each that failed."""
     lines, kit = crate_lines(), subprocess.run(["rt", "version"], capture_output=True, text=True, check=True).stdout.strip()
     now, having, goes_on, waiting, tried = hashes(lines), {it for it in lines if wrong_bodies(it)}, [True], 0, {}
     rows = dict((it.split(" ", 1)[0], it.split(" ", 4)[1:]) for it in (SEEN.read_text().splitlines() if SEEN.exists() else []))
@@ -93,7 +93,7 @@ def try_all(named=(), every=False, deadline=float("inf")):
     SEEN.write_text("".join(" ".join([it, *rows[it]]) + "\n" for it in sorted(having & rows.keys())))
     unseen = 0 if named else sum(len(wrong_bodies(it)) for it in having.difference(names))
     print(f"{unseen} wrong bodies not tried: seen before\n" * bool(unseen) + f"{waiting} wrong bodies wait\n" * bool(waiting), end="")
-    return (sum(len(it[at]) for it in tried.values()) for at in (0, 1))
+    return sum(len(it[0]) for it in tried.values()), [f"failed: {name}/{it}: {why}" for name in tried for it, why in tried[name][1].items()]
 
 
 def main():
@@ -105,8 +105,8 @@ def main():
     if strange := [it for it in given.crates if not wrong_bodies(it)]:
         words.error(f"there is no wrong body in {strange[0]}")
     refused, failed = try_all(given.crates, given.all, time.time() + 60 * given.minutes)
-    print(f"{refused} refused, {failed} failed")
-    return min(failed, 1)
+    print(f"{refused} refused, {len(failed)} failed")
+    return min(len(failed), 1)
 
 
 if __name__ == "__main__":
