@@ -30,8 +30,8 @@ def copy_for(name, lines, folder):
     Path(folder, "crates.txt").write_text("".join(lines[it] + "\n" for it in names))
     shutil.copy(TOP / "HANDLES", folder)
     for it in names:
-        left_out = ["wrong", "must-fail"] if it == name else ["wrong", "must-fail", "incremental"]
-        shutil.copytree(CRATES / it, Path(folder, "crates", it), ignore=shutil.ignore_patterns(*left_out))
+        left_out = shutil.ignore_patterns("wrong", "must-fail", *["incremental"] * (it != name))
+        shutil.copytree(CRATES / it, Path(folder, "crates", it), ignore=left_out)
     return Path(folder, "crates", name)
 
 

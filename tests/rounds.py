@@ -6,7 +6,8 @@ body is refused if a goal of its own function is open. Who only calls a refused 
 
 import re
 import subprocess
-from collections import Counter, defaultdict, namedtuple
+from collections import defaultdict, namedtuple
+from itertools import zip_longest
 
 # What a check prints of an open goal, of a function, and of a text or proof that it does not take.
 GOAL = re.compile(r"note: (?:\./)?(src/\S+\.rt):(\d+):\d+: (.* \(`[^`]+`\))")
@@ -63,13 +64,11 @@ def read_edit(name, text, texts):
 
 def in_rounds(edits):
     """The wrong bodies that stand in one function each, as lists with at most one for each function."""
-    rounds, before = defaultdict(list), Counter()
+    of_functions = defaultdict(list)
     for edit in edits:
-        function = min(edit.functions, key=str)
-        if function and len(edit.functions) == 1:
-            rounds[before[function]].append(edit)
-            before[function] += 1
-    return [*rounds.values()]
+        if len(edit.functions) == 1 and None not in edit.functions:
+            of_functions[min(edit.functions)].append(edit)
+    return [[edit for edit in row if edit] for row in zip_longest(*of_functions.values())]
 
 
 def is_in(function, parts):  # of a path of modules, types and functions

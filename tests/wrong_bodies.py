@@ -1,11 +1,11 @@
 #!/usr/bin/env python3
 """Tries wrong bodies, the files crates/NAME/wrong/*.edit: the prover must refuse each.
 
-    tests/wrong_bodies.py [--all] [--minutes M] [CRATE..]
+    tests/wrong_bodies.py [--all] [CRATE..]
 
 Tried are those of the crates that are named, or of each that is not as tests/wrong_bodies.seen has it and of the one whose line is
-oldest there, or with --all of every crate. After M minutes no check begins, and what is left waits. The status is 1 if one failed.
-A crate whose wrong bodies were all refused gets its line: their number, the date, a hash of all that was read, and the toolchain's.
+oldest there, or with --all of every crate. The status is 1 if one failed. A crate whose wrong bodies were all refused gets its line:
+their number, the date, a hash of all that was read, and the toolchain's line.
 """
 
 import argparse
@@ -15,12 +15,14 @@ import subprocess
 import sys
 import tempfile
 import time
+from collections import defaultdict
 from concurrent.futures import ThreadPoolExecutor, as_completed
 
 from checkout import CRATES, TOP, below, copy_for, crate_lines, lanes
 from rounds import Crate, in_rounds, read_edit
 
 SEEN = TOP / "tests" / "wrong_bodies.seen"
+PART = 40  # Wrong bodies of a crate that are tried in one copy; if it has more, several copies are worked on side by side.
 
 
 def hashes(lines):
@@ -37,14 +39,14 @@ def hashes(lines):
     return found
 
 
-def wrong_bodies(name):
-    """The texts of a crate's wrong bodies, by their names."""
-    return {it.stem: it.read_text() for it in sorted((CRATES / name / "wrong").glob("*.edit"))}
+def wrong_bodies(name, first=0, step=1):
+    """The texts of a crate's wrong bodies, by their names; or from one on each that comes so many after the last."""
+    return {it.stem: it.read_text() for it in sorted((CRATES / name / "wrong").glob("*.edit"))[first::step]}
 
 
-def trial(name, lines, keeps_on):
-    """Tries a crate's wrong bodies. Gives those refused and those that failed, each with the reason; what is in neither waits."""
-    refused, failed, edits, texts = {}, {}, [], wrong_bodies(name)
+def trial(name, texts, lines, keeps_on):
+    """Tries wrong bodies of a crate. Gives those refused and those that failed, each with the reason; what is in neither waits."""
+    refused, failed, edits = {}, {}, []
     with contextlib.suppress(TimeoutError), tempfile.TemporaryDirectory(prefix="wrong-bodies-") as folder:
         crate = Crate(copy_for(name, lines, folder), keeps_on)
         if (plain := crate.check())[0] != 0:
@@ -67,7 +69,7 @@ def trial(name, lines, keeps_on):
 def try_all(named=(), every=False, deadline=float("inf")):
     """Tries wrong bodies, and says of which it has not. Gives how many were refused, and what was told of each that failed."""
     lines, kit = crate_lines(), subprocess.run(["rt", "version"], capture_output=True, text=True, check=True).stdout.strip()
-    now, having, goes_on, waiting, tried = hashes(lines), {it for it in lines if wrong_bodies(it)}, [True], 0, {}
+    now, having, goes_on, waiting, tried = hashes(lines), {it for it in lines if wrong_bodies(it)}, [True], 0, defaultdict(lambda: ({}, {}))
     rows = dict((it.split(" ", 1)[0], it.split(" ", 4)[1:]) for it in (SEEN.read_text().splitlines() if SEEN.exists() else []))
     as_seen = {it: row for it, row in rows.items() if it in having and row[2:] == [now[it], kit] and not every}
     # Those that are not as they were seen, the longest trials first, and then the one that was seen first.
@@ -77,11 +79,12 @@ def try_all(named=(), every=False, deadline=float("inf")):
         subprocess.run([sys.executable, TOP / "tests" / "build.py", *names], check=False)
     with ThreadPoolExecutor(lanes()) as pool:
         try:
-            runs = {pool.submit(trial, it, lines, lambda: goes_on[0] and time.time() < deadline): it for it in names}
+            parts = [(it, at, len(wrong_bodies(it)) // PART + 1) for it in names for at in range(len(wrong_bodies(it)) // PART + 1)]
+            runs = {pool.submit(trial, it[0], wrong_bodies(*it), lines, lambda: goes_on[0] and time.time() < deadline): it[0] for it in parts}
             for ran in as_completed(runs):
-                tried[runs[ran]] = ran.result()
-                told = [(word, *it) for word, found in zip(("refused", "failed"), ran.result()) for it in found.items()]
-                print("".join(f"{word}: {runs[ran]}/{it}: {why}\n" for word, it, why in told), end="", flush=True)
+                for word, found, so_far in zip(("refused", "failed"), ran.result(), tried[runs[ran]]):
+                    so_far.update(found)
+                    print("".join(f"{word}: {runs[ran]}/{it}: {why}\n" for it, why in found.items()), end="", flush=True)
         finally:
             goes_on[0] = False
     for it, (refused, failed) in tried.items():
@@ -99,12 +102,9 @@ def try_all(named=(), every=False, deadline=float("inf")):
 def main():
     words = argparse.ArgumentParser(description=__doc__, formatter_class=argparse.RawDescriptionHelpFormatter)
     words.add_argument("--all", action="store_true")
-    words.add_argument("--minutes", type=float, default=float("inf"))
-    words.add_argument("crates", nargs="*")
+    words.add_argument("crates", nargs="*", metavar="CRATE", choices=[it for it in crate_lines() if wrong_bodies(it)])
     given = words.parse_args()
-    if strange := [it for it in given.crates if not wrong_bodies(it)]:
-        words.error(f"there is no wrong body in {strange[0]}")
-    refused, failed = try_all(given.crates, given.all, time.time() + 60 * given.minutes)
+    refused, failed = try_all(given.crates, given.all)
     print(f"{refused} refused, {len(failed)} failed")
     return min(len(failed), 1)
 
