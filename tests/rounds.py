@@ -1,24 +1,25 @@
 """Wrong bodies of one crate, tried in a copy of it, in rounds: at most one is planted in each function, and one check judges them.
 
-It proves each function over the contracts of those that it calls, and names the open goals of each that it does not prove. A wrong
-body is refused if a goal of its own function is open. Who only calls a refused function is told apart, and is tried again.
+It proves each function over the contracts of those that it calls, and names the goals that are open. A wrong body is refused if one
+of its own function is. Who only calls a refused function is told apart, and is tried again.
 """
 
 import re
 import subprocess
-from collections import defaultdict, namedtuple
-from itertools import zip_longest
+from collections import namedtuple
+from itertools import groupby, zip_longest
 
 # What a check prints of an open goal, of a function, and of a text or proof that it does not take.
 GOAL = re.compile(r"note: (?:\./)?(src/\S+\.rt):(\d+):\d+: (.* \(`[^`]+`\))")
 FUNCTION = re.compile(r"fn (\S+): (.*)")
 ERROR = re.compile(r"(?:\./)?((?:src|specs|proofs)/\S+?):\d+:\d+: error(?:\[\S+\])?: (.*)")
 # What an error says if a name is gone or a text unread, so that no goal was tried; and a function's line if a callee was refused.
-UNREAD = re.compile(r"is not in scope|has no field|has no `|is no name|not admitted|was rejected|operand is missing|expected the end|cannot continue")
+UNREAD = re.compile(r"is not in scope|has no field|has no `|is no name|not admitted|was rejected|operand is missing|expected the end|cannot continue|\(nearest: ")
 CALLS = re.compile(r"it calls|it passes|a call of|which (is|are) not proved")
+IMPL = re.compile(r"impl\b(?:<.*?>)? (?:.* for )?&?(\w+)")
 OPENS = re.compile(r"( *)(?:pub(?:\([^)]*\))? )?(?:const )?(?:unsafe )?fn (\w+)")
-# A function by its lines; and a wrong body: its new lines, by file and place, and the functions that they stand in (None: in none).
-Function = namedtuple("Function", "path name first last")
+# A function by its lines, with the type that it is a method of; and a wrong body: its new lines, by file and place, and the functions that they stand in (None: in none).
+Function = namedtuple("Function", "path name owner first last")
 Edit = namedtuple("Edit", "name lines functions")
 
 
@@ -32,7 +33,9 @@ def functions_of(path, lines):
             if re.match(opens[1] + r"(\S.*)?\{\}?$", lines[at]):
                 while re.match(r"\s*[^\s/]", lines[first - 1]) and not lines[first - 1].endswith(("{", "}", ";")):
                     first -= 1
-                yield Function(path, opens[2], first, at if lines[at].endswith("}") else lines.index(opens[1] + "}", at))
+                owner = next((IMPL.match(it) for it in lines[first::-1] if it[:1].strip()), None) if opens[1] else None
+                last = at if lines[at].endswith("}") else lines.index(opens[1] + "}", at)
+                yield Function(path, opens[2], owner[1] if owner else "", first, last)
                 break
 
 
@@ -64,16 +67,14 @@ def read_edit(name, text, texts):
 
 def in_rounds(edits):
     """The wrong bodies that stand in one function each, as lists with at most one for each function."""
-    of_functions = defaultdict(list)
-    for edit in edits:
-        if len(edit.functions) == 1 and None not in edit.functions:
-            of_functions[min(edit.functions)].append(edit)
-    return [[edit for edit in row if edit] for row in zip_longest(*of_functions.values())]
+    of_one = sorted((it for it in edits if len(it.functions) == 1 and None not in it.functions), key=lambda it: min(it.functions))
+    rows = [[*group] for _, group in groupby(of_one, key=lambda it: min(it.functions))]
+    return [[edit for edit in row if edit] for row in zip_longest(*rows)]
 
 
-def is_in(function, parts):  # of a path of modules, types and functions
+def is_in(function, parts):  # of a path of modules, types and functions; a method's begins with the module of its type
     modules = [it for it in function.path[len("src/"):-len(".rt")].split("/") if it not in ("lib", "main", "mod")]
-    return parts[:len(modules)] == modules and function.name in parts[len(modules):]
+    return function.name in parts and (parts[:len(modules)] == modules or function.owner in parts)
 
 
 def settled(edits, status, said):

@@ -48,7 +48,7 @@ def trial(name, texts, lines, keeps_on):
     """Tries wrong bodies of a crate. Gives those refused and those that failed, each with the reason; what is in neither waits."""
     refused, failed, edits = {}, {}, []
     with contextlib.suppress(TimeoutError), tempfile.TemporaryDirectory(prefix="wrong-bodies-") as folder:
-        crate = Crate(copy_for(name, lines, folder), keeps_on)
+        crate = Crate(copy_for(name, lines, folder) if keeps_on() else CRATES / name, keeps_on)
         if (plain := crate.check())[0] != 0:
             return {}, {it: f"not tried, as the crate is not proved without it: {plain[1].splitlines()[-1:]}" for it in texts}
         for it, text in texts.items():
@@ -73,7 +73,7 @@ def try_all(named=(), every=False, deadline=float("inf")):
     rows = dict((it.split(" ", 1)[0], it.split(" ", 4)[1:]) for it in (SEEN.read_text().splitlines() if SEEN.exists() else []))
     as_seen = {it: row for it, row in rows.items() if it in having and row[2:] == [now[it], kit] and not every}
     # Those that are not as they were seen, the longest trials first, and then the one that was seen first.
-    changed = sorted(having - as_seen.keys(), key=lambda it: -len(wrong_bodies(it)))
+    changed = sorted(having - as_seen.keys(), key=lambda it: -len(wrong_bodies(it)) - len(below(it, lines)))
     names = named or changed + sorted(as_seen, key=lambda it: as_seen[it][1])[:1]
     if time.time() < deadline:
         subprocess.run([sys.executable, TOP / "tests" / "build.py", *names], check=False)
@@ -82,7 +82,8 @@ def try_all(named=(), every=False, deadline=float("inf")):
             parts = [(it, at, len(wrong_bodies(it)) // PART + 1) for it in names for at in range(len(wrong_bodies(it)) // PART + 1)]
             runs = {pool.submit(trial, it[0], wrong_bodies(*it), lines, lambda: goes_on[0] and time.time() < deadline): it[0] for it in parts}
             for ran in as_completed(runs):
-                for word, found, so_far in zip(("refused", "failed"), ran.result(), tried[runs[ran]]):
+                results = ({}, {"some of them": f"not tried: {ran.exception()!r}"}) if ran.exception() else ran.result()
+                for word, found, so_far in zip(("refused", "failed"), results, tried[runs[ran]]):
                     so_far.update(found)
                     print("".join(f"{word}: {runs[ran]}/{it}: {why}\n" for it, why in found.items()), end="", flush=True)
         finally:
@@ -101,10 +102,9 @@ def try_all(named=(), every=False, deadline=float("inf")):
 
 def main():
     words = argparse.ArgumentParser(description=__doc__, formatter_class=argparse.RawDescriptionHelpFormatter)
-    words.add_argument("--all", action="store_true")
-    words.add_argument("crates", nargs="*", metavar="CRATE", choices=[it for it in crate_lines() if wrong_bodies(it)])
-    given = words.parse_args()
-    refused, failed = try_all(given.crates, given.all)
+    words.add_argument("--all", action="store_true", dest="every")
+    words.add_argument("named", nargs="*", metavar="CRATE", choices=[[], *(it for it in crate_lines() if wrong_bodies(it))])
+    refused, failed = try_all(**vars(words.parse_args()))
     print(f"{refused} refused, {len(failed)} failed")
     return min(len(failed), 1)
 
