@@ -14,7 +14,9 @@ use std::alloc::Global;
 use std::io::{Read, Write};
 
 /// Runs the lines of the reader in turn on a new keeper over the image, and writes what each prints before the next runs.
-/// The writer is not flushed. So few reads of the image have failed before that those of a script can be counted too.
+/// The writer is flushed before each read and at the end; a flush that fails is a write fault. Where there is no memory for
+/// the keeper nothing is read or written, and so nothing flushed.
+/// So few reads of the image have failed before that those of a script can be counted too.
 pub fn run_script<R: Read, W: Write, I: Image + Drop>(
     alloc: Global,
     config: Config,

@@ -1,5 +1,6 @@
 // From the words of the command line to the status.
-ghost use Rattle.std.specs.Prelude.{◌≡◌, ◌≤◌, ◌<◌, ◌^◌, ◌↔◌, IsSome, is_some};
+ghost use Rattle.std.specs.Prelude.{◌≡◌, ◌≤◌, ◌<◌, ◌^◌, ◌↔◌, IsSome, is_some, IfOk, None};
+ghost use Rattle.base_image.specs.Kinds.{fresh};
 ghost use Rattle.sector_core.specs.Config.{fault_of};
 ghost use Rattle.script_run.specs.declared.ending.ScriptEnd.{ScriptEnd};
 ghost use Rattle.bfqhost.specs.Status.{status_of, IsRefused, IsSimStatus, IsStatus};
@@ -9,8 +10,9 @@ use base_image::{FileImage, Image, ZeroImage};
 use host_options::{Request, WordFault, help_text, request_of};
 use script_run::ScriptEnd;
 use sector_core::{Config, ConfigDraft};
-use std::fs::File;
+use std::fs::{self, File};
 use std::io::{self, BufWriter, ErrorKind, Write};
+use std::os::unix::fs::FileTypeExt;
 use std::rt::{Env, Files};
 use std::{env, fmt};
 
@@ -107,7 +109,7 @@ fn over_file(
 ) -> u8
     ensures { IsStatus result }
 {
-    match File::open(rt, path).and_then(FileImage::from_file) {
+    match file_image(rt, path) {
         Ok(image) => simulate(rt, config, image),
         Err(error) if error.kind() == ErrorKind::OutOfMemory => no_memory(rt),
         Err(_) => {
@@ -115,6 +117,18 @@ fn over_file(
             REFUSED
         }
     }
+}
+
+// The image in a regular file or on a block device. It is looked at before it is opened, since the open of a FIFO waits, and
+// since a character device has no end.
+fn file_image(rt: &impl Files<File = File>, path: &str) -> io::Result<FileImage>
+    ensures { IfOk result (λ image. image ≡ fresh image.sectors None) }
+{
+    let found = fs::metadata(rt, path)?.file_type();
+    if !found.is_file() && !found.is_block_device() {
+        return Err(ErrorKind::InvalidInput.into());
+    }
+    File::open(rt, path).and_then(FileImage::from_file)
 }
 
 fn bad_field(rt: &impl Eprint, field: impl fmt::Display + Drop) -> u8
@@ -131,7 +145,7 @@ fn no_memory(rt: &impl Eprint) -> u8
     NO_MEMORY
 }
 
-// Runs the script over the image, from standard input to standard output, which is flushed at the end.
+// Runs the script over the image, from standard input to standard output.
 fn simulate<I: Image + Drop>(
     rt: &(impl AllocGlobal + Input + Print + Eprint),
     config: Config,
@@ -146,10 +160,7 @@ fn simulate<I: Image + Drop>(
         Err(_) => return no_memory(rt),
     };
     let end = run_script(rt.alloc(), config, &mut rt.reader(), &mut output, image);
-    match output.flush() {
-        Ok(()) => status(rt, end),
-        Err(_) => WRITE_FAULT,
-    }
+    status(rt, end)
 }
 
 fn status(rt: &impl Eprint, end: ScriptEnd) -> u8

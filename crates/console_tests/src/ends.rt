@@ -30,6 +30,9 @@ fn run(alloc: Global, script: &[u8], room: usize) -> Result<(ScriptEnd, Vec<u8>)
         step: 4096,
         room,
         is_silent: false,
+        flushes: 0,
+        flush_fails_at: 0,
+        flushed: 0,
     };
     let end = run_keeper(alloc, &mut reader, &mut writer, &mut teller);
     Ok((end, writer.taken))

@@ -56,13 +56,17 @@ impl Read for Pieces<'_> {
     }
 }
 
-// Takes at most `step` bytes a call, `room` in all, and then fails or takes nothing.
+// Takes at most `step` bytes a call, `room` in all, and then fails or takes nothing. Its flush at the call `flush_fails_at` fails.
 #[derive(Drop)]
 pub struct Narrow {
     pub taken: Vec<u8>,
     pub step: usize,
     pub room: usize,
     pub is_silent: bool,
+    pub flushes: u64,
+    pub flush_fails_at: u64,
+    // How many bytes were taken before the last flush that did not fail.
+    pub flushed: usize,
 }
 
 impl Write for Narrow {
@@ -85,6 +89,11 @@ impl Write for Narrow {
     }
 
     fn flush(&mut self) -> io::Result<()> {
+        self.flushes = self.flushes.wrapping_add(1);
+        if self.flushes == self.flush_fails_at {
+            return Err(ErrorKind::Other.into());
+        }
+        self.flushed = self.taken.len();
         Ok(())
     }
 }

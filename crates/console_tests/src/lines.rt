@@ -21,6 +21,7 @@ struct Given<'a> {
     room: usize,
     is_silent: bool,
     refused: u64,
+    flush_fails_at: u64,
 }
 
 // What became of it.
@@ -30,6 +31,8 @@ struct Ran {
     written: Vec<u8>,
     reads: u64,
     calls: u64,
+    flushes: u64,
+    flushed: usize,
 }
 
 // Nothing fails.
@@ -43,6 +46,7 @@ fn nothing_fails(script: &[u8], step: usize) -> Given<'_> {
         room: 1_000_000,
         is_silent: false,
         refused: 0,
+        flush_fails_at: 0,
     }
 }
 
@@ -59,6 +63,9 @@ fn run(alloc: Global, given: &Given<'_>) -> Ran {
         step: given.takes,
         room: given.room,
         is_silent: given.is_silent,
+        flushes: 0,
+        flush_fails_at: given.flush_fails_at,
+        flushed: 0,
     };
     let mut console = Counter {
         calls: 0,
@@ -67,6 +74,8 @@ fn run(alloc: Global, given: &Given<'_>) -> Ran {
     let end = run_lines(alloc, &mut reader, &mut writer, &mut console);
     Ran {
         end,
+        flushes: writer.flushes,
+        flushed: writer.flushed,
         written: writer.taken,
         reads: reader.calls,
         calls: console.calls,
@@ -204,6 +213,67 @@ fn writes_fail(rt: HostRuntime) {
             assert!(rt; text.starts_with(ran.written.as_slice()));
             assert_eq!(rt; ran.calls, 1);
         }
+    }
+}
+
+// Each end: what the run is given besides its script, how it ends, and how many reads it makes.
+fn ends<'a>(script: &'a [u8]) -> [(Given<'a>, ScriptEnd, u64); 5] {
+    let given = nothing_fails(script, 7);
+    let mut read_fails = given;
+    read_fails.fails_at = 2;
+    let mut write_fails = given;
+    write_fails.room = 3;
+    let mut memory_ends = given;
+    memory_ends.refused = 2;
+    let mut is_bad = given;
+    is_bad.script = b"hold\nhold 1\nhold\n";
+    [
+        (given, ScriptEnd::Done, 4),
+        (is_bad, ScriptEnd::BadLine(2), 2),
+        (read_fails, ScriptEnd::ReadFault, 2),
+        (write_fails, ScriptEnd::WriteFault, 1),
+        (memory_ends, ScriptEnd::OutOfMemory, 2),
+    ]
+}
+
+// Before each read and at each end there is a flush, and at the end nothing is left that was not flushed.
+#[test]
+fn flushed_before_each_read_and_at_each_end(rt: HostRuntime) {
+    for (given, end, reads) in ends(b"hold\nhold\nhold\nhold\n").iter() {
+        let ran = run(rt.alloc(), given);
+        assert_eq!(rt; ran.end, *end);
+        assert_eq!(rt; ran.reads, *reads);
+        assert_eq!(rt; ran.flushes, reads.wrapping_add(1));
+        assert_eq!(rt; ran.flushed, ran.written.len());
+    }
+}
+
+// The flush at the end fails: a write fault, whatever else ended the run, and what was written stays.
+#[test]
+fn last_flush_fails(rt: HostRuntime) {
+    for (given, _, reads) in ends(b"hold\nhold\nhold\nhold\n").iter() {
+        let whole = run(rt.alloc(), given);
+        let mut fails = *given;
+        fails.flush_fails_at = reads.wrapping_add(1);
+        let ran = run(rt.alloc(), &fails);
+        assert_eq!(rt; ran.end, ScriptEnd::WriteFault);
+        assert_eq!(rt; ran.written, whole.written);
+        assert_eq!(rt; ran.reads, *reads);
+    }
+}
+
+// The flush before the read of this number fails: the lines that were whole by then have run, nothing more is read, and no
+// line runs after it.
+#[test]
+fn flushes_fail(rt: HostRuntime) {
+    for (fails_at, calls) in [(1, 0), (2, 0), (6, 1), (7, 1), (12, 2), (16, 2), (17, 3)] {
+        let mut given = nothing_fails(b"hold\n\nhold\nhold", 1);
+        given.flush_fails_at = fails_at;
+        let ran = run(rt.alloc(), &given);
+        assert_eq!(rt; ran.end, ScriptEnd::WriteFault);
+        assert_eq!(rt; ran.reads.wrapping_add(1), fails_at);
+        assert_eq!(rt; ran.calls, calls);
+        assert_eq!(rt; ran.written.len() as u64, ran.calls.wrapping_mul(7));
     }
 }
 

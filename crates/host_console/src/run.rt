@@ -9,7 +9,7 @@ use std::alloc::Global;
 use std::io::{Read, Write};
 
 /// Runs the lines of the reader in turn at the keeper over its image, and writes what each prints before the next runs.
-/// The writer is not flushed: whoever gave it does that.
+/// The writer is flushed before each read and at the end; a flush that fails is a write fault.
 pub fn run_keeper<R: Read, W: Write, K: Keeps, I: Image>(
     alloc: Global,
     reader: &mut R,

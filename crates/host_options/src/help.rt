@@ -47,6 +47,48 @@ SCRIPT: one call a line, words joined by one space; an empty line or one that be
     vtime GROUP                          entity NUMBER
     line
 
+REFUSALS: what 'refused N' says; nothing has changed
+     1 BadSeat: seats are numbered 0 to 15
+     2 SeatTaken: a session sits at this seat, or has left it with a request that is not finished
+     3 NoSession: nobody sits at this seat, or whoever did has left
+     4 StaleSession: another session sits at this seat
+     5 NoGroup: there is no such group; perhaps it was dropped, or its making undone
+     6 RootGroup: group 0 is the root, which is neither dropped nor given a weight
+     7 BadWeight: a weight is 1 to 1000
+     8 BadPrio: a priority is 0 to 7
+     9 TooDeep: groups stand at most four levels under the root
+    10 GroupsFull: there are 32 groups with the root, which is the most
+    11 GroupInUse: a session or another group is in this group
+    12 BadCount: a read or a write has 1 to 64 sectors
+    13 BadLength: a write has 512 bytes for each sector, and a read none; no line of a script breaks this
+    14 OutOfRange: the sectors end past the end of the device
+    15 TooManyBios: the session has 32 reads and writes that are not reaped; reap one first
+    16 NothingOwed: the session has got the results of all that it asked for
+    17 NothingQueued: no request waits to be sent
+    18 NoTag: every tag bears a request in flight; one must be finished or given back first
+    19 BadTag: tags are numbered from 0, and are as many as --tags says
+    20 NotInFlight: no request is in flight under this tag and issue; perhaps it was undone or has been finished
+    21 BadOutcome: a write can only be stored, and a read only be filled or fail
+    22 AlreadyFrozen: the host is frozen already
+    23 NotFrozen: the host is not frozen; freeze it first
+    24 NotDrained: a request is still queued, in flight or given back by the device
+    25 SameScheduler: the host has this scheduler already
+    26 NoneInService: no queue is in service that could grow older
+    27 VtimeFull: a virtual time would pass 2^62
+    28 NotHeld: the host is not held; hold it first
+    29 AlreadyHeld: the host is held already
+    30 ZeroCount: undo and redo take at least one step
+    31 NothingToUndo: fewer steps stand than are to be undone
+    32 NothingToRedo: fewer steps are undone than are to be redone
+    33 HistoryFull: the journal has as many accepted calls as --history allows
+    34 OutOfMemory: there was no memory for this call
+
+CAUSES: what 'notyet N' says; nothing has changed, and the same line may be accepted later
+    41 Held: the host is held; it takes no step until it is released
+    42 Frozen: the host is frozen; it takes no read or write until it is thawed
+    43 RequestsFull: as many requests stand as --nr-requests allows, and this read or write joins none
+    44 NotCompleted: no result is there yet; a read or write of the session is still on its way
+
 EXIT STATUS
     0 end of input    2 bad line    3 read fault    4 write fault    5 no memory
     6 bad words, configuration or image

@@ -16,6 +16,17 @@ Appends-more (Some xs) None c x y h k = absurd h
 Appends-more (Some xs) (Some ys) None x y h k = absurd k
 Appends-more (Some xs) (Some ys) (Some zs) x y h k = k ∙ ap (λ l. l ++ y) h ∙ append_assoc xs x y
 
+-- a flush keeps what was written
+pub Appends-kept : (a b c : Known) (x : List ℕ) → Appends a b x → Keeps b c → Appends a c x
+Appends-kept None b c x h k = tt
+Appends-kept (Some xs) None c x h k = absurd h
+Appends-kept (Some xs) (Some ys) None x h k = absurd k
+Appends-kept (Some xs) (Some ys) (Some zs) x h k = k ∙ h
+
+pub Keeps-same : (w : Known) → Keeps w w
+Keeps-same None = tt
+Keeps-same (Some xs) = refl
+
 pub Consumes-none : (r : Known) → Consumes r r []
 Consumes-none None = tt
 Consumes-none (Some xs) = refl

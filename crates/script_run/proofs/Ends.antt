@@ -2,11 +2,11 @@
 use Rattle.std.proofs.Common.{◌≡◌, ℕ, ◌+◌, ◌<◌, ◌≤◌, List, [], ◌∷◌, ◌++◌, length, refl, sym, ap, subst, ◌∙◌, append_assoc, append-nil, length-append, arith, inl, inr}
 use Rattle.std.specs.Io.KnownBytes.{Appends, Consumes, Keeps, IsAtEnd}
 use Rattle.script_line.specs.declared.line.Line.{Line}
-use Rattle.script_run.specs.Script.{Known, IsLine, IsSilent, IsBad, IsWhole, IsNext, IsBadNext, Step, MayHaveRun, ended, bad_text, IsEnd, too_many, too_long, no_line}
-use Rattle.script_run.specs.Steps.{IsCut, IsBadEnd, SoFar, OneMore}
+use Rattle.script_run.specs.Script.{Known, IsLine, IsSilent, IsBad, IsWhole, IsNext, IsBadNext, Step, MayHaveRun, ended, bad_text, EndsBy, IsEnd, too_many, too_long, no_line}
+use Rattle.script_run.specs.Steps.{IsCut, IsBadEnd, IsReadEnd, SoFar, OneMore}
 use Rattle.script_run.specs.declared.ending.ScriptEnd.{ScriptEnd}
 use Rattle.script_run.specs.declared.ending.ScriptEnd.TheVariants.{Done, BadLine, ReadFault, WriteFault, OutOfMemory}
-use Rattle.script_run.proofs.Bytes.{Appends-none, Appends-more, Consumes-none, Consumes-more, Consumes-kept, All-push, ended-push, Runs-push}
+use Rattle.script_run.proofs.Bytes.{Appends-none, Appends-more, Consumes-none, Consumes-more, Consumes-kept, Appends-kept, All-push, ended-push, Runs-push}
 
 -- the line that has begun is the next, once it is whole
 pub is_next : {C : Type 0} (prints : C → Line → List ℕ → C → Type 0) (r0 r1 w0 w1 : Known) (c0 c1 : C) (count : ℕ) (line after : List ℕ)
@@ -31,10 +31,9 @@ stops_write {C} prints r0 r1 w0 w1 w2 c0 c1 c2 count line after text s room whol
       each = s.each;
       few = omega arith;
       runs = s.runs;
-      ends = (
+      ends = inr (
         cut.0,
         cut.1,
-        cut.2,
         Appends-more w0 w1 w2 s.text cut.0 s.wrote cut.4,
         inl (line, is_next prints r0 r1 w0 w1 c0 c1 count line after s room whole, subst P cut.3 step),
       );
@@ -88,7 +87,7 @@ stops_bad prints r0 r1 w0 w1 w2 c0 c1 c2 count begun waiting s bad same WriteFau
       each = s.each;
       few = omega arith;
       runs = s.runs;
-      ends = (h.0, h.1, h.2, Appends-more w0 w1 w2 s.text h.0 s.wrote h.4, inr (bad, sym h.3 ∙ ap bad_text number, same));
+      ends = inr (h.0, h.1, Appends-more w0 w1 w2 s.text h.0 s.wrote h.4, inr (bad, sym h.3 ∙ ap bad_text number, same));
     }
 stops_bad prints r0 r1 w0 w1 w2 c0 c1 c2 count begun waiting s bad same OutOfMemory h =
     let counted = s.counted in
@@ -222,11 +221,14 @@ stops_memory prints r0 r1 w0 w1 c0 c1 c2 count line after s room whole some may 
       );
     }
 
--- a read failed
-pub stops_read : {C : Type 0} (prints : C → Line → List ℕ → C → Type 0) (r0 r1 r2 w0 w1 : Known) (c0 c1 : C) (count : ℕ) (begun : List ℕ)
-    → SoFar prints r0 r1 w0 w1 c0 c1 count begun [] → Keeps r1 r2 → IsEnd prints r0 r2 w0 w1 c0 c1 ReadFault
-stops_read prints r0 r1 r2 w0 w1 c0 c1 count begun s kept =
+-- the flush before a read failed, or the read
+pub stops_read : {C : Type 0} (prints : C → Line → List ℕ → C → Type 0) (r0 r1 r2 w0 w1 w2 : Known) (c0 c1 : C) (count : ℕ) (begun : List ℕ)
+    → SoFar prints r0 r1 w0 w1 c0 c1 count begun [] → Keeps r1 r2 → Keeps w1 w2
+    → (why : ScriptEnd) → IsReadEnd why → IsEnd prints r0 r2 w0 w2 c0 c1 why
+stops_read {C} prints r0 r1 r2 w0 w1 w2 c0 c1 count begun s kept wrote why is =
     let R : List ℕ → Type 0 = λ bytes. Consumes r0 r1 (ended s.lines ++ bytes) in
+    let E : ScriptEnd → Type 0 = λ end. EndsBy prints r2 w0 w2 s.lines s.text begun c1 c1 end in
+    let same : Appends w0 w2 s.text = Appends-kept w0 w1 w2 s.text s.wrote wrote in
     let counted = s.counted in
     let few = s.few in
     record {
@@ -238,13 +240,93 @@ stops_read prints r0 r1 r2 w0 w1 c0 c1 count begun s kept =
       each = s.each;
       few = omega arith;
       runs = s.runs;
-      ends = (s.is_line, (λ h. let room = s.room h in omega arith), s.wrote, refl);
+      ends = elim is [
+        | inl flush ↦ subst E (sym flush) (inl (same, refl))
+        | inr read ↦ subst E (sym read) (s.is_line, (λ h. let room = s.room h in omega arith), same, refl)
+      ];
     }
 
--- a piece was read
-pub fed : {C : Type 0} (prints : C → Line → List ℕ → C → Type 0) (r0 r1 r2 w0 w1 : Known) (c0 c1 : C) (count : ℕ) (begun piece : List ℕ)
-    → SoFar prints r0 r1 w0 w1 c0 c1 count begun [] → Consumes r1 r2 piece → SoFar prints r0 r2 w0 w1 c0 c1 count begun piece
-fed prints r0 r1 r2 w0 w1 c0 c1 count begun piece s more =
+-- a flush keeps how the run ended
+ends_kept : {C : Type 0} (prints : C → Line → List ℕ → C → Type 0) (left w0 w1 w2 : Known) (lines : List (List ℕ)) (text rest : List ℕ) (last now : C)
+    → Keeps w1 w2 → (why : ScriptEnd) → EndsBy prints left w0 w1 lines text rest last now why → EndsBy prints left w0 w2 lines text rest last now why
+ends_kept prints left w0 w1 w2 lines text rest last now kept Done h = (
+  h.0,
+  elim h.1 [
+    | inl none ↦ inl (none.0, Appends-kept w0 w1 w2 text none.1 kept, none.2)
+    | inr ran ↦ inr (ran.0, ran.1, ran.2, Appends-kept w0 w1 w2 (text ++ ran.0) ran.3 kept)
+  ],
+)
+ends_kept prints left w0 w1 w2 lines text rest last now kept (BadLine n) h =
+    (h.0, h.1, Appends-kept w0 w1 w2 (text ++ bad_text n) h.2 kept, h.3)
+ends_kept prints left w0 w1 w2 lines text rest last now kept ReadFault h =
+    (h.0, h.1, Appends-kept w0 w1 w2 text h.2 kept, h.3)
+ends_kept prints left w0 w1 w2 lines text rest last now kept WriteFault h = elim h [
+  | inl none ↦ inl (Appends-kept w0 w1 w2 text none.0 kept, none.1)
+  | inr front ↦ inr (front.0, front.1, Appends-kept w0 w1 w2 (text ++ front.0) front.2 kept, front.3)
+]
+ends_kept prints left w0 w1 w2 lines text rest last now kept OutOfMemory h =
+    (h.0, Appends-kept w0 w1 w2 text h.1 kept, h.2)
+
+-- a flush that fails makes a write fault of any end
+ends_unflushed : {C : Type 0} (prints : C → Line → List ℕ → C → Type 0) (left w0 w1 w2 : Known) (lines : List (List ℕ)) (text rest : List ℕ) (last now : C)
+    → Keeps w1 w2 → (why : ScriptEnd) → EndsBy prints left w0 w1 lines text rest last now why → EndsBy prints left w0 w2 lines text rest last now WriteFault
+ends_unflushed prints left w0 w1 w2 lines text rest last now kept Done h =
+    let P : List ℕ → Type 0 = λ t. Step prints last rest t now in
+    elim h.1 [
+      | inl none ↦ inl (Appends-kept w0 w1 w2 text none.1 kept, none.2)
+      | inr ran ↦ inr (
+        ran.0,
+        [],
+        Appends-kept w0 w1 w2 (text ++ ran.0) ran.3 kept,
+        inl (rest, ran.1, subst P (sym (append-nil ran.0)) ran.2),
+      )
+    ]
+ends_unflushed prints left w0 w1 w2 lines text rest last now kept (BadLine n) h =
+    inr (bad_text n, [], Appends-kept w0 w1 w2 (text ++ bad_text n) h.2 kept, inr (h.1, append-nil (bad_text n) ∙ ap bad_text h.0, h.3))
+ends_unflushed prints left w0 w1 w2 lines text rest last now kept ReadFault h =
+    inl (Appends-kept w0 w1 w2 text h.2 kept, h.3)
+ends_unflushed prints left w0 w1 w2 lines text rest last now kept WriteFault h =
+    ends_kept prints left w0 w1 w2 lines text rest last now kept WriteFault h
+ends_unflushed prints left w0 w1 w2 lines text rest last now kept OutOfMemory h =
+    let P : List ℕ → Type 0 = λ t. Appends w0 w2 t in
+    let wrote : Appends w0 w2 text = Appends-kept w0 w1 w2 text h.1 kept in
+    elim h.2 [
+      | inl same ↦ inl (wrote, same)
+      | inr ran ↦ inr ([], ran.1, subst P (sym (append-nil text)) wrote, inl (ran.0, ran.2, ran.3))
+    ]
+
+pub flushed : {C : Type 0} (prints : C → Line → List ℕ → C → Type 0) (r0 r1 w0 w1 w2 : Known) (c0 c1 : C) (why : ScriptEnd)
+    → IsEnd prints r0 r1 w0 w1 c0 c1 why → Keeps w1 w2 → IsEnd prints r0 r1 w0 w2 c0 c1 why
+flushed prints r0 r1 w0 w1 w2 c0 c1 why end kept = record {
+  lines = end.lines;
+  text = end.text;
+  rest = end.rest;
+  last = end.last;
+  read = end.read;
+  each = end.each;
+  few = end.few;
+  runs = end.runs;
+  ends = ends_kept prints r1 w0 w1 w2 end.lines end.text end.rest end.last c1 kept why end.ends;
+}
+
+pub unflushed : {C : Type 0} (prints : C → Line → List ℕ → C → Type 0) (r0 r1 w0 w1 w2 : Known) (c0 c1 : C) (why : ScriptEnd)
+    → IsEnd prints r0 r1 w0 w1 c0 c1 why → Keeps w1 w2 → IsEnd prints r0 r1 w0 w2 c0 c1 WriteFault
+unflushed prints r0 r1 w0 w1 w2 c0 c1 why end kept = record {
+  lines = end.lines;
+  text = end.text;
+  rest = end.rest;
+  last = end.last;
+  read = end.read;
+  each = end.each;
+  few = end.few;
+  runs = end.runs;
+  ends = ends_unflushed prints r1 w0 w1 w2 end.lines end.text end.rest end.last c1 kept why end.ends;
+}
+
+-- a piece was read, after a flush
+pub fed : {C : Type 0} (prints : C → Line → List ℕ → C → Type 0) (r0 r1 r2 w0 w1 w2 : Known) (c0 c1 : C) (count : ℕ) (begun piece : List ℕ)
+    → SoFar prints r0 r1 w0 w1 c0 c1 count begun [] → Keeps w1 w2 → Consumes r1 r2 piece → SoFar prints r0 r2 w0 w2 c0 c1 count begun piece
+fed prints r0 r1 r2 w0 w1 w2 c0 c1 count begun piece s kept more =
     let R : List ℕ → Type 0 = λ bytes. Consumes r0 r1 (ended s.lines ++ bytes) in
     let Q : List ℕ → Type 0 = λ bytes. Consumes r0 r2 bytes in
     record {
@@ -258,7 +340,7 @@ fed prints r0 r1 r2 w0 w1 c0 c1 count begun piece s more =
       is_line = s.is_line;
       room = s.room;
       runs = s.runs;
-      wrote = s.wrote;
+      wrote = Appends-kept w0 w1 w2 s.text s.wrote kept;
     }
 
 -- nothing is read or written yet

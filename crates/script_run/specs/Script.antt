@@ -95,11 +95,12 @@ EndsBy prints left w0 w1 lines text rest last now (BadLine n) =
 -- the bytes after the lines are no whole line yet
 EndsBy prints left w0 w1 lines text rest last now ReadFault =
     IsLine rest × (0 < length rest → length lines < most_lines) × Appends w0 w1 text × (now ≡ last)
--- of what the next line prints, only a front is written
+-- a write or a flush failed: nothing of the next line is written and it did not run, or a front of what it prints, which may be all
 EndsBy prints left w0 w1 lines text rest last now WriteFault =
-    (front : List ℕ) × (unwritten : List ℕ) × (0 < length unwritten) × Appends w0 w1 (text ++ front)
+    (Appends w0 w1 text × (now ≡ last))
+    ⊎ ((front : List ℕ) × (unwritten : List ℕ) × Appends w0 w1 (text ++ front)
     × (((line : List ℕ) × IsNext left lines rest line × Step prints last line (front ++ unwritten) now)
-    ⊎ (IsBadNext left lines rest × (front ++ unwritten ≡ bad_text (length lines + 1)) × (now ≡ last)))
+    ⊎ (IsBadNext left lines rest × (front ++ unwritten ≡ bad_text (length lines + 1)) × (now ≡ last))))
 -- a next line is there, of which nothing is written, and the console is as the lines left it, or as the next line may leave it
 EndsBy prints left w0 w1 lines text rest last now OutOfMemory =
     (0 < length rest) × Appends w0 w1 text

@@ -1,5 +1,5 @@
 -- What each part of a run does.
-use Rattle.std.specs.Prelude.{◌≡◌, ℕ, ◌+◌, ◌<◌, ◌≤◌, List, ◌++◌, length, Bool, true, false}
+use Rattle.std.specs.Prelude.{◌≡◌, ℕ, ◌+◌, ◌<◌, ◌≤◌, List, ◌++◌, length, Bool, true, false, ◌⊎◌}
 use Rattle.std.specs.List.{AllByRecursion}
 use Rattle.std.specs.Io.KnownBytes.{Appends, Consumes}
 use Rattle.script_line.specs.declared.line.Line.{Line}
@@ -41,6 +41,10 @@ IsLastEnd (BadLine n) = Unit {0}
 IsLastEnd ReadFault = ⊥
 IsLastEnd WriteFault = Unit {0}
 IsLastEnd OutOfMemory = Unit {0}
+
+-- what can end a run before a read: a fault of the writer, where the read is not made, or of the reader
+abbrev pub IsReadEnd : ScriptEnd → Type 0
+IsReadEnd why = (why ≡ WriteFault) ⊎ (why ≡ ReadFault)
 
 -- a line ran, or is bad, or there was no memory for what it prints, and then it may have run
 abbrev pub HasRun : {C : Type 0} → (C → Line → List ℕ → C → Type 0) → List ℕ → C → List ℕ → C → Ran → Type 0

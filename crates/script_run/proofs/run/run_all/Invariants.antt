@@ -1,6 +1,6 @@
 use Rattle.std.proofs.Common.{◌+◌, ◌*◌, ◌-◌, [], length}
 use Rattle.script_run.specs.Steps.{SoFar}
-use Rattle.script_run.proofs.run.run_lines.Given as goal
+use Rattle.script_run.proofs.run.run_all.Given as goal
 
 abbrev pub invariant-loop-count : goal.invariant-loop-count
 invariant-loop-count g l = SoFar g.C.Console.prints
