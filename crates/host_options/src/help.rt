@@ -57,37 +57,37 @@ REFUSALS: what 'refused N' says; nothing has changed
      7 BadWeight: a weight is 1 to 1000
      8 BadPrio: a priority is 0 to 7
      9 TooDeep: groups stand at most four levels under the root
-    10 GroupsFull: there are 32 groups with the root, which is the most
-    11 GroupInUse: a session or another group is in this group
+    10 GroupsFull: there are 32 groups, the root among them, and there can be no more
+    11 GroupInUse: another group is in this group, or a session, even one that has left with a request that is not finished
     12 BadCount: a read or a write has 1 to 64 sectors
-    13 BadLength: a write has 512 bytes for each sector, and a read none; no line of a script breaks this
-    14 OutOfRange: the sectors end past the end of the device
+    13 BadLength: a write brings 512 bytes for each sector, and a read none; no line of a script breaks this
+    14 OutOfRange: the last of these sectors is past the end of the device
     15 TooManyBios: the session has 32 reads and writes that are not reaped; reap one first
-    16 NothingOwed: the session has got the results of all that it asked for
+    16 NothingOwed: the session has no result to come: it has reaped one for each read and write, if it made any
     17 NothingQueued: no request waits to be sent
     18 NoTag: every tag bears a request in flight; one must be finished or given back first
     19 BadTag: tags are numbered from 0, and are as many as --tags says
     20 NotInFlight: no request is in flight under this tag and issue; perhaps it was undone or has been finished
-    21 BadOutcome: a write can only be stored, and a read only be filled or fail
+    21 BadOutcome: a write is finished by stored alone, and a read by fill, short or fault
     22 AlreadyFrozen: the host is frozen already
-    23 NotFrozen: the host is not frozen; freeze it first
+    23 NotFrozen: the host is not frozen; thaw and switch want a frozen host
     24 NotDrained: a request is still queued, in flight or given back by the device
     25 SameScheduler: the host has this scheduler already
-    26 NoneInService: no queue is in service that could grow older
+    26 NoneInService: no queue is in service that could grow older; under the scheduler none there never is one
     27 VtimeFull: a virtual time would pass 2^62
-    28 NotHeld: the host is not held; hold it first
+    28 NotHeld: the host is not held; release, undo and redo want a held host
     29 AlreadyHeld: the host is held already
     30 ZeroCount: undo and redo take at least one step
     31 NothingToUndo: fewer steps stand than are to be undone
-    32 NothingToRedo: fewer steps are undone than are to be redone
-    33 HistoryFull: the journal has as many accepted calls as --history allows
+    32 NothingToRedo: fewer undone steps are left than are to be redone; a new step drops all that are left
+    33 HistoryFull: the journal has as many accepted calls as --history allows; going back makes no room
     34 OutOfMemory: there was no memory for this call
 
 CAUSES: what 'notyet N' says; nothing has changed, and the same line may be accepted later
-    41 Held: the host is held; it takes no step until it is released
-    42 Frozen: the host is frozen; it takes no read or write until it is thawed
-    43 RequestsFull: as many requests stand as --nr-requests allows, and this read or write joins none
-    44 NotCompleted: no result is there yet; a read or write of the session is still on its way
+    41 Held: the host is held; it takes no step, a completion neither, until it is released
+    42 Frozen: the host is frozen; it takes no new read or write until it is thawed
+    43 RequestsFull: there are as many requests as --nr-requests allows, and this read or write joins none of them
+    44 NotCompleted: of the reads and writes that the session has not reaped, none is finished yet
 
 EXIT STATUS
     0 end of input    2 bad line    3 read fault    4 write fault    5 no memory
