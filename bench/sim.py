@@ -1,7 +1,7 @@
 #!/usr/bin/env python3
 """Time and memory of `bfqhost sim`, for each accepted call.
 
-    python3 bench/sim.py [WORKLOAD]...
+    python3 bench/sim.py [--against PROGRAM] [WORKLOAD]...
 
 There are five workloads, each of cycles after an opening, over 1,024 sectors of zeros but for the last. With no
 workload named all are run.
@@ -25,8 +25,13 @@ shown beside it, where there is a `dd`.
 Each figure is the median of 25 rounds, in user plus system time of the process, with that of an empty script of the
 same round taken off. Peak memory is that of the process, by getrusage, with that of an empty script taken off. Beside
 each figure that has a bound stands the bound, and the status is 1 where one is not kept.
+
+With `--against` another build of the program runs in the same rounds, and this one runs twice in each. The time per call of
+60,000 calls is divided by that of the other build. Beside it stands the ratio of this build to itself, that is, of its two
+times the longer divided by the shorter. The bound of 1.05 is kept too where the first ratio is not above the second.
 """
 
+import argparse
 import ctypes
 import os
 import resource
@@ -54,6 +59,7 @@ MOST_GROWTH = 1.3
 MOST_UNDO = 0.5
 MOST_BYTES_PER_CALL = 1024
 MOST_AGAINST_NONE = 3
+MOST_AGAINST_OTHER = 1.05
 
 # The image that is read, and how many of its blocks of 8 sectors lie between one read and the next: all come once.
 IMAGE_BYTES = 64 << 20
@@ -200,13 +206,18 @@ class Workload(namedtuple("Workload", FIELDS)):
             "redone": undone + [(f"redo {back}", f"moved {length} {length}")],
         }
 
-    def runs(self):
-        """The scheduler and the script of each run to be timed, by name."""
-        scripts = self.scripts()
-        runs = {name: (self.scheduler, pairs) for name, pairs in scripts.items()}
+    def runs(self, against):
+        """The program, the scheduler and the script of each run to be timed, by name. Those that are to be compared with another
+        build's stand side by side."""
+        scripts, runs = self.scripts(), {}
+        for name, pairs in scripts.items():
+            runs[name] = (PROGRAM, self.scheduler, pairs)
+            if against is not None and name in ("empty", "many"):
+                runs[f"{name}, again"] = (PROGRAM, self.scheduler, pairs)
+                runs[f"{name}, against"] = (against, self.scheduler, pairs)
         if self.most_against_none is not None:
-            runs["empty, none"] = ("none", scripts["empty"])
-            runs["many, none"] = ("none", scripts["many"])
+            runs["empty, none"] = (PROGRAM, "none", scripts["empty"])
+            runs["many, none"] = (PROGRAM, "none", scripts["many"])
         return runs
 
 
@@ -221,7 +232,7 @@ WORKLOADS = [
 ]
 
 
-def spent(words, path):
+def spent(program, words, path):
     """Seconds of user plus system time and KiB of peak memory of one run on a script.
 
     A process that Python starts counts Python's own memory in its peak. So a shell starts the program and ends, and
@@ -230,7 +241,7 @@ def spent(words, path):
     """
     shell = 'exec 3<&0; { read -r go <&3; exec 3<&-; exec "$@" <"$script"; } >/dev/null & echo $!'
     started = subprocess.Popen(
-        ["/bin/sh", "-c", shell, "sh", PROGRAM, *words],
+        ["/bin/sh", "-c", shell, "sh", program, *words],
         env={**os.environ, "script": path}, stdin=subprocess.PIPE, stdout=subprocess.PIPE)
     pid = int(started.stdout.read())
     if started.wait() != 0:
@@ -269,15 +280,15 @@ def in_any_order(lines):
     return ordered
 
 
-def check(words, path, wanted):
+def check(program, words, path, wanted):
     """Stops unless the script's output is as wanted: a call that is refused would cost less."""
     with open(path, "rb") as script:
-        run = subprocess.run([PROGRAM, *words], stdin=script, stdout=subprocess.PIPE)
+        run = subprocess.run([program, *words], stdin=script, stdout=subprocess.PIPE)
     if run.returncode != 0:
-        sys.exit(f"bench: the program did not end well as {' '.join(words)}")
+        sys.exit(f"bench: {program} did not end well as {' '.join(words)}")
     # The last line has its end too, so nothing stands behind it.
     if in_any_order(run.stdout.decode().split("\n")) != in_any_order([*wanted, ""]):
-        sys.exit("bench: the program's answers are not those of accepted calls")
+        sys.exit(f"bench: the answers of {program} are not those of accepted calls")
 
 
 class Rounds:
@@ -293,16 +304,16 @@ class Rounds:
             if has_image:
                 with open(image, "wb") as file:
                     file.writelines(image_bytes())
-            words = {name: [*WORDS, scheduler, *over] for name, (scheduler, _) in runs.items()}
-            for name, (_, pairs) in runs.items():
+            words = {name: [*WORDS, scheduler, *over] for name, (_, scheduler, _) in runs.items()}
+            for name, (program, _, pairs) in runs.items():
                 path = os.path.join(folder, name)
                 with open(path, "w") as script:
                     script.writelines(line + "\n" for line, _ in pairs)
-                check(words[name], path, [printed for _, printed in pairs])
+                check(program, words[name], path, [printed for _, printed in pairs])
             # One round after the other, so that a slow moment of the machine meets all scripts alike.
             for _ in range(RUNS):
-                for name in runs:
-                    time, peak = spent(words[name], os.path.join(folder, name))
+                for name, (program, _, _) in runs.items():
+                    time, peak = spent(program, words[name], os.path.join(folder, name))
                     self.seconds[name].append(time)
                     self.peaks[name].append(peak)
                 if has_image and shutil.which("dd"):
@@ -315,8 +326,8 @@ class Rounds:
         """How much longer one script takes than another, both in the same round."""
         return statistics.median(time - less for time, less in zip(self.seconds[name], self.seconds[other]))
 
-    def per_call(self, name, calls):
-        return self.between(name, "empty") / calls
+    def per_call(self, name, calls, empty="empty"):
+        return self.between(name, empty) / calls
 
     def bytes_per_call(self, name, calls):
         return (self.peak(name) - self.peak("empty")) * 1024 / calls
@@ -327,12 +338,23 @@ def show(what, measured, bound, is_kept):
     return is_kept
 
 
-def run(workload):
+def compare(rounds, opening, many):
+    """Prints what a call takes by this build, by it again, and by the other one. Gives whether the bound is kept."""
+    first, again, other = (rounds.per_call(f"many{build}", opening + many, f"empty{build}")
+                           for build in ("", ", again", ", against"))
+    ratio, own = first / other, max(first / again, again / first)
+    print(f"{many:>7,} calls: {first * 1e6:6.3f} us, again {again * 1e6:6.3f} us, {other * 1e6:6.3f} us by the other build; "
+          f"this build to itself: {own:.3f}")
+    bound = max(MOST_AGAINST_OTHER, own)
+    return show("time per call against the other build", f"{ratio:.3f}", f"at most {bound:.3f}", ratio <= bound)
+
+
+def run(workload, against):
     """Measures one workload and prints its figures. Gives whether each bound is kept."""
     few, many, back = workload.whole(FEW), workload.whole(MANY), workload.whole(BACK)
     opening = len(workload.opening)
     payload = workload.payload_sectors * SECTOR_BYTES / workload.calls
-    rounds = Rounds(workload.runs(), workload.has_image)
+    rounds = Rounds(workload.runs(against), workload.has_image)
 
     start = statistics.median(rounds.seconds["empty"])
     print(f"{workload.name}: medians of {RUNS} runs; start of the process: {start * 1e3:.2f} ms, {rounds.peak('empty'):.0f} KiB")
@@ -362,19 +384,28 @@ def run(workload):
         beyond = rounds.bytes_per_call("many", opening + many) - payload
         kept.append(show("peak memory per call beyond payload", f"{beyond:.0f} bytes", f"at most {workload.most_bytes}",
                          beyond <= workload.most_bytes))
+    if against is not None:
+        kept.append(compare(rounds, opening, many))
     return all(kept)
 
 
 def main():
     names = [workload.name for workload in WORKLOADS]
-    wanted = sys.argv[1:] or names
+    words = argparse.ArgumentParser(description=__doc__, formatter_class=argparse.RawDescriptionHelpFormatter)
+    words.add_argument("--against", metavar="PROGRAM")
+    words.add_argument("workloads", nargs="*", metavar="WORKLOAD")
+    given = words.parse_args()
+    wanted = given.workloads or names
     if not set(wanted) <= set(names):
         sys.exit(f"bench: the workloads are {', '.join(repr(name) for name in names)}")
     if not os.path.exists(PROGRAM):
         sys.exit("bench: no program; ./bfqhost --help builds it")
+    against = given.against and os.path.abspath(given.against)
+    if against and not os.access(against, os.X_OK):
+        sys.exit(f"bench: no program {against}")
     if ctypes.CDLL(None).prctl(PR_SET_CHILD_SUBREAPER, 1, 0, 0, 0) != 0:
         sys.exit("bench: no prctl")
-    kept = [run(workload) for workload in WORKLOADS if workload.name in wanted]
+    kept = [run(workload, against) for workload in WORKLOADS if workload.name in wanted]
     return 0 if all(kept) else 1
 
 

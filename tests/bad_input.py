@@ -41,8 +41,12 @@ class Case:
     has: Optional[list] = None
     # Standard input is a directory, so that the first read fails.
     reads_directory: bool = False
-    # Standard output is /dev/full, so that a write of what is left fails.
+    # Standard output is /dev/full, so that each write fails.
     writes_to_full: bool = False
+
+
+class Skipped(Exception):
+    """What a run needs cannot be had here."""
 
 
 def bad_line(name, line):
@@ -169,6 +173,20 @@ BAD_LINES = [
     Case("bad line: the one after 1,048,576 lines", SIM, 1_048_577 * b"\n", b"bad line 1048577\n", b"", BAD_LINE),
 ]
 
+# The input is read in pieces of at most 4,096 bytes, which are 512 lines of 8.
+QUEUE = b"queue 0\n"
+NO_QUEUE = b"queue none\n"
+BAD_LINES += [
+    Case("bad line: after 400 lines of its piece", SIM, 400 * QUEUE + b"queue\n" + 9 * QUEUE, 400 * NO_QUEUE + b"bad line 401\n",
+         b"", BAD_LINE),
+    Case("bad line: the first of the second piece", SIM, 512 * QUEUE + b"queue\n" + 9 * QUEUE, 512 * NO_QUEUE + b"bad line 513\n",
+         b"", BAD_LINE),
+    Case("bad line: across two pieces", SIM, 511 * QUEUE + b"queue 0 and more\n" + 9 * QUEUE, 511 * NO_QUEUE + b"bad line 512\n",
+         b"", BAD_LINE),
+    Case("bad line: byte 257 is the first of a piece", SIM, 480 * QUEUE + b"#" + 256 * b"x", 480 * NO_QUEUE + b"bad line 481\n",
+         b"", BAD_LINE),
+]
+
 # Lines that are nearly good. The name of each is the line.
 BAD_LINES += [bad_line(repr(line)[2:-1], line) for line in [
     b"hold ", b" hold", b"Hold", b"hold\r", b"hol", b"holds", b"undo ", b"undo  1", b"undo\t1", b"undo 1 ",
@@ -183,12 +201,23 @@ BAD_LINES += [bad_line(repr(line)[2:-1], line) for line in [
     b"finish 0 1 fill 1 2", b"finish 0 1 filled", b"finish stored", b"finish",
 ]]
 
+# A piece of less than 4,096 bytes that prints more than the 65,536 bytes of the buffer of the output: 32 reads, none of which
+# is adjacent to another, and 450 looks at their queue.
+LONG_PIECE = b"attach 0 0 4\n" + b"".join(b"read 0 1 %d 1\n" % (2 * place) for place in range(32)) + 450 * QUEUE
+LONG_TEXT = (b"attached 1\n" + b"".join(b"queued %d\n" % (2 + place) for place in range(32))
+             + 450 * (b"queue" + b"".join(b" %d+1x1" % (2 * place) for place in range(32)) + b"\n"))
+
 GOOD_LINES = [
     Case("good: no input", SIM),
     Case("good: one newline", SIM, b"\n"),
     Case("good: 1,048,576 lines", SIM, 1_048_576 * b"\n"),
     Case("good: comment of 256 bytes", SIM, b"#" + 255 * b"x" + b"\nline\n", b"line 0 0 0\n"),
     Case("good: any byte in a comment", SIM, b"#\0\t\r\xff  \nline\n", b"line 0 0 0\n"),
+    Case("good: the newline of a comment of 256 bytes is the first byte of a piece", SIM,
+         480 * QUEUE + b"#" + 255 * b"x" + b"\n" + QUEUE, 481 * NO_QUEUE),
+    Case("good: lines of just one piece", SIM, 512 * QUEUE, 512 * NO_QUEUE),
+    Case("good: just one piece, and no newline at its end", SIM, b"\n" + 511 * QUEUE + b"queue 0", 512 * NO_QUEUE),
+    Case("good: more text of one piece than the buffer holds", SIM, LONG_PIECE, LONG_TEXT),
     Case("good: last line without newline", SIM, b"hold\nline", b"moved 0 0\nline 0 0 0\n"),
     Case("good: last comment without newline", SIM, b"line\n#", b"line 0 0 0\n"),
     Case("good: attach", SIM, b"attach 0 0 4\n", b"attached 1\n"),
@@ -340,12 +369,26 @@ GOOD_WORDS = [
     ]),
 ]
 
-# More lines than a buffer holds, so that a write fails before the end; and one, that fails at the end.
+# What was printed is written before the next read and at the end, and before that only where the buffer is full.
 FAULTS = [
     Case("read fault", SIM, b"", b"", b"", READ_FAULT, reads_directory=True),
-    Case("write fault at the end", SIM, b"line\n", b"", b"", WRITE_FAULT, writes_to_full=True),
-    Case("write fault on the way", SIM, 100_000 * b"line\n", b"", b"", WRITE_FAULT, writes_to_full=True),
-    Case("write fault at a bad line", SIM, b"lines\n", b"", b"", WRITE_FAULT, writes_to_full=True),
+    Case("read fault with a full output: nothing was to be written", SIM, b"", b"", b"", READ_FAULT, reads_directory=True,
+         writes_to_full=True),
+    Case("no fault with a full output: no line", SIM, writes_to_full=True),
+    Case("no fault with a full output: lines that print nothing", SIM, b"# one\n\n", writes_to_full=True),
+] + [
+    Case(f"write fault: {name}", words, stdin, b"", b"", WRITE_FAULT, writes_to_full=True)
+    for name, words, stdin in [
+        ("one line, before the read that finds the end", SIM, b"line\n"),
+        ("one line with no newline, at the end", SIM, b"line"),
+        ("one piece, before the next read", SIM, 800 * b"line\n"),
+        ("in a piece, where the buffer is full", SIM, LONG_PIECE),
+        ("in the first of many pieces", SIM, 100_000 * b"line\n"),
+        ("at a bad line", SIM, b"lines\n"),
+        ("at a bad line after good ones", SIM, b"line\nline\nlines\n"),
+        ("before a bad line, where the buffer is full", SIM, LONG_PIECE + b"lines\n"),
+        ("at the help", ["--help"], b""),
+    ]
 ]
 
 CASES = BAD_LINES + GOOD_LINES + BAD_WORDS_CASES + CONFIG_CASES + GOOD_WORDS + FAULTS
