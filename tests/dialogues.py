@@ -16,12 +16,14 @@ import tempfile
 import termios
 import time
 
-from bad_input import BAD_LINE, DONE, READ_FAULT, WRITE_FAULT, Skipped
+from bad_input import BAD_LINE, DONE, LONG_PIECE, LONG_TEXT, READ_FAULT, WRITE_FAULT, Skipped
 
 SECONDS = 20
 LINES = 1_000
 # What the query `line` prints before the first step.
 NO_STEPS = b"line 0 0 0\n"
+# How many bytes the buffer of the output holds.
+BUFFER = 65_536
 # How many bytes a limited output takes.
 LIMIT = 5_000
 # What the terminal takes as the end of the input, at the start of a line.
@@ -54,7 +56,7 @@ def read_piece(descriptor):
     """What one read gives, within some seconds; at the end no bytes."""
     if not select.select([descriptor], [], [], SECONDS)[0]:
         raise Wrong(f"nothing comes within {SECONDS} seconds")
-    return os.read(descriptor, 65_536)
+    return os.read(descriptor, 2 * BUFFER)
 
 
 def expect(descriptor, wanted):
@@ -129,12 +131,35 @@ def whole_pieces(start):
             ended(host, DONE)
 
 
-def from_a_file(start):
-    """Of a script from a file the answers come in one write for each piece of 4,096 bytes: writes to such a socket stay apart."""
+def kept_apart():
+    """Two ends of a socket of which each read gives one write."""
     try:
-        ours, its = socket.socketpair(socket.AF_UNIX, socket.SOCK_SEQPACKET)
+        return socket.socketpair(socket.AF_UNIX, socket.SOCK_SEQPACKET)
     except OSError as lacking:
         raise Skipped(f"no socket that keeps writes apart can be had here: {lacking}") from None
+
+
+def of_a_full_buffer(start):
+    """Of a piece that prints more than the buffer holds, the lines that fit are written first."""
+    longest = max(len(line) for line in LONG_TEXT.splitlines(keepends=True))
+    ours, its = kept_apart()
+    with ours, its, tempfile.TemporaryFile() as script:
+        script.write(LONG_PIECE)
+        script.seek(0)
+        with start(stdin=script, stdout=its) as host:
+            its.close()
+            first = read_piece(ours.fileno())
+            if not BUFFER - longest < len(first) <= BUFFER:
+                raise Wrong(f"the first write has {len(first)} bytes")
+            text = first + read_piece(ours.fileno())
+            if text != LONG_TEXT:
+                raise Wrong(difference(text, LONG_TEXT))
+            ended(host, DONE)
+
+
+def from_a_file(start):
+    """Of a script from a file the answers come in one write for each piece of 4,096 bytes: writes to such a socket stay apart."""
+    ours, its = kept_apart()
     with ours, its, tempfile.TemporaryFile() as script:
         script.write(1_000 * b"line\n")
         script.seek(0)
@@ -233,8 +258,8 @@ def on_a_terminal(start):
         ended(host, DONE)
 
 
-RUNS = [one_by_one, in_parts, whole_pieces, from_a_file, at_a_bad_line, at_a_read_fault, at_an_interrupt, at_a_full_output,
-        at_a_limited_output, at_a_closed_output, on_a_terminal]
+RUNS = [one_by_one, in_parts, whole_pieces, from_a_file, of_a_full_buffer, at_a_bad_line, at_a_read_fault, at_an_interrupt,
+        at_a_full_output, at_a_limited_output, at_a_closed_output, on_a_terminal]
 
 
 def dialogues(program):

@@ -5,7 +5,7 @@ use Rattle.sector_core.specs.declared.config.ConfigDraft.{ConfigDraft}
 use Rattle.script_run.specs.declared.ending.ScriptEnd.{ScriptEnd}
 use Rattle.script_run.specs.declared.ending.ScriptEnd.TheVariants.{Done, BadLine, ReadFault, WriteFault, OutOfMemory}
 
--- of each end
+-- the status of each end
 abbrev pub status_of : ScriptEnd → ℕ
 status_of Done = 0
 status_of (BadLine n) = 2

@@ -120,7 +120,7 @@ fn over_file(
 }
 
 // The image in a regular file or on a block device. It is looked at before it is opened, since the open of a FIFO waits, and
-// since a character device has no end.
+// since a character device has no length.
 fn file_image(rt: &impl Files<File = File>, path: &str) -> io::Result<FileImage>
     ensures { IfOk result (λ image. image ≡ fresh image.sectors None) }
 {

@@ -95,7 +95,8 @@ EndsBy prints left w0 w1 lines text rest last now (BadLine n) =
 -- the bytes after the lines are no whole line yet
 EndsBy prints left w0 w1 lines text rest last now ReadFault =
     IsLine rest × (0 < length rest → length lines < most_lines) × Appends w0 w1 text × (now ≡ last)
--- a write or a flush failed: nothing of the next line is written and it did not run, or a front of what it prints, which may be all
+-- a write or a flush failed: nothing is written after the lines and no other ran, or one more ran or is bad, and a front of its text
+-- is written, which may be all
 EndsBy prints left w0 w1 lines text rest last now WriteFault =
     (Appends w0 w1 text × (now ≡ last))
     ⊎ ((front : List ℕ) × (unwritten : List ℕ) × Appends w0 w1 (text ++ front)

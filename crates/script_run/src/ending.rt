@@ -9,7 +9,7 @@ pub enum ScriptEnd {
     BadLine(u64),
     /// A read failed.
     ReadFault,
-    /// A write failed, or took nothing.
+    /// A write or a flush failed, or a write took nothing.
     WriteFault,
     /// There is no memory for what a line prints.
     OutOfMemory,

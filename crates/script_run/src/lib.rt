@@ -3,7 +3,7 @@
 //!
 //! | call | rule that it meets |
 //! |---|---|
-//! | `run_lines` | the lines run in their order, each text written whole before the next line; the first bad line ends the run |
+//! | `run_lines` | the lines run in their order, each text written whole before the next line; the first bad line ends the run; the writer is flushed before each read and at the end |
 //! | `Console::run` | what a line may print, and what the console is then |
 //!
 //! A script is lines ended by byte 0A; a last line without it counts where it is not empty.
