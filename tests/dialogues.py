@@ -6,6 +6,7 @@ is written.
 """
 
 import contextlib
+import functools
 import os
 import resource
 import select
@@ -195,6 +196,17 @@ def at_a_read_fault(start):
         ended(host, READ_FAULT)
 
 
+def at_an_input_that_does_not_wait(start):
+    """A read that would have to wait, where the input is set not to, is a fault like any other: it is not made again."""
+    ours, its = socket.socketpair()
+    with ours, its:
+        its.setblocking(False)
+        ours.sendall(b"hold\nrel")
+        with start(stdin=its) as host:
+            expect(host.stdout.fileno(), b"moved 0 0\n")
+            ended(host, READ_FAULT)
+
+
 def at_an_interrupt(start):
     """An interrupt while the host waits loses nothing that was answered."""
     pairs = [*dialogue(41)]
@@ -214,6 +226,13 @@ def at_a_full_output(start):
     """A flush that fails ends the run while the input stays open."""
     with open("/dev/full", "wb") as full, start(stdout=full) as host:
         host.stdin.write(b"hold\n")
+        ended(host, WRITE_FAULT)
+
+
+def at_no_output(start):
+    """Without a standard output a line that prints something ends the run."""
+    with start(stdout=None, preexec_fn=functools.partial(os.close, 1)) as host:
+        host.stdin.write(b"# nothing\n\nhold\n")
         ended(host, WRITE_FAULT)
 
 
@@ -258,8 +277,9 @@ def on_a_terminal(start):
         ended(host, DONE)
 
 
-RUNS = [one_by_one, in_parts, whole_pieces, from_a_file, of_a_full_buffer, at_a_bad_line, at_a_read_fault, at_an_interrupt,
-        at_a_full_output, at_a_limited_output, at_a_closed_output, on_a_terminal]
+RUNS = [one_by_one, in_parts, whole_pieces, from_a_file, of_a_full_buffer, at_a_bad_line, at_a_read_fault,
+        at_an_input_that_does_not_wait, at_an_interrupt, at_a_full_output, at_no_output, at_a_limited_output, at_a_closed_output,
+        on_a_terminal]
 
 
 def dialogues(program):
