@@ -1,0 +1,12 @@
+pub mod Leads
+pub mod Moves
+pub mod Stamps
+pub mod Each
+pub mod Full
+pub mod Fillings
+pub mod Replies
+pub mod Frames
+pub mod Outcomes
+pub mod Sittings
+pub mod Totals
+pub mod Placings

@@ -1,0 +1,6 @@
+pub mod Requests
+pub mod Lengths
+pub mod Answered
+pub mod Sessions
+pub mod Results
+pub mod Places

@@ -1,0 +1,70 @@
+// Laws of the machine of every keeper, and of its answers.
+ghost use Rattle.std.specs.Prelude.{ℕ, List};
+ghost use Rattle.plain_machine.specs.Step.{Limits};
+ghost use Rattle.plain_machine.specs.declared.call.Call.{Call};
+ghost use Rattle.reply_laws.specs.Lengths.{EachBlockIsFull, EachPayloadFits, EachResultFits};
+ghost use Rattle.reply_laws.specs.Answered.{CallsAreAnswered, ClientsAreAnswered, OperatorIsAnswered};
+ghost use Rattle.reply_laws.specs.Sessions.{SessionsSitApart, RequestsHaveSeats};
+ghost use Rattle.reply_laws.specs.Results.{OutboxesHaveResults};
+ghost use Rattle.reply_laws.specs.Places.{EachBioHasOnePlace};
+
+/// On the machine of every keeper that a journal makes, each block of the overlay has 512 bytes. The body is empty: the
+/// contract is the law.
+pub fn blocks_are_full()
+    ensures { (l : Limits) (most : ℕ) (journal : List Call) → EachBlockIsFull l most journal }
+{}
+
+/// There each bio that is queued, in the dispatch list or in flight has 1 to 64 sectors, and a payload of 512 bytes for each
+/// of them where it is a store, and of none where it is a fetch. The body is empty: the contract is the law.
+pub fn payloads_fit()
+    ensures { (l : Limits) (most : ℕ) (journal : List Call) → EachPayloadFits l most journal }
+{}
+
+/// There each bio in an outbox has 1 to 64 sectors and a result, and where it was read, 512 bytes for each of them. The body
+/// is empty: the contract is the law.
+pub fn results_fit()
+    ensures { (l : Limits) (most : ℕ) (journal : List Call) → EachResultFits l most journal }
+{}
+
+/// Whatever the keeper of a journal is asked, it answers with the reply of that call, where a bio was read with 512 bytes for
+/// each of 1 to 64 sectors; or it refuses; or it tells why the call has to wait, which none but a step ever has to. The
+/// body is empty: the contract is the law.
+pub fn calls_are_answered()
+    ensures { (l : Limits) (most : ℕ) (journal : List Call) → CallsAreAnswered l most journal }
+{}
+
+/// Whatever a client asks of the keeper of a journal, the answer has a frame of the host: it is a refusal, or that it is not
+/// yet time, or Attached, Queued, Completed or Left. The body is empty: the contract is the law.
+pub fn clients_are_answered()
+    ensures { (l : Limits) (most : ℕ) (journal : List Call) → ClientsAreAnswered l most journal }
+{}
+
+/// Whatever the operator asks of the keeper of a journal, the answer has a frame of the host: it is a refusal, or that the
+/// host is held, or Group, Done or Moved. The body is empty: the contract is the law.
+pub fn operator_is_answered()
+    ensures { (l : Limits) (most : ℕ) (journal : List Call) → OperatorIsAnswered l most journal }
+{}
+
+/// On the machine of every keeper that a journal makes, sessions sit at the seats 0 to 15 alone, and no two seats have one
+/// session. The body is empty: the contract is the law.
+pub fn sessions_sit_apart()
+    ensures { (l : Limits) (most : ℕ) (journal : List Call) → SessionsSitApart l most journal }
+{}
+
+/// There each request that is queued, in the dispatch list or in flight is of a session that sits at exactly one of these
+/// seats. The body is empty: the contract is the law.
+pub fn requests_have_seats()
+    ensures { (l : Limits) (most : ℕ) (journal : List Call) → RequestsHaveSeats l most journal }
+{}
+
+/// There each bio in an outbox has a result, and no bio that is queued, in the dispatch list or in flight has one. The body is
+/// empty: the contract is the law.
+pub fn outboxes_have_results()
+    ensures { (l : Limits) (most : ℕ) (journal : List Call) → OutboxesHaveResults l most journal }
+{}
+
+/// There no bio stands in two places, be it in a queue, in the dispatch list, in flight or in an outbox, and nothing stands at a
+/// seat or under a tag that there is not. The body is empty: the contract is the law.
+pub fn bios_have_one_place()
+    ensures { (l : Limits) (most : ℕ) (journal : List Call) → EachBioHasOnePlace l most journal }
+{}

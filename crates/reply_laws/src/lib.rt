@@ -1,0 +1,27 @@
+#![tactic(auto)]
+//! Laws of answers, and of where requests and bios stand, on the machine of every keeper.
+//!
+//! `specs/` has what the laws say: `Requests` has what holds of each request; `Lengths` how many bytes blocks, payloads and
+//! results have; `Answered` what a call is answered; `Sessions` at which seats sessions sit, and whose the requests are;
+//! `Results` which bios have a result; `Places` where a bio stands.
+//!
+//! | call | rule that it meets |
+//! |---|---|
+//! | [`blocks_are_full`] | each stored block has the 512 bytes of a sector |
+//! | [`payloads_fit`] | each bio that waits has 1 to 64 sectors, and for a store the bytes of them |
+//! | [`results_fit`] | each completed bio has a result, of a read the bytes of its sectors |
+//! | [`calls_are_answered`] | a call is answered by the reply of its own kind, by a refusal, or by why it has to wait |
+//! | [`clients_are_answered`] | what a client is answered has a frame of the host, of a client's kind |
+//! | [`operator_is_answered`] | what the operator is answered has one, of the operator's kind |
+//! | [`sessions_sit_apart`] | no two seats have one session |
+//! | [`requests_have_seats`] | the session of each request sits at exactly one seat |
+//! | [`outboxes_have_results`] | the bios in outboxes have a result, and no others |
+//! | [`bios_have_one_place`] | no bio stands in two places |
+
+mod laws;
+
+pub use laws::{
+    bios_have_one_place, blocks_are_full, calls_are_answered, clients_are_answered,
+    operator_is_answered, outboxes_have_results, payloads_fit, requests_have_seats, results_fit,
+    sessions_sit_apart,
+};
