@@ -19,6 +19,7 @@ mod moves;
 mod roll;
 mod run;
 
+pub use host_calls::{ClientCall, Closed, OperatorCall, RingReply, SeatName};
 pub use keeper::{Keeper, KeeperView};
 pub use plain_machine::{Call, DeviceCall, Stamped};
 pub use run::RunStop;

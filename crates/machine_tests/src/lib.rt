@@ -7,11 +7,14 @@
 //! |---|---|---|
 //! | `machine`, `full_store` | `dispatch_core`, below a keeper | the answers of steps, what is read of the machine then, and how many exchanges were made |
 //! | `keeper` | `history` | calls of the operator, where the line stands after each, and a history that is full |
+//! | `asked` | `host_calls` | what clients at their seats and the operator are answered |
 //! | `device` | `device_engine` | what a fetch and a store of images that give little, end early or fail are answered |
 //!
 //! `host` has the keeper whose steps the tests make and turn back and forth, and `scripted` the image of which a test says
 //! how it is read.
 
+#[cfg(test)]
+mod asked;
 #[cfg(test)]
 mod device;
 #[cfg(test)]
