@@ -50,7 +50,7 @@ pub record Leads (l : Limits) (P : ℕ → Plain → Type 0) : Type 0 where
   pub leaves : (n : ℕ) (m : Plain) (seat : ℕ) → seat < 16 → has_session (m.seat seat) ≡ true → P n m → P n (left l m seat)
   pub takes_turns : (n : ℕ) (m : Plain) (seat tag : ℕ) (r : WholeRequest) (rest : List WholeRequest) → m.scheduler ≡ PlainScheduler → m.queue seat ≡ r ∷ rest → tag < l.tags → m.flight tag ≡ None
       → P n m → P n (dispatched m n seat tag r rest seat m.head m.bfq)
-  pub sends : (n : ℕ) (m : Plain) (tag : ℕ) (o : Plain × Reply) → m.scheduler ≡ BfqScheduler → sent_by_bfq l m n tag ≡ Some o → tag < l.tags → m.flight tag ≡ None → P n m → P n o.0
+  pub sends : (n : ℕ) (m : Plain) (tag : ℕ) (o : Plain × Reply) → m.scheduler ≡ BfqScheduler → sent_by_bfq l m n tag ≡ Some o → tag < l.tags → m.flight tag ≡ None → P n m → P (n + 1) o.0
   pub resends : (n : ℕ) (m : Plain) (tag : ℕ) (r : WholeRequest) (rest : List WholeRequest) → m.requeued ≡ r ∷ rest → tag < l.tags → m.flight tag ≡ None → P n m → P n (resent m n tag r rest)
   pub finishes : (n : ℕ) (m : Plain) (tag : ℕ) (f : Flight) (outcome : Outcome) → tag < l.tags → m.flight tag ≡ Some f → fits f.request.op (size_of f.request.bios) outcome ≡ true
       → P n m → P n (after_finish l m tag outcome f.request)
@@ -134,32 +134,33 @@ leave-leads l P k m n room seat h =
 
 -- Dispatch
 sent-leads : (l : Limits) (P : ℕ → Plain → Type 0) → Leads l P → (m : Plain) (n : ℕ) (room : Bool) (seat tag : ℕ) (requests : List WholeRequest)
-    → m.scheduler ≡ PlainScheduler → m.queue seat ≡ requests → tag < l.tags → m.flight tag ≡ None → P n m → P n (sent m n room seat tag requests).0
-sent-leads l P k m n room seat tag [] none is low free h = h
+    → m.scheduler ≡ PlainScheduler → m.queue seat ≡ requests → tag < l.tags → m.flight tag ≡ None → P n m → P (n + 1) (sent m n room seat tag requests).0
+sent-leads l P k m n room seat tag [] none is low free h = next-serial l P k n m h
 sent-leads l P k m n room seat tag (r ∷ rest) none is low free h =
-    accepted-keeps (P n) room m (dispatched m n seat tag r rest seat m.head m.bfq) (Issued tag n r.op (range_of r.bios)) h (k.takes_turns n m seat tag r rest none is low free h)
+    let next : Plain = dispatched m n seat tag r rest seat m.head m.bfq in
+    next-serial l P k n _ (accepted-keeps (P n) room m next (Issued tag n r.op (range_of r.bios)) h (k.takes_turns n m seat tag r rest none is low free h))
 
 sent_by-leads : (l : Limits) (P : ℕ → Plain → Type 0) → Leads l P → (m : Plain) (n : ℕ) (room : Bool) (seat tag : ℕ) (scheduler : Scheduler)
-    → m.scheduler ≡ scheduler → tag < l.tags → m.flight tag ≡ None → P n m → P n (sent_by l m n room seat tag scheduler).0
+    → m.scheduler ≡ scheduler → tag < l.tags → m.flight tag ≡ None → P n m → P (n + 1) (sent_by l m n room seat tag scheduler).0
 sent_by-leads l P k m n room seat tag PlainScheduler is low free h = sent-leads l P k m n room seat tag (m.queue seat) is refl low free h
-sent_by-leads l P k m n room seat tag BfqScheduler is low free h = accepted_if-keeps (P n) room m (sent_by_bfq l m n tag) h (λ o e. k.sends n m tag o is e low free h)
+sent_by-leads l P k m n room seat tag BfqScheduler is low free h = accepted_if-keeps (P (n + 1)) room m (sent_by_bfq l m n tag) (next-serial l P k n m h) (λ o e. k.sends n m tag o is e low free h)
 
-dispatch_to-leads : (l : Limits) (P : ℕ → Plain → Type 0) → Leads l P → (m : Plain) (n : ℕ) (room : Bool) (seat tag : Option ℕ) → lowest_free l m ≡ tag → P n m → P n (dispatch_to l m n room seat tag).0
-dispatch_to-leads l P k m n room None tag is h = h
-dispatch_to-leads l P k m n room (Some seat) None is h = h
+dispatch_to-leads : (l : Limits) (P : ℕ → Plain → Type 0) → Leads l P → (m : Plain) (n : ℕ) (room : Bool) (seat tag : Option ℕ) → lowest_free l m ≡ tag → P n m → P (n + 1) (dispatch_to l m n room seat tag).0
+dispatch_to-leads l P k m n room None tag is h = next-serial l P k n m h
+dispatch_to-leads l P k m n room (Some seat) None is h = next-serial l P k n m h
 dispatch_to-leads l P k m n room (Some seat) (Some tag) is h =
     let found = find-numbers (λ t. is_none (m.flight t)) 0 l.tags tag is in
     sent_by-leads l P k m n room seat tag m.scheduler refl (omega (arith, found.1)) (is_nothing (m.flight tag) found.2) h
 
 sent_again-leads : (l : Limits) (P : ℕ → Plain → Type 0) → Leads l P → (m : Plain) (n : ℕ) (room : Bool) (r : WholeRequest) (rest : List WholeRequest) (tag : Option ℕ)
-    → m.requeued ≡ r ∷ rest → lowest_free l m ≡ tag → P n m → P n (sent_again m n room r rest tag).0
-sent_again-leads l P k m n room r rest None first is h = h
+    → m.requeued ≡ r ∷ rest → lowest_free l m ≡ tag → P n m → P (n + 1) (sent_again m n room r rest tag).0
+sent_again-leads l P k m n room r rest None first is h = next-serial l P k n m h
 sent_again-leads l P k m n room r rest (Some tag) first is h =
     let found = find-numbers (λ t. is_none (m.flight t)) 0 l.tags tag is in
-    accepted-keeps (P n) room m (resent m n tag r rest) (Issued tag n r.op (range_of r.bios)) h
-    (k.resends n m tag r rest first (omega (arith, found.1)) (is_nothing (m.flight tag) found.2) h)
+    let next : P n (resent m n tag r rest) = k.resends n m tag r rest first (omega (arith, found.1)) (is_nothing (m.flight tag) found.2) h in
+    next-serial l P k n _ (accepted-keeps (P n) room m (resent m n tag r rest) (Issued tag n r.op (range_of r.bios)) h next)
 
-dispatch_of-leads : (l : Limits) (P : ℕ → Plain → Type 0) → Leads l P → (m : Plain) (n : ℕ) (room : Bool) (requests : List WholeRequest) → m.requeued ≡ requests → P n m → P n (dispatch_of l m n room requests).0
+dispatch_of-leads : (l : Limits) (P : ℕ → Plain → Type 0) → Leads l P → (m : Plain) (n : ℕ) (room : Bool) (requests : List WholeRequest) → m.requeued ≡ requests → P n m → P (n + 1) (dispatch_of l m n room requests).0
 dispatch_of-leads l P k m n room [] is h = dispatch_to-leads l P k m n room (next_queue m) (lowest_free l m) refl h
 dispatch_of-leads l P k m n room (r ∷ rest) is h = sent_again-leads l P k m n room r rest (lowest_free l m) is refl h
 
@@ -253,7 +254,7 @@ step-leads l P k m n room (Attach seat group prio) h = attach-leads l P k m n ro
 step-leads l P k m n room (Submit seat session op range payload) h = submit-leads l P k m n room seat session op range payload h
 step-leads l P k m n room (Reap seat session) h = next-serial l P k n _ (reap-leads l P k m n room seat session h)
 step-leads l P k m n room (Leave seat why) h = next-serial l P k n _ (leave-leads l P k m n room seat h)
-step-leads l P k m n room Dispatch h = next-serial l P k n _ (dispatch_of-leads l P k m n room m.requeued refl h)
+step-leads l P k m n room Dispatch h = dispatch_of-leads l P k m n room m.requeued refl h
 step-leads l P k m n room (Finish tag issue outcome) h = next-serial l P k n _ (finish-leads l P k m n room tag issue outcome h)
 step-leads l P k m n room (Requeue tag issue) h = next-serial l P k n _ (requeue-leads l P k m n room tag issue h)
 step-leads l P k m n room (GroupMake parent weight) h = next-serial l P k n _ (group_make-leads l P k m n room parent weight h)

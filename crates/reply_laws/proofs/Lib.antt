@@ -10,3 +10,7 @@ pub mod Outcomes
 pub mod Sittings
 pub mod Totals
 pub mod Placings
+pub mod Rules
+pub mod Ruled
+pub mod Timely
+pub mod Slots

@@ -145,7 +145,8 @@ moves-lead l P k = record {
   takes_turns = λ n m seat tag r rest none is low free h.
       dispatched-moves l P k m n seat tag r rest seat m.head m.bfq (IsTaken-first (m.queue seat) r rest is) low free h;
   sends = λ n m tag o bfq is low free h.
-      sent_by_bfq-keeps (P n) l m n tag (λ q r rest head b taken. dispatched-moves l P k m n q tag r rest m.served head b taken low free h) o is;
+      k.later n (n + 1) o.0 (omega arith)
+      (sent_by_bfq-keeps (P n) l m n tag (λ q r rest head b taken. dispatched-moves l P k m n q tag r rest m.served head b taken low free h) o is);
   resends = λ n m tag r rest is low free h. k.resends n n m tag r rest is low free h;
   finishes = λ n m tag f outcome low is fit h. after_finish-moves l P k m n tag outcome f low is fit h;
   gives_back = k.gives_back;

@@ -4,3 +4,4 @@ pub mod Answered
 pub mod Sessions
 pub mod Results
 pub mod Places
+pub mod Bounds

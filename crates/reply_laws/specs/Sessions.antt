@@ -1,7 +1,6 @@
 -- At which seats sessions sit, and whose the requests are.
 use Rattle.std.specs.Prelude.{◌≡◌, ℕ, ◌<◌, true, List, Option, Some}
 use Rattle.change_record.specs.declared.change.Seat.{Seat}
-use Rattle.change_record.specs.Machine.{Plain}
 use Rattle.plain_machine.specs.declared.call.Call.{Call}
 use Rattle.plain_machine.specs.Step.{Limits, is_session}
 use Rattle.plain_machine.specs.Keeper.{machine_of, replay}

@@ -7,6 +7,7 @@ ghost use Rattle.reply_laws.specs.Answered.{CallsAreAnswered, ClientsAreAnswered
 ghost use Rattle.reply_laws.specs.Sessions.{SessionsSitApart, RequestsHaveSeats};
 ghost use Rattle.reply_laws.specs.Results.{OutboxesHaveResults};
 ghost use Rattle.reply_laws.specs.Places.{EachBioHasOnePlace};
+ghost use Rattle.reply_laws.specs.Bounds.{TimesAreBounded, AgesAreBounded, GroupsHaveTheGreatestBudget};
 
 /// On the machine of every keeper that a journal makes, each block of the overlay has 512 bytes. The body is empty: the
 /// contract is the law.
@@ -67,4 +68,21 @@ pub fn outboxes_have_results()
 /// seat or under a tag that there is not. The body is empty: the contract is the law.
 pub fn bios_have_one_place()
     ensures { (l : Limits) (most : ℕ) (journal : List Call) → EachBioHasOnePlace l most journal }
+{}
+
+/// On the machine of every keeper that a journal makes, no virtual time, no start and no finish is above 2^62, where the first
+/// virtual time is not. The body is empty: the contract is the law.
+pub fn times_are_bounded()
+    ensures { (l : Limits) (most : ℕ) (journal : List Call) → TimesAreBounded l most journal }
+{}
+
+/// There the queue in service, if one is, is that of a seat, and has been in service for no more ticks than the last serial
+/// that the keeper gave. The body is empty: the contract is the law.
+pub fn ages_are_bounded()
+    ensures { (l : Limits) (most : ℕ) (journal : List Call) → AgesAreBounded l most journal }
+{}
+
+/// There each group has the greatest budget. The body is empty: the contract is the law.
+pub fn groups_have_the_greatest_budget()
+    ensures { (l : Limits) (most : ℕ) (journal : List Call) → GroupsHaveTheGreatestBudget l most journal }
 {}

@@ -3,7 +3,7 @@
 //!
 //! `specs/` has what the laws say: `Requests` has what holds of each request; `Lengths` how many bytes blocks, payloads and
 //! results have; `Answered` what a call is answered; `Sessions` at which seats sessions sit, and whose the requests are;
-//! `Results` which bios have a result; `Places` where a bio stands.
+//! `Results` which bios have a result; `Places` where a bio stands; `Bounds` how great times, ages and budgets are.
 //!
 //! | call | rule that it meets |
 //! |---|---|
@@ -17,11 +17,15 @@
 //! | [`requests_have_seats`] | the session of each request sits at exactly one seat |
 //! | [`outboxes_have_results`] | the bios in outboxes have a result, and no others |
 //! | [`bios_have_one_place`] | no bio stands in two places |
+//! | [`times_are_bounded`] | no time is above 2^62 |
+//! | [`ages_are_bounded`] | the queue in service is no older than the last serial |
+//! | [`groups_have_the_greatest_budget`] | a group's budget is always the greatest one |
 
 mod laws;
 
 pub use laws::{
-    bios_have_one_place, blocks_are_full, calls_are_answered, clients_are_answered,
-    operator_is_answered, outboxes_have_results, payloads_fit, requests_have_seats, results_fit,
-    sessions_sit_apart,
+    ages_are_bounded, bios_have_one_place, blocks_are_full, calls_are_answered,
+    clients_are_answered, groups_have_the_greatest_budget, operator_is_answered,
+    outboxes_have_results, payloads_fit, requests_have_seats, results_fit, sessions_sit_apart,
+    times_are_bounded,
 };

@@ -1,0 +1,28 @@
+-- How great times, ages and budgets are.
+use Rattle.std.specs.Prelude.{◌≡◌, ℕ, ◌<◌, ◌≤◌, ◌^◌, List, Some, None, slice_index_or}
+use Rattle.service_tree.specs.declared.member.Member.{Member}
+use Rattle.service_tree.specs.Members.{Service}
+use Rattle.group_tree.specs.Groups.{entity_of}
+use Rattle.change_record.specs.declared.change.InService.{InService}
+use Rattle.plain_machine.specs.declared.call.Call.{Call}
+use Rattle.plain_machine.specs.Step.{Limits}
+use Rattle.plain_machine.specs.Keeper.{machine_of, replay}
+
+-- no time of a group is above 2^62: neither its virtual time, nor the start or the finish of a member (our profile; the times are B-WF2Q+'s)
+abbrev pub AreTimely : Service → Type 0
+AreTimely tree =
+    (tree.vtime ≤ 2 ^ 62)
+    × ((entity : ℕ) (member : Member) → slice_index_or tree.members entity None ≡ Some member → (member.start ≤ 2 ^ 62) × (member.finish ≤ 2 ^ 62))
+
+-- On the machine of every keeper that a journal makes: no time is, where the first one is not;
+abbrev pub TimesAreBounded : Limits → ℕ → List Call → Type 0
+TimesAreBounded l most journal = l.first_vtime ≤ 2 ^ 62 → (group : ℕ) → AreTimely ((machine_of (replay l most journal)).bfq.service group)
+
+-- the queue in service is that of a seat, and it has been so for no more ticks than serials were given (our profile);
+abbrev pub AgesAreBounded : Limits → ℕ → List Call → Type 0
+AgesAreBounded l most journal =
+    (slot : InService) → (machine_of (replay l most journal)).bfq.slot ≡ Some slot → (slot.seat < 16) × (slot.age ≤ (replay l most journal).last)
+
+-- and the budget of a group is the greatest one (our profile).
+abbrev pub GroupsHaveTheGreatestBudget : Limits → ℕ → List Call → Type 0
+GroupsHaveTheGreatestBudget l most journal = (group : ℕ) → group < 32 → (machine_of (replay l most journal)).bfq.budget (entity_of group) ≡ l.max_budget
