@@ -119,7 +119,7 @@ bios_of-before session n (r ∷ requests) le h =
 abbrev attached : Plain → ℕ → Seat → (ℕ → ℕ) → Bfq → Plain
 attached m seat entry head bfq = record m { seat = put m.seat seat (Some entry); head = head; bfq = bfq }
 
-Seated-attached : (n : ℕ) (seats : ℕ → Option Seat) (seat : ℕ) (entry : Seat) → seat < 16 → entry.session ≡ n → Seated n seats → Seated (n + 1) (put seats seat (Some entry))
+pub Seated-attached : (n : ℕ) (seats : ℕ → Option Seat) (seat : ℕ) (entry : Seat) → seat < 16 → entry.session ≡ n → Seated n seats → Seated (n + 1) (put seats seat (Some entry))
 Seated-attached n seats seat entry lt new h = record {
   within = λ k s e. elim (put_cases seats seat (Some entry) k (Some s) e) [
     | inl x ↦ let here = x.0 in omega (arith, here, lt)

@@ -1,4 +1,4 @@
--- The bios in flight: a sum over the tags, and what one tag's change does to it.
+-- What is in flight: a sum over the tags, and what one tag's change does to it.
 use Rattle.std.proofs.Common.{true, false, Bool, ◌≡◌, ◌≢◌, inl, inr, ℕ, zero, suc, ◌+◌, ◌<◌, ◌≤◌, List, [], ◌∷◌, Option, Some, None, cond, sum_by, refl, sym, ap, ◌∙◌, arith}
 use Rattle.std.specs.List.{find, filter_map, cons_option}
 use Rattle.std.specs.Option.{option_map}
@@ -19,7 +19,7 @@ find-numbers p from (suc count) k e =
     ] refl e
 
 -- two sums over a run of numbers, whose terms agree
-sum_agree : (f g : ℕ → ℕ) (from count : ℕ) → ((k : ℕ) → from ≤ k → f k ≡ g k) → sum_by f (numbers from count) ≡ sum_by g (numbers from count)
+pub sum_agree : (f g : ℕ → ℕ) (from count : ℕ) → ((k : ℕ) → from ≤ k → f k ≡ g k) → sum_by f (numbers from count) ≡ sum_by g (numbers from count)
 sum_agree f g from zero h = refl
 sum_agree f g from (suc count) h =
     omega (
@@ -31,7 +31,7 @@ sum_agree f g from (suc count) h =
     )
 
 -- two sums over a run of numbers, whose terms agree but for one
-sum_but_one : (f g : ℕ → ℕ) (tag from count : ℕ) → from ≤ tag → tag < from + count → ((k : ℕ) → k ≢ tag → f k ≡ g k)
+pub sum_but_one : (f g : ℕ → ℕ) (tag from count : ℕ) → from ≤ tag → tag < from + count → ((k : ℕ) → k ≢ tag → f k ≡ g k)
     → sum_by f (numbers from count) + g tag ≡ sum_by g (numbers from count) + f tag
 sum_but_one f g tag from zero lo hi h = absurd (omega arith)
 sum_but_one f g tag from (suc count) lo hi h =
@@ -48,52 +48,55 @@ sum_but_one f g tag from (suc count) lo hi h =
           omega (arith, a, b, rest, h from ne)
     ]
 
--- how many bios of a session the flight under a tag has
-abbrev pub bios_flown : ℕ → Option Flight → ℕ
-bios_flown session None = 0
-bios_flown session (Some flight) = bios_in session flight.request
+-- of the flight under a tag
+abbrev pub of_flight : (WholeRequest → ℕ) → Option Flight → ℕ
+of_flight weight None = 0
+of_flight weight (Some flight) = weight flight.request
 
 -- the requests under some tags
 abbrev pub flown_in : (ℕ → Option Flight) → List ℕ → List WholeRequest
 flown_in flights tags = filter_map (λ tag. option_map (λ flight. flight.request) (flights tag)) tags
 
-bios_of-cons_option : (session : ℕ) (o : Option Flight) (requests : List WholeRequest)
-    → bios_of session (cons_option (option_map (λ flight. flight.request) o) requests) ≡ bios_flown session o + bios_of session requests
-bios_of-cons_option session None requests = omega arith
-bios_of-cons_option session (Some flight) requests = sum_by-cons (bios_in session) flight.request requests
+flight-cons : (weight : WholeRequest → ℕ) (o : Option Flight) (requests : List WholeRequest)
+    → sum_by weight (cons_option (option_map (λ flight. flight.request) o) requests) ≡ of_flight weight o + sum_by weight requests
+flight-cons weight None requests = omega arith
+flight-cons weight (Some flight) requests = sum_by-cons weight flight.request requests
 
--- the bios in flight are a sum over the tags
-bios_of-flown : (session : ℕ) (flights : ℕ → Option Flight) (tags : List ℕ) → bios_of session (flown_in flights tags) ≡ sum_by (λ tag. bios_flown session (flights tag)) tags
-bios_of-flown session flights [] = refl
-bios_of-flown session flights (tag ∷ tags) =
-    omega (
-      arith,
-      bios_of-cons_option session (flights tag) (flown_in flights tags),
-      bios_of-flown session flights tags,
-      sum_by-cons (λ k. bios_flown session (flights k)) tag tags,
-    )
+-- a sum over the requests in flight is one over the tags
+pub flown-sum : (weight : WholeRequest → ℕ) (flights : ℕ → Option Flight) (tags : List ℕ) → sum_by weight (flown_in flights tags) ≡ sum_by (λ tag. of_flight weight (flights tag)) tags
+flown-sum weight flights [] = refl
+flown-sum weight flights (tag ∷ tags) =
+    let a = flight-cons weight (flights tag) (flown_in flights tags) in
+    let rest = flown-sum weight flights tags in
+    let b = sum_by-cons (λ k. of_flight weight (flights k)) tag tags in
+    omega (arith, a, rest, b)
 
--- one tag changes: the bios in flight change by its own
+-- one tag changes: the sum changes by its own
+pub flown-put : (weight : WholeRequest → ℕ) (flights : ℕ → Option Flight) (tags tag : ℕ) (v : Option Flight) → tag < tags
+    → sum_by weight (flown_in (put flights tag v) (numbers 0 tags)) + of_flight weight (flights tag) ≡ sum_by weight (flown_in flights (numbers 0 tags)) + of_flight weight v
+flown-put weight flights tags tag v lt =
+    let f : ℕ → ℕ = λ k. of_flight weight (put flights tag v k) in
+    let g : ℕ → ℕ = λ k. of_flight weight (flights k) in
+    let here : f tag ≡ of_flight weight v = ap (of_flight weight) (put_here flights tag v tag refl) in
+    let a = flown-sum weight (put flights tag v) (numbers 0 tags) in
+    let b = flown-sum weight flights (numbers 0 tags) in
+    let all = sum_but_one f g tag 0 tags (omega arith) (omega (arith, lt)) (λ k ne. ap (of_flight weight) (put_other flights tag v k ne)) in
+    omega (arith, a, b, here, all)
+
+-- how many bios of a session the flight under a tag has
+abbrev pub bios_flown : ℕ → Option Flight → ℕ
+bios_flown session o = of_flight (bios_in session) o
+
 pub bios_of-put : (session : ℕ) (flights : ℕ → Option Flight) (tags tag : ℕ) (v : Option Flight) → tag < tags
     → bios_of session (flown_in (put flights tag v) (numbers 0 tags)) + bios_flown session (flights tag)
     ≡ bios_of session (flown_in flights (numbers 0 tags)) + bios_flown session v
-bios_of-put session flights tags tag v lt =
-    let f : ℕ → ℕ = λ k. bios_flown session (put flights tag v k) in
-    let g : ℕ → ℕ = λ k. bios_flown session (flights k) in
-    let here : f tag ≡ bios_flown session v = ap (bios_flown session) (put_here flights tag v tag refl) in
-    omega (
-      arith,
-      bios_of-flown session (put flights tag v) (numbers 0 tags),
-      bios_of-flown session flights (numbers 0 tags),
-      here,
-      sum_but_one f g tag 0 tags (omega arith) (omega arith) (λ k ne. ap (bios_flown session) (put_other flights tag v k ne)),
-    )
+bios_of-put session flights tags tag v lt = flown-put (bios_in session) flights tags tag v lt
 
 -- a sum of noughts is nought
-sum_none : (f : ℕ → ℕ) (xs : List ℕ) → ((k : ℕ) → f k ≡ 0) → sum_by f xs ≡ 0
+pub sum_none : (f : ℕ → ℕ) (xs : List ℕ) → ((k : ℕ) → f k ≡ 0) → sum_by f xs ≡ 0
 sum_none f [] h = refl
 sum_none f (x ∷ xs) h = omega (arith, sum_by-cons f x xs, h x, sum_none f xs h)
 
 -- where no flight has a bio of a session, it has none in flight
 pub bios_of-none : (session : ℕ) (flights : ℕ → Option Flight) (tags : List ℕ) → ((k : ℕ) → bios_flown session (flights k) ≡ 0) → bios_of session (flown_in flights tags) ≡ 0
-bios_of-none session flights tags h = bios_of-flown session flights tags ∙ sum_none (λ k. bios_flown session (flights k)) tags h
+bios_of-none session flights tags h = flown-sum (bios_in session) flights tags ∙ sum_none (λ k. bios_flown session (flights k)) tags h

@@ -72,10 +72,11 @@ sum_by-queue_with f n session op bio (Some found) queue is new joined =
     sum_by-change_first (joins_at shape found.1 session op bio.range) (with_bio found.1 bio) f n queue found.0
     (found_by (λ front. joins_at shape front session op bio.range) queue found is) (joined found.1)
 
--- what a bio joins is of its session and has room for it, and starts where the bio ends, or ends where it starts
+-- what a bio joins is of its session and its operation and has room for it, and starts where the bio ends, or ends where it starts
 pub joined_is : (front : Bool) (session : ℕ) (op : Op) (range : Range) (r : WholeRequest) → joins_at shape front session op range r ≡ true
     → (r.session ≡ session) × (size_of r.bios + range.count ≤ 256) × (length r.bios < 32)
     × ((if front then starts_at range (shape_of r.session r.op r.bios) else ends_at range (shape_of r.session r.op r.bios)) ≡ true)
+    × (same_op r.op op ≡ true)
 joined_is front session op range r joined =
     let s : Shape = shape_of r.session r.op r.bios in
     let edge : Bool = if front then starts_at range s else ends_at range s in
@@ -83,4 +84,4 @@ joined_is front session op range r joined =
     let b : (((s.session == session) && same_op s.op op) ≡ true) × (has_room range s ≡ true) = and_parts ((s.session == session) && same_op s.op op) (has_room range s) a.0 in
     let c : ((s.session == session) ≡ true) × (same_op s.op op ≡ true) = and_parts (s.session == session) (same_op s.op op) b.0 in
     let d : (nat_le (s.size + range.count) 256 ≡ true) × (nat_lt s.bios 32 ≡ true) = and_parts (nat_le (s.size + range.count) 256) (nat_lt s.bios 32) b.1 in
-    (eqb-true s.session session c.0, leb-true (s.size + range.count) 256 d.0, ltb-true s.bios 32 d.1, a.1)
+    (eqb-true s.session session c.0, leb-true (s.size + range.count) 256 d.0, ltb-true s.bios 32 d.1, a.1, c.1)

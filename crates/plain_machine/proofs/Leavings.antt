@@ -33,7 +33,7 @@ none_left session (r ∷ queue) list flights none h =
     ] refl none
 
 -- who leaves where no request is left
-gone_is : (l : Limits) (m : Plain) (seat : ℕ) (o : Option Seat) → m.seat seat ≡ o
+pub gone_is : (l : Limits) (m : Plain) (seat : ℕ) (o : Option Seat) → m.seat seat ≡ o
     → option_map_or (λ s. s.leaving && is_empty (left_of l m seat s.session)) o false ≡ true
     → (s : Seat) × (m.seat seat ≡ Some s) × (s.leaving ≡ true) × (is_empty (left_of l m seat s.session) ≡ true)
 gone_is l m seat None is gone = cc
@@ -48,7 +48,7 @@ gone_queue l n m seat s is none h =
     none_left s.session (m.queue seat) m.requeued (flying l m) none its
 
 -- the seats without one
-Seated-freed : (n : ℕ) (seats : ℕ → Option Seat) (seat : ℕ) → Seated n seats → Seated n (put seats seat None)
+pub Seated-freed : (n : ℕ) (seats : ℕ → Option Seat) (seat : ℕ) → Seated n seats → Seated n (put seats seat None)
 Seated-freed n seats seat h =
     let was : (k : ℕ) (s : Seat) → put seats seat None k ≡ Some s → seats k ≡ Some s =
     λ k s e. elim (put_cases seats seat None k (Some s) e) [

@@ -7,8 +7,13 @@ pub mod Sendings
 pub mod Leavings
 pub mod Kept
 pub mod Served
+pub mod Leads
+pub mod Moves
+pub mod Rules
+pub mod Ruled
+pub mod Stamps
+pub mod Each
 pub mod Stepped
-pub mod Serials
 pub mod Wholes
 pub mod Times
 pub mod Monotonic

@@ -1,6 +1,7 @@
 pub mod Numbers
 pub mod Step
 pub mod Keeper
+pub mod Requests
 pub mod Owed
 pub mod Whole
 pub mod Queued

@@ -3,9 +3,9 @@
 //!
 //! The rules stand in `specs/`: `Step` has the steps of the plain machine, one definition for each, in the order of
 //! the table of steps; `Keeper` has the line, the cursor and the journal. No code stands on anything else for its meaning.
-//! `Owed` has what a seat's running counter counts, `Whole` what every request is, `Times` that no virtual time falls,
-//! `Undone` what Undo and Redo leave, `Queued` what a look at a queue shows, `Entities` what one at a group or an entity
-//! shows, and `Device` which step a device's call asks for.
+//! `Requests` has what holds of each request, `Owed` what a seat's running counter counts, `Whole` what every request is,
+//! `Times` that no virtual time falls, `Undone` what Undo and Redo leave, `Queued` what a look at a queue shows,
+//! `Entities` what one at a group or an entity shows, and `Device` which step a device's call asks for.
 //!
 //! | call | rule that it meets |
 //! |---|---|

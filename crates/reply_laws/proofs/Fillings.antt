@@ -1,25 +1,23 @@
 -- Every step leaves blocks, payloads and results with the bytes of their sectors.
-use Rattle.std.proofs.Common.{true, Bool, ◌≡◌, ℕ, ◌==◌, ◌&&◌, if◌then◌else◌, List, [], ◌∷◌, ◌++◌, None, All, refl, sym, subst}
+use Rattle.std.proofs.Common.{true, ◌≡◌, ℕ, List, [], ◌∷◌, ◌++◌, None, All, refl, sym, subst}
 use Rattle.std.specs.FinMap as blocks
-use Rattle.std.proofs.lemmas.Bool.{and_parts}
 use Rattle.std.proofs.lemmas.List.Elements.{All-nil, All-cons, All-append, All-same, All-tail}
 use Rattle.sector_core.specs.declared.bio.Bio.{Bio}
 use Rattle.sector_core.specs.declared.bio.Op.{Op}
 use Rattle.sector_core.specs.declared.bio.Op.TheVariants.{Fetch, Store}
 use Rattle.sector_core.specs.declared.range.Range.{Range}
-use Rattle.process_queue.specs.declared.merge.Shape.{Shape}
-use Rattle.process_queue.specs.Merge.{joins_at, may_join, same_op, has_room, shape_of, starts_at, ends_at}
-use Rattle.change_record.specs.Machine.{WholeRequest, Plain}
+use Rattle.process_queue.specs.Merge.{same_op}
+use Rattle.change_record.specs.Machine.{Plain}
 use Rattle.plain_machine.specs.declared.call.Call.{Call}
 use Rattle.plain_machine.specs.Keeper.{machine_of, replay}
-use Rattle.plain_machine.specs.Step.{Limits, opening, shape, new_bio, queue_with, merge_in, completed}
-use Rattle.plain_machine.proofs.Joins.{All-queue_with}
-use Rattle.reply_laws.specs.Requests.{EachRequest}
+use Rattle.plain_machine.specs.Step.{Limits, opening, new_bio, queue_with, merge_in, completed}
+use Rattle.plain_machine.proofs.Joins.{All-queue_with, joined_is}
+use Rattle.plain_machine.specs.Requests.{EachRequest}
 use Rattle.reply_laws.specs.Lengths.{BlocksAreFull, HasPayload, HasPayloads, HasFittingResult, ResultsFit, EachBlockIsFull, EachPayloadFits, EachResultFits}
-use Rattle.reply_laws.proofs.Leads.{IsSized}
-use Rattle.reply_laws.proofs.Moves.{Moves}
-use Rattle.reply_laws.proofs.Stamps.{machine-moves}
-use Rattle.reply_laws.proofs.Each.{put-all, with_bio-all, each-queued, each-sent, each-resent, each-given_back, each-landed}
+use Rattle.plain_machine.proofs.Leads.{IsSized}
+use Rattle.plain_machine.proofs.Moves.{Moves}
+use Rattle.plain_machine.proofs.Stamps.{machine-moves}
+use Rattle.plain_machine.proofs.Each.{put-all, with_bio-all, each-queued, each-sent, each-resent, each-given_back, each-landed}
 use Rattle.reply_laws.proofs.Full.{blocks-stay, results-fit}
 
 -- what has been stored, what waits and what is completed has the bytes of its sectors
@@ -33,15 +31,6 @@ same_op-is Fetch Store h = cc
 same_op-is Store Fetch h = cc
 same_op-is Store Store h = refl
 
--- what a bio joins has its operation
-joined-op : (front : Bool) (session : ℕ) (op : Op) (range : Range) (r : WholeRequest) → joins_at shape front session op range r ≡ true → r.op ≡ op
-joined-op front session op range r joined =
-    let s : Shape = shape_of r.session r.op r.bios in
-    let edge : Bool = if front then starts_at range s else ends_at range s in
-    let a : (may_join session op range s ≡ true) × (edge ≡ true) = and_parts (may_join session op range s) edge joined in
-    let b : (((s.session == session) && same_op s.op op) ≡ true) × (has_room range s ≡ true) = and_parts ((s.session == session) && same_op s.op op) (has_room range s) a.0 in
-    same_op-is r.op op (and_parts (s.session == session) (same_op s.op op) b.0).1
-
 filled-queue : (n : ℕ) (m : Plain) (seat session : ℕ) (op : Op) (range : Range) (payload : List ℕ) → IsSized op range payload → All HasPayloads (m.queue seat)
     → All HasPayloads (queue_with session op (new_bio n range payload) (merge_in m seat session op range) (m.queue seat))
 filled-queue n m seat session op range payload is all =
@@ -50,7 +39,7 @@ filled-queue n m seat session op range payload is all =
     All-queue_with HasPayloads session op bio (merge_in m seat session op range) (m.queue seat)
     (All-cons (HasPayload op) bio [] its (All-nil (HasPayload op)))
     (λ front r joined h.
-    let same : r.op ≡ op = joined-op front session op range r joined in
+    let same : r.op ≡ op = same_op-is r.op op (joined_is front session op range r joined).4 in
     let here : HasPayload r.op bio = subst (λ o. HasPayload o bio) (sym same) its in
     with_bio-all (HasPayload r.op) front bio r here h)
     all

@@ -1,12 +1,11 @@
 -- Blocks have 512 bytes, and what is read has the bytes of its sectors.
-use Rattle.std.proofs.Common.{true, false, Bool, ◌≡◌, ℕ, zero, suc, ◌+◌, ◌*◌, ◌≤◌, List, [], ◌∷◌, length, take, drop, map, Option, None, Some, All, cond, unwrap_or, refl, sym, ap, ◌∙◌, subst, arith, eqb-true}
+use Rattle.std.proofs.Common.{true, false, Bool, ◌≡◌, ℕ, zero, suc, ◌+◌, ◌*◌, ◌≤◌, List, [], ◌∷◌, length, take, drop, Option, None, Some, All, cond, unwrap_or, refl, sym, ap, ◌∙◌, subst, arith, eqb-true}
 use Rattle.std.specs.Ordering.{nat_cmp}
 use Rattle.std.specs.FinMap as blocks
 use Rattle.std.specs.Cmp.{nat_cmp_total}
 use Rattle.std.specs.Ordering.{eq_by_cmp}
 use Rattle.std.proofs.lemmas.List.{length-append, length-drop, length-take}
 use Rattle.std.proofs.lemmas.List.Elements.{All-nil, All-cons, All-head, All-tail}
-use Rattle.std.proofs.lemmas.List.Sums.{sum_by-cons}
 use Rattle.sector_core.specs.declared.bio.Bio.{Bio}
 use Rattle.sector_core.specs.declared.bio.Op.{Op}
 use Rattle.sector_core.specs.declared.bio.Op.TheVariants.{Fetch, Store}
@@ -14,19 +13,14 @@ use Rattle.sector_core.specs.declared.bio.Outcome.{Outcome}
 use Rattle.sector_core.specs.declared.bio.Outcome.TheVariants.{Fetched, Stored, Failed}
 use Rattle.overlay.specs.Blocks.{Blocks}
 use Rattle.plain_machine.specs.Step.{fits, size_of, with_blocks, with_stored, after_outcome, content, result_of, rest_of_outcome, completed}
+use Rattle.plain_machine.proofs.Puts.{some_is}
+use Rattle.plain_machine.proofs.Wholes.{size_of-cons}
 use Rattle.reply_laws.specs.Lengths.{BlocksAreFull, HasPayload, FitsSectors, HasFittingResult}
-
--- a list of bios has the sectors of its first and of the rest
-size_of-cons : (bio : Bio) (bios : List Bio) → size_of (bio ∷ bios) ≡ bio.range.count + size_of bios
-size_of-cons bio bios = omega (arith, sum_by-cons (λ n. n) bio.range.count (map (λ b. b.range.count) bios))
-
-some-same : {A : Type 0} (a b : A) → Some a ≡ Some b → a ≡ b
-some-same a b e = ap (λ o. unwrap_or o a) e
 
 -- a block more of 512 bytes
 full-at : (c : Bool) (block : List ℕ) (o : Option (List ℕ)) (b : List ℕ) → length block ≡ 512 → ((b : List ℕ) → o ≡ Some b → length b ≡ 512)
     → cond c (Some block) o ≡ Some b → length b ≡ 512
-full-at true block o b size h e = sym (ap length (some-same block b e)) ∙ size
+full-at true block o b size h e = sym (ap length (some_is block b e)) ∙ size
 full-at false block o b size h e = h b e
 
 full-insert : (overlay : Blocks) (sector : ℕ) (block : List ℕ) → length block ≡ 512 → BlocksAreFull overlay → BlocksAreFull (blocks.insert overlay sector block)

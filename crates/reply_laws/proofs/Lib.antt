@@ -1,7 +1,3 @@
-pub mod Leads
-pub mod Moves
-pub mod Stamps
-pub mod Each
 pub mod Full
 pub mod Fillings
 pub mod Replies
@@ -10,7 +6,5 @@ pub mod Outcomes
 pub mod Sittings
 pub mod Totals
 pub mod Placings
-pub mod Rules
-pub mod Ruled
 pub mod Timely
 pub mod Slots

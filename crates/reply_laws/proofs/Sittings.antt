@@ -1,25 +1,26 @@
 -- Every step leaves each request with a session that sits at a seat.
-use Rattle.std.proofs.Common.{true, false, slice_index_or, ◌≡◌, inl, inr, ℕ, zero, suc, ◌+◌, ◌<◌, ◌≤◌, ◌==◌, ◌&&◌, List, [], ◌∷◌, ◌++◌, Option, Some, None, All, cond, refl, sym, ap, ◌∙◌, subst, arith, eq-eqb, eqb-true}
+use Rattle.std.proofs.Common.{true, false, slice_index_or, ◌≡◌, inl, inr, ℕ, zero, suc, ◌+◌, ◌<◌, ◌≤◌, ◌==◌, List, [], ◌∷◌, ◌++◌, Option, Some, None, All, cond, refl, sym, ap, ◌∙◌, subst, arith, eq-eqb, eqb-true}
 use Rattle.std.specs.List.{filter, filter_map, cons_option}
-use Rattle.std.specs.Option.{option_map, option_map_or}
-use Rattle.std.proofs.lemmas.Bool.{cases_eq, and_parts}
+use Rattle.std.specs.Option.{option_map}
+use Rattle.std.proofs.lemmas.Bool.{cases_eq}
 use Rattle.std.proofs.lemmas.List.Elements.{All-nil, All-cons, All-same, All-head, All-tail, All-push, All-weaker}
 use Rattle.soft_queue.specs.Turn.{numbers}
 use Rattle.process_queue.specs.Queue.{is_empty}
 use Rattle.change_record.specs.declared.change.Seat.{Seat}
 use Rattle.change_record.specs.Machine.{WholeRequest, Flight, Plain, put}
 use Rattle.plain_machine.specs.declared.call.Call.{Call}
-use Rattle.plain_machine.specs.Step.{Limits, opening, is_session, new_bio, merge_in, request_at, flying, is_of, left_of, is_gone}
+use Rattle.plain_machine.specs.Step.{Limits, opening, is_session, new_bio, merge_in, request_at, flying, is_of, is_gone}
 use Rattle.plain_machine.specs.Keeper.{machine_of, replay}
-use Rattle.plain_machine.proofs.Puts.{put_here, put_other, put_cases, some_is}
+use Rattle.plain_machine.proofs.Puts.{put_here, put_other, some_is}
 use Rattle.plain_machine.proofs.Joins.{All-queue_with}
-use Rattle.plain_machine.proofs.Debts.{Seated, Seated-later, SitsAt}
+use Rattle.plain_machine.proofs.Debts.{Seated, Seated-later, Seated-attached, SitsAt}
+use Rattle.plain_machine.proofs.Leavings.{Seated-freed, gone_is}
 use Rattle.plain_machine.proofs.Counters.{Seated-changed, SitsAt-changed, is_session-changed}
 use Rattle.plain_machine.proofs.Sendings.{IsTaken-first}
 use Rattle.reply_laws.specs.Sessions.{SitsAtOne, SessionsSitApart, RequestsHaveSeats}
-use Rattle.reply_laws.proofs.Moves.{Moves, Stays}
-use Rattle.reply_laws.proofs.Stamps.{machine-moves}
-use Rattle.reply_laws.proofs.Each.{flown, ended}
+use Rattle.plain_machine.proofs.Moves.{Moves, Stays}
+use Rattle.plain_machine.proofs.Stamps.{machine-moves}
+use Rattle.plain_machine.proofs.Each.{flown, ended}
 
 -- a request's session sits at some seat
 abbrev HasSeat : (ℕ → Option Seat) → WholeRequest → Type 0
@@ -35,28 +36,6 @@ Seating l n m =
     × ((tag : ℕ) (f : Flight) → m.flight tag ≡ Some f → (tag < l.tags) × HasSeat m.seat f.request)
 
 -- Attach: who sits stays, since the seat was free.
-Seated-attached : (n : ℕ) (seats : ℕ → Option Seat) (seat : ℕ) (entry : Seat) → seat < 16 → entry.session ≡ n → Seated n seats → Seated (n + 1) (put seats seat (Some entry))
-Seated-attached n seats seat entry lt new h = record {
-  within = λ k s e. elim (put_cases seats seat (Some entry) k (Some s) e) [
-    | inl x ↦ let here = x.0 in omega (arith, here, lt)
-    | inr x ↦ h.within k s x.1
-  ];
-  given = λ k s e. elim (put_cases seats seat (Some entry) k (Some s) e) [
-    | inl x ↦ let same = ap (λ (t : Seat). t.session) (some_is entry s x.1) in omega (arith, same, new)
-    | inr x ↦ omega (arith, h.given k s x.1)
-  ];
-  apart = λ j k s t e f same. elim (put_cases seats seat (Some entry) j (Some s) e) [
-    | inl x ↦ elim (put_cases seats seat (Some entry) k (Some t) f) [
-      | inl y ↦ x.0 ∙ sym y.0
-      | inr y ↦ let here = ap (λ (u : Seat). u.session) (some_is entry s x.1) in absurd (omega (arith, here, new, same, h.given k t y.1))
-    ]
-    | inr x ↦ elim (put_cases seats seat (Some entry) k (Some t) f) [
-      | inl y ↦ let here = ap (λ (u : Seat). u.session) (some_is entry t y.1) in absurd (omega (arith, here, new, same, h.given j s x.1))
-      | inr y ↦ h.apart j k s t x.1 y.1 same
-    ]
-  ];
-}
-
 sits-attached : (seats : ℕ → Option Seat) (seat : ℕ) (v : Option Seat) (k session : ℕ) → seats seat ≡ None → is_session session (seats k) ≡ true
     → is_session session (put seats seat v k) ≡ true
 sits-attached seats seat v k session free sits = elim (cases_eq k seat) [
@@ -87,25 +66,6 @@ changed-seating l n m seat f stays h =
     )
 
 -- A seat is free where no request of its session is left.
-Seated-freed : (n : ℕ) (seats : ℕ → Option Seat) (seat : ℕ) → Seated n seats → Seated n (put seats seat None)
-Seated-freed n seats seat h =
-    let was : (k : ℕ) (s : Seat) → put seats seat None k ≡ Some s → seats k ≡ Some s =
-    λ k s e. elim (put_cases seats seat None k (Some s) e) [
-      | inl x ↦ cc
-      | inr x ↦ x.1
-    ] in
-    record {
-      within = λ k s e. h.within k s (was k s e);
-      given = λ k s e. h.given k s (was k s e);
-      apart = λ j k s t e f same. h.apart j k s t (was j s e) (was k t f) same;
-    }
-
--- who leaves, and what is left of it
-gone-is : (l : Limits) (m : Plain) (seat : ℕ) (o : Option Seat) → option_map_or (λ (s : Seat). s.leaving && is_empty (left_of l m seat s.session)) o false ≡ true
-    → (s : Seat) × (o ≡ Some s) × (is_empty (left_of l m seat s.session) ≡ true)
-gone-is l m seat None gone = cc
-gone-is l m seat (Some s) gone = (s, refl, (and_parts s.leaving (is_empty (left_of l m seat s.session)) gone).1)
-
 abbrev IsOther : ℕ → WholeRequest → Type 0
 IsOther session r = is_of session r ≡ false
 
@@ -160,10 +120,10 @@ sits-freed seats seat s k r is other sits = elim (cases_eq k seat) [
 freed-seating : (l : Limits) (n : ℕ) (m : Plain) (seat : ℕ) → is_gone l m seat ≡ true → Seating l n m → Seating l n (record m { seat = put m.seat seat None })
 freed-seating l n m seat gone h =
     let seats : ℕ → Option Seat = put m.seat seat None in
-    let who = gone-is l m seat (m.seat seat) gone in
+    let who = gone_is l m seat (m.seat seat) refl gone in
     let s : Seat = who.0 in
     let Q : WholeRequest → Type 0 = IsOther s.session in
-    let all : All Q (m.queue seat ++ m.requeued ++ flying l m) = none-passes s.session (m.queue seat ++ m.requeued ++ flying l m) who.2 in
+    let all : All Q (m.queue seat ++ m.requeued ++ flying l m) = none-passes s.session (m.queue seat ++ m.requeued ++ flying l m) who.3 in
     let waiting : All Q (m.queue seat ++ m.requeued) = all-first Q (m.queue seat ++ m.requeued) (flying l m) all in
     let queue : All Q (m.queue seat) = all-first Q (m.queue seat) m.requeued waiting in
     let list : All Q m.requeued = all-second Q (m.queue seat) m.requeued waiting in

@@ -10,9 +10,9 @@ use Rattle.plain_machine.specs.Step.{Limits, opening_bfq, older}
 use Rattle.plain_machine.specs.Keeper.{machine_of, replay}
 use Rattle.plain_machine.proofs.Puts.{put_other, some_is}
 use Rattle.reply_laws.specs.Bounds.{AgesAreBounded, GroupsHaveTheGreatestBudget}
-use Rattle.reply_laws.proofs.Rules.{Changes}
-use Rattle.reply_laws.proofs.Ruled.{Ruled, ruled-leads}
-use Rattle.reply_laws.proofs.Stamps.{machine-leads}
+use Rattle.plain_machine.proofs.Rules.{Changes}
+use Rattle.plain_machine.proofs.Ruled.{Ruled, ruled-leads}
+use Rattle.plain_machine.proofs.Stamps.{machine-leads}
 
 -- the queue in service is that of a seat, and its age is below a serial
 abbrev IsYoung : ℕ → InService → Type 0

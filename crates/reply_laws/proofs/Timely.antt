@@ -12,9 +12,9 @@ use Rattle.plain_machine.specs.declared.call.Call.{Call}
 use Rattle.plain_machine.specs.Step.{Limits, opening_bfq}
 use Rattle.plain_machine.proofs.Puts.{put_here, put_other, some_is}
 use Rattle.reply_laws.specs.Bounds.{AreTimely, TimesAreBounded}
-use Rattle.reply_laws.proofs.Rules.{Changes}
-use Rattle.reply_laws.proofs.Ruled.{Ruled, ruled-leads}
-use Rattle.reply_laws.proofs.Stamps.{machine-leads}
+use Rattle.plain_machine.proofs.Rules.{Changes}
+use Rattle.plain_machine.proofs.Ruled.{Ruled, ruled-leads}
+use Rattle.plain_machine.proofs.Stamps.{machine-leads}
 
 -- a member's times
 abbrev HasTimes : Member → Type 0

@@ -11,7 +11,7 @@ use Rattle.plain_machine.specs.declared.call.Call.{Call}
 use Rattle.plain_machine.specs.Step.{Limits, payload_length}
 use Rattle.plain_machine.specs.Whole.{HasSectors}
 use Rattle.plain_machine.specs.Keeper.{machine_of, replay}
-use Rattle.reply_laws.specs.Requests.{EachRequest}
+use Rattle.plain_machine.specs.Requests.{EachRequest}
 
 -- each stored block has the 512 bytes of a sector (our profile)
 abbrev pub BlocksAreFull : Blocks → Type 0

@@ -1,4 +1,3 @@
-pub mod Requests
 pub mod Lengths
 pub mod Answered
 pub mod Sessions

@@ -5,7 +5,7 @@ use Rattle.change_record.specs.Machine.{WholeRequest, Plain}
 use Rattle.plain_machine.specs.declared.call.Call.{Call}
 use Rattle.plain_machine.specs.Step.{Limits}
 use Rattle.plain_machine.specs.Keeper.{machine_of, replay}
-use Rattle.reply_laws.specs.Requests.{EachRequest}
+use Rattle.plain_machine.specs.Requests.{EachRequest}
 
 -- a bio has a result
 abbrev pub HasResult : Bio → Type 0

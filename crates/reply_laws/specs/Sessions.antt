@@ -4,7 +4,7 @@ use Rattle.change_record.specs.declared.change.Seat.{Seat}
 use Rattle.plain_machine.specs.declared.call.Call.{Call}
 use Rattle.plain_machine.specs.Step.{Limits, is_session}
 use Rattle.plain_machine.specs.Keeper.{machine_of, replay}
-use Rattle.reply_laws.specs.Requests.{EachRequest}
+use Rattle.plain_machine.specs.Requests.{EachRequest}
 
 -- sessions sit at the first sixteen seats (our profile)
 abbrev pub AreWithin : (ℕ → Option Seat) → Type 0

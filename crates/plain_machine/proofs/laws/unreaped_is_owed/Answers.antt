@@ -1,4 +1,4 @@
-use Rattle.plain_machine.proofs.Serials.{unreaped-owed}
+use Rattle.plain_machine.proofs.Stepped.{unreaped-owed}
 use Rattle.plain_machine.proofs.laws.unreaped_is_owed.Goals as goal
 
 pub returns : goal.returns

@@ -1,4 +1,4 @@
--- The serials of a keeper's line rise, so that what each step keeps holds of every keeper's machine.
+-- The serials of a keeper's line rise, so that what every accepted step keeps holds of every keeper's machine.
 use Rattle.std.proofs.Common.{true, false, Bool, ◌≡◌, ℕ, zero, suc, ◌+◌, ◌≤◌, List, [], ◌∷◌, ◌++◌, take, Option, Some, None, if◌then◌else◌, refl, sym, subst, arith}
 use Rattle.change_record.specs.Machine.{Plain}
 use Rattle.plain_machine.specs.declared.step.Step.{Step}
@@ -10,12 +10,11 @@ use Rattle.plain_machine.specs.declared.answer.Answer.TheVariants.{Accepted, Ref
 use Rattle.plain_machine.specs.declared.answer.Cause.TheVariants.{Held}
 use Rattle.plain_machine.specs.Step.{Limits, opening, step}
 use Rattle.plain_machine.specs.Keeper.{State, opened, machine_of, has_room, did, called, replayed, replay, fold_from}
-use Rattle.plain_machine.specs.Owed.{UnreapedIsOwed}
-use Rattle.plain_machine.proofs.Debts.{Sound, Sound-later, Sound-opening}
-use Rattle.plain_machine.proofs.Stepped.{step-sound}
+use Rattle.plain_machine.proofs.Leads.{Leads, step-leads}
+use Rattle.plain_machine.proofs.Moves.{Moves, moves-lead}
 
 -- the serials of some steps rise, from one number on and below another
-abbrev pub Rising : ℕ → ℕ → List Stamped → Type 0
+abbrev Rising : ℕ → ℕ → List Stamped → Type 0
 Rising low top [] = low ≤ top
 Rising low top (s ∷ steps) = (low ≤ s.serial) × Rising (s.serial + 1) top steps
 
@@ -33,15 +32,15 @@ Rising-push low top [] s e h = (omega (arith, e, h), omega (arith, e))
 Rising-push low top (t ∷ steps) s e h = (h.0, Rising-push (t.serial + 1) top steps s e h.1)
 
 -- so each step finds a machine whose steps had serials below its own
-fold_from-sound : (l : Limits) (low top : ℕ) (m : Plain) (steps : List Stamped) → Rising low top steps → Sound l low m → Sound l top (fold_from l m steps)
-fold_from-sound l low top m [] r h = Sound-later l low top m r h
-fold_from-sound l low top m (s ∷ steps) r h =
-    fold_from-sound l (s.serial + 1) top (step l m s.serial true s.step).0 steps r.1 (step-sound l s.serial m true s.step (Sound-later l low s.serial m r.0 h))
+fold_from-leads : (l : Limits) (P : ℕ → Plain → Type 0) → Leads l P → (low top : ℕ) (m : Plain) (steps : List Stamped) → Rising low top steps → P low m → P top (fold_from l m steps)
+fold_from-leads l P k low top m [] r h = k.later low top m r h
+fold_from-leads l P k low top m (s ∷ steps) r h =
+    fold_from-leads l P k (s.serial + 1) top (step l m s.serial true s.step).0 steps r.1 (step-leads l P k m s.serial true s.step (k.later low s.serial m r.0 h))
 
 -- a keeper of these limits, the serials of whose line rise and are at most the last one given
-pub record IsStamped (l : Limits) (k : State) : Type 0 where
-  pub limits : k.limits ≡ l
-  pub rising : Rising 0 (k.last + 1) k.line
+record IsStamped (l : Limits) (k : State) : Type 0 where
+  limits : k.limits ≡ l
+  rising : Rising 0 (k.last + 1) k.line
 
 -- a call that a test may refuse
 entered-stamped : (l : Limits) (k : State) (first : Option Answer) (next : State) (answer : Answer) → IsStamped l k → IsStamped l next
@@ -75,15 +74,16 @@ replayed-stamped l k [] h = h
 replayed-stamped l k (call ∷ calls) h = replayed-stamped l (called k call).0 calls (called-stamped l k call h)
 
 -- the machine of such a keeper
-machine-sound : (l : Limits) (k : State) → IsStamped l k → Sound l (k.last + 1) (machine_of k)
-machine-sound l k h =
-    let steps = take k.cursor k.line in
-    let made : Sound l (k.last + 1) (fold_from l (opening l) steps) =
-    fold_from-sound l 0 (k.last + 1) (opening l) steps (Rising-take 0 (k.last + 1) k.cursor k.line h.rising) (Sound-opening l) in
-    subst (λ x. Sound l (k.last + 1) (fold_from x (opening x) steps)) (sym h.limits) made
+pub machine-leads : (l : Limits) (most : ℕ) (journal : List Call) (P : ℕ → Plain → Type 0) → Leads l P → P 0 (opening l)
+    → P ((replay l most journal).last + 1) (machine_of (replay l most journal))
+machine-leads l most journal P keeps h =
+    let k : State = replay l most journal in
+    let is : IsStamped l k = replayed-stamped l (opened l most) journal (record { limits = refl; rising = omega arith }) in
+    let steps : List Stamped = take k.cursor k.line in
+    let Q : Limits → Type 0 = λ x. P (k.last + 1) (fold_from x (opening x) steps) in
+    subst Q (sym is.limits) (fold_from-leads l P keeps 0 (k.last + 1) (opening l) steps (Rising-take 0 (k.last + 1) k.cursor k.line is.rising) h)
 
--- the law
-pub unreaped-owed : (l : Limits) (most : ℕ) (journal : List Call) → UnreapedIsOwed l most journal
-unreaped-owed l most journal =
-    let k = replay l most journal in
-    (machine-sound l k (replayed-stamped l (opened l most) journal (record { limits = refl; rising = omega arith }))).counts
+-- and so where every move does
+pub machine-moves : (l : Limits) (most : ℕ) (journal : List Call) (P : ℕ → Plain → Type 0) → Moves l P → P 0 (opening l)
+    → P ((replay l most journal).last + 1) (machine_of (replay l most journal))
+machine-moves l most journal P keeps h = machine-leads l most journal P (moves-lead l P keeps) h

@@ -13,7 +13,7 @@ use Rattle.plain_machine.specs.Step.{Limits, attached, is_session, is_leaving, n
 use Rattle.plain_machine.proofs.Flights.{find-numbers}
 use Rattle.plain_machine.proofs.Sendings.{IsTaken, IsTaken-first, dispatched, resent, given_back}
 use Rattle.plain_machine.proofs.Served.{woken-keeps, sent_by_bfq-keeps}
-use Rattle.reply_laws.proofs.Leads.{Leads, IsSized, reaped_at}
+use Rattle.plain_machine.proofs.Leads.{Leads, IsSized, reaped_at}
 
 -- a queue with one more bio
 abbrev pub queued_in : Plain → ℕ → ℕ → ℕ → Op → Range → List ℕ → Plain
