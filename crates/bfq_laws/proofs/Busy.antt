@@ -19,10 +19,11 @@ use Rattle.bfq_select.specs.declared.expiry.Expiry.TheVariants.{Emptying}
 use Rattle.bfq_select.specs.Rules.{absent, is_idle, group_of, activate, select, charge, expire, stands}
 use Rattle.plain_machine.specs.declared.answer.Reply.{Reply}
 use Rattle.plain_machine.specs.Step.{Limits, opening, is_bfq, with_entity, attached, new_bio, with_bio, change_first, queue_with, submitted, woken, range_of, next_request, with_budget_in, with_slot, older, without_first, without_empty, without_entity, sent_next, sent_in, sent_by_bfq, shape}
-use Rattle.bfq_laws.proofs.Puts.{put_here, put_other, some_is, and_then_is, map_is}
+use Rattle.plain_machine.proofs.Puts.{put_here, put_other, some_is, and_then_is, map_is}
 use Rattle.bfq_laws.proofs.Quiet.{activate-quiet, charge-slot, expire-slot}
 use Rattle.bfq_laws.proofs.Overdue.{overdue}
-use Rattle.bfq_laws.proofs.Walk.{made, entered, gone}
+use Rattle.plain_machine.proofs.Leads.{made}
+use Rattle.bfq_laws.proofs.Walk.{entered, gone}
 use Rattle.bfq_laws.proofs.Tree.{placed, placed-here, placed-elsewhere, placed-other, length-member, Over, Over-same, Over-trans, Over-vtime, idle, idle-over, Tree, Tree-over, sits-above, Sets, activate-sets, charge-over, expire-sets, Choice, select-choice}
 
 -- each taken seat's entity is idle exactly where its queue is empty; and the queue in service, if one is, is not empty

@@ -13,7 +13,7 @@ use Rattle.change_record.specs.Machine.{WholeRequest, Bfq, Plain}
 use Rattle.bfq_select.specs.Rules.{group_of, put_vtime, activate, charge}
 use Rattle.plain_machine.specs.declared.answer.Reply.{Reply}
 use Rattle.plain_machine.specs.Step.{Limits, is_bfq, unreaped, with_unreaped, submitted, woken, range_of, next_request, with_budget_in, with_slot, without_first, without_empty, sent_next, sent_in, sent_by_bfq, with_first_budgets, begun_again, switched, shape}
-use Rattle.bfq_laws.proofs.Puts.{some_is, and_then_is, map_is}
+use Rattle.plain_machine.proofs.Puts.{some_is, and_then_is, map_is}
 use Rattle.bfq_laws.proofs.Begun.{timed, begun-keeps}
 use Rattle.bfq_laws.proofs.Walk.{sent_in_turn}
 use Rattle.bfq_laws.proofs.Tree.{Over, Over-same, Over-member, Over-vtime, idle, idle-over, Tree, Tree-over, Sets, sets-own}

@@ -10,7 +10,7 @@ use Rattle.change_record.specs.declared.change.InService.{InService}
 use Rattle.change_record.specs.Machine.{Bfq, put}
 use Rattle.bfq_select.specs.Rules.{group_of, put_vtime, is_idle, picked, jumped, in_service, on_pick, taken, select_from, select}
 use Rattle.plain_machine.specs.Step.{with_slot}
-use Rattle.bfq_laws.proofs.Puts.{put_here, put_other, some_is}
+use Rattle.plain_machine.proofs.Puts.{put_here, put_other, some_is}
 use Rattle.bfq_laws.proofs.Quiet.{jumped-quiet}
 use Rattle.bfq_laws.proofs.Tree.{placed, idle}
 use Rattle.bfq_laws.proofs.Busy.{no_slot}

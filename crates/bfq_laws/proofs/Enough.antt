@@ -13,9 +13,8 @@ use Rattle.bfq_select.specs.Rules.{activate, budget_after, select, charge, expir
 use Rattle.plain_machine.specs.declared.answer.Reply.{Reply}
 use Rattle.plain_machine.specs.declared.call.Call.{Call}
 use Rattle.plain_machine.specs.Step.{Limits, opening, is_bfq, submitted, woken, range_of, next_request, with_budget_in, with_slot, without_first, without_empty, sent_next, sent_in, sent_by_bfq, begun_again, shape}
-use Rattle.plain_machine.specs.Whole.{KeepsWhole}
 use Rattle.bfq_laws.specs.Budgets.{AreEnough, BudgetsAreEnough}
-use Rattle.bfq_laws.proofs.Puts.{put_here, put_other, some_is, and_then_is, map_is}
+use Rattle.plain_machine.proofs.Puts.{put_here, put_other, some_is, and_then_is, map_is}
 use Rattle.bfq_laws.proofs.Quiet.{activate-quiet, select-budgets, charge-slot, expire-slot}
 use Rattle.bfq_laws.proofs.Walk.{Keeps, machine-keeps}
 use Rattle.bfq_laws.proofs.Overdue.{overdue}
@@ -123,7 +122,7 @@ keeps-enough l first most = record {
 }
 
 -- the law
-pub budgets-enough : ((l : Limits) (m : Plain) → KeepsWhole l m) → (l : Limits) (most : ℕ) (journal : List Call) → BudgetsAreEnough l most journal
-budgets-enough stay l most journal first greatest =
+pub budgets-enough : (l : Limits) (most : ℕ) (journal : List Call) → BudgetsAreEnough l most journal
+budgets-enough l most journal first greatest =
     let le : 256 ≤ l.max_budget = omega (arith, first, greatest) in
-    machine-keeps l most journal (λ m. AreEnough m.bfq) (stay l) (keeps-enough l first le) (opening-enough l first le)
+    machine-keeps l most journal (λ m. AreEnough m.bfq) (keeps-enough l first le) (opening-enough l first le)

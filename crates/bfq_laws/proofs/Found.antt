@@ -8,7 +8,6 @@ use Rattle.bfq_select.specs.Rules.{member_of, is_idle}
 use Rattle.plain_machine.specs.declared.call.Call.{Call}
 use Rattle.plain_machine.specs.Step.{Limits, is_bfq, with_slot}
 use Rattle.plain_machine.specs.Keeper.{machine_of, replay}
-use Rattle.plain_machine.specs.Whole.{KeepsWhole}
 use Rattle.bfq_laws.specs.Found.{DispatchFindsARequest, EachDispatchFindsARequest}
 use Rattle.bfq_laws.specs.Busy.{BusySessionsWaitOrAreServed}
 use Rattle.bfq_laws.specs.Members.{AreMembers, EntitiesAreMembers}
@@ -43,8 +42,8 @@ finds l m h under some b e =
     (slot.0, slot.1, next-some m slot.0.seat (ready.serves slot.0 slot.1).2)
 
 -- the laws
-pub dispatch-finds : ((l : Limits) (m : Plain) → KeepsWhole l m) → (l : Limits) (most : ℕ) (journal : List Call) → EachDispatchFindsARequest l most journal
-dispatch-finds stay l most journal = finds l (machine_of (replay l most journal)) (machine-sound stay l most journal)
+pub dispatch-finds : (l : Limits) (most : ℕ) (journal : List Call) → EachDispatchFindsARequest l most journal
+dispatch-finds l most journal = finds l (machine_of (replay l most journal)) (machine-sound l most journal)
 
 -- where this queue is known or not
 seen-busy : (known idle : Bool) (xs : List WholeRequest) → idle ≡ is_empty (cond known xs []) → not idle ≡ (known && not (is_empty xs))
@@ -55,10 +54,10 @@ seen-served : (known : Bool) (xs : List WholeRequest) → is_empty (cond known x
 seen-served true xs e = (refl, e)
 seen-served false xs e = cc
 
-pub busy-not-idle : ((l : Limits) (m : Plain) → KeepsWhole l m) → (l : Limits) (most : ℕ) (journal : List Call) → BusySessionsWaitOrAreServed l most journal
-busy-not-idle stay l most journal =
+pub busy-not-idle : (l : Limits) (most : ℕ) (journal : List Call) → BusySessionsWaitOrAreServed l most journal
+busy-not-idle l most journal =
     let m : Plain = machine_of (replay l most journal) in
-    let calm : Calm m = (machine-sound stay l most journal).calm in (
+    let calm : Calm m = (machine-sound l most journal).calm in (
       λ seat lt sits. seen-busy (is_bfq m.scheduler) (is_idle (member_of m.bfq seat).state) (m.queue seat) (calm.busy.rests seat lt sits),
       λ slot at. seen-served (is_bfq m.scheduler) (m.queue slot.seat) (calm.busy.serves slot at).2,
     )
@@ -71,8 +70,8 @@ members-are m h =
       λ group e up. h.alive.at.places.there group e (sym (same e) ∙ up),
     )
 
-pub entities-members : ((l : Limits) (m : Plain) → KeepsWhole l m) → (l : Limits) (most : ℕ) (journal : List Call) → EntitiesAreMembers l most journal
-entities-members stay l most journal = members-are (machine_of (replay l most journal)) (machine-sound stay l most journal)
+pub entities-members : (l : Limits) (most : ℕ) (journal : List Call) → EntitiesAreMembers l most journal
+entities-members l most journal = members-are (machine_of (replay l most journal)) (machine-sound l most journal)
 
-pub queues-owned : ((l : Limits) (m : Plain) → KeepsWhole l m) → (l : Limits) (most : ℕ) (journal : List Call) → QueuesAreOfTheirSessions l most journal
-queues-owned stay l most journal = (machine-sound stay l most journal).owned
+pub queues-owned : (l : Limits) (most : ℕ) (journal : List Call) → QueuesAreOfTheirSessions l most journal
+queues-owned l most journal = (machine-sound l most journal).owned

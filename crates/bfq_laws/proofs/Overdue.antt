@@ -7,7 +7,7 @@ use Rattle.bfq_select.specs.declared.expiry.Expiry.{Expiry}
 use Rattle.bfq_select.specs.declared.expiry.Expiry.TheVariants.{Exhaustion, Timeout}
 use Rattle.bfq_select.specs.Rules.{expire}
 use Rattle.plain_machine.specs.Step.{Limits, next_size, with_budget_in}
-use Rattle.bfq_laws.proofs.Puts.{some_is}
+use Rattle.plain_machine.proofs.Puts.{some_is}
 
 pub overdue : (l : Limits) (m : Plain) (slot : InService) (b : Bfq) → with_budget_in l m (Some slot) ≡ Some b
     → ((cause : Expiry) × (expire cause l.max_budget true m.bfq ≡ Some b)) ⊎ ((slot.service + next_size m slot.seat ≤ m.bfq.budget slot.seat) × (m.bfq ≡ b))

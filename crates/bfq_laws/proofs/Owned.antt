@@ -14,8 +14,9 @@ use Rattle.change_record.specs.Machine.{WholeRequest, Bfq, Plain, put}
 use Rattle.bfq_select.specs.Rules.{activate, charge}
 use Rattle.plain_machine.specs.declared.answer.Reply.{Reply}
 use Rattle.plain_machine.specs.Step.{Limits, is_bfq, is_session, unreaped, with_unreaped, new_bio, with_bio, change_first, queue_with, merge_in, submitted, woken, is_of, flying, left_of, is_gone, range_of, next_request, with_budget_in, with_slot, without_first, without_empty, sent_next, sent_in, sent_by_bfq, shape}
-use Rattle.bfq_laws.proofs.Puts.{put_here, put_other, some_is, and_then_is, map_is}
-use Rattle.bfq_laws.proofs.Walk.{Stays, Keeps}
+use Rattle.plain_machine.proofs.Puts.{put_here, put_other, some_is, and_then_is, map_is}
+use Rattle.plain_machine.proofs.Moves.{Stays}
+use Rattle.bfq_laws.proofs.Walk.{Keeps}
 
 abbrev pub Owns : Option Seat → WholeRequest → Type 0
 Owns seat r = is_session r.session seat ≡ true

@@ -11,7 +11,7 @@ use Rattle.service_tree.specs.Members.{Service, is_active, is_eligible, numbered
 use Rattle.change_record.specs.Exchange.{with_vtime}
 use Rattle.change_record.specs.Machine.{Bfq}
 use Rattle.bfq_select.specs.Rules.{vtime_of, put_vtime, picked, jumped}
-use Rattle.bfq_laws.proofs.Puts.{put_here, some_is}
+use Rattle.plain_machine.proofs.Puts.{put_here, some_is}
 use Rattle.bfq_laws.proofs.Tree.{placed, IsPlaced, numbered-placed, soonest-is, first_of_some}
 
 pub active_is : (s : State) → is_active s ≡ true → s ≡ Active

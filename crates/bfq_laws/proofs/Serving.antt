@@ -6,7 +6,6 @@ use Rattle.change_record.specs.Machine.{Bfq, Plain}
 use Rattle.plain_machine.specs.declared.call.Call.{Call}
 use Rattle.plain_machine.specs.Step.{Limits}
 use Rattle.plain_machine.specs.Keeper.{machine_of, replay}
-use Rattle.plain_machine.specs.Whole.{KeepsWhole}
 use Rattle.bfq_laws.specs.Served.{PathIsServed, ThePathIsServed}
 use Rattle.bfq_laws.specs.Seats.{SeatsAreInGroups, TakenSeatsAreInGroups}
 use Rattle.bfq_laws.proofs.Tree.{Tree}
@@ -38,8 +37,8 @@ path-served b h entity = (
       h.at.are entity ∙ h.served on.0 on.1 entity (subst (λ (f : ℕ → Option ℕ). In entity (path f on.0.seat)) h.at.parents way),
 )
 
-pub the-path-served : ((l : Limits) (m : Plain) → KeepsWhole l m) → (l : Limits) (most : ℕ) (journal : List Call) → ThePathIsServed l most journal
-the-path-served stay l most journal = path-served (machine_of (replay l most journal)).bfq (machine-sound stay l most journal).alive
+pub the-path-served : (l : Limits) (most : ℕ) (journal : List Call) → ThePathIsServed l most journal
+the-path-served l most journal = path-served (machine_of (replay l most journal)).bfq (machine-sound l most journal).alive
 
 seats-in : (m : Plain) → Sound m → SeatsAreInGroups m
 seats-in m h seat lt =
@@ -55,5 +54,5 @@ seats-in m h seat lt =
       ] refl
     ] refl
 
-pub taken-seats-in : ((l : Limits) (m : Plain) → KeepsWhole l m) → (l : Limits) (most : ℕ) (journal : List Call) → TakenSeatsAreInGroups l most journal
-taken-seats-in stay l most journal = seats-in (machine_of (replay l most journal)) (machine-sound stay l most journal)
+pub taken-seats-in : (l : Limits) (most : ℕ) (journal : List Call) → TakenSeatsAreInGroups l most journal
+taken-seats-in l most journal = seats-in (machine_of (replay l most journal)) (machine-sound l most journal)

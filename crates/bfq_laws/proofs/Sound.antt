@@ -21,10 +21,10 @@ use Rattle.plain_machine.specs.declared.answer.Reply.{Reply}
 use Rattle.plain_machine.specs.declared.call.Call.{Call}
 use Rattle.plain_machine.specs.Step.{Limits, opening, is_bfq, older, begun_again, with_entity, without_entity, is_gone, prio_weight, attached, submitted, woken, range_of, next_request, with_budget_in, with_slot, without_first, without_empty, sent_next, sent_in, sent_by_bfq, shape}
 use Rattle.plain_machine.specs.Keeper.{machine_of, replay}
-use Rattle.plain_machine.specs.Whole.{KeepsWhole}
-use Rattle.bfq_laws.proofs.Puts.{put_here, put_other, some_is, and_then_is, map_is}
+use Rattle.plain_machine.proofs.Puts.{put_here, put_other, some_is, and_then_is, map_is}
 use Rattle.bfq_laws.proofs.Quiet.{activate-quiet, charge-slot}
-use Rattle.bfq_laws.proofs.Walk.{made, Keeps, machine-keeps}
+use Rattle.plain_machine.proofs.Leads.{made}
+use Rattle.bfq_laws.proofs.Walk.{Keeps, machine-keeps}
 use Rattle.bfq_laws.proofs.Tree.{placed, Over-same, idle, idle-over, Tree, charge-over}
 use Rattle.bfq_laws.proofs.Overdue.{overdue}
 use Rattle.bfq_laws.proofs.Busy.{Busy, Tidy, attached-tidy, entered-tidy, away-from, gone-tidy, ticked-tidy, over-tidy, made-over, dropped-over, with_budget_in-busy, with_slot-busy, opening-tidy, free_place}
@@ -347,5 +347,5 @@ keeps-sound l = record {
 }
 
 -- so it is on the machine of every keeper
-pub machine-sound : ((l : Limits) (m : Plain) → KeepsWhole l m) → (l : Limits) (most : ℕ) (journal : List Call) → Sound (machine_of (replay l most journal))
-machine-sound stay l most journal = machine-keeps l most journal Sound (stay l) (keeps-sound l) (opening-sound l)
+pub machine-sound : (l : Limits) (most : ℕ) (journal : List Call) → Sound (machine_of (replay l most journal))
+machine-sound l most journal = machine-keeps l most journal Sound (keeps-sound l) (opening-sound l)

@@ -11,10 +11,11 @@ use Rattle.change_record.specs.declared.change.InService.{InService}
 use Rattle.change_record.specs.Machine.{Bfq, put}
 use Rattle.bfq_select.specs.Rules.{absent, group_of, is_idle, stands}
 use Rattle.plain_machine.specs.Step.{Limits, with_entity, without_entity, free_group, is_in, is_used}
-use Rattle.bfq_laws.proofs.Puts.{put_here, put_other, put_cases, some_is, find-within}
+use Rattle.plain_machine.proofs.Puts.{put_here, put_other, put_cases, some_is}
+use Rattle.bfq_laws.proofs.Puts.{find-within}
 use Rattle.bfq_laws.proofs.Tree.{placed, placed-here, placed-elsewhere, placed-other, length-member}
 use Rattle.bfq_laws.proofs.Busy.{stood}
-use Rattle.bfq_laws.proofs.Walk.{made}
+use Rattle.plain_machine.proofs.Leads.{made}
 use Rattle.bfq_laws.proofs.Shape.{In, Levels, Stands, stands-low, has-entity, climbing, climb-has, At, state, parent-at, group-at, member-at, vtime-at}
 use Rattle.bfq_laws.proofs.Upcoming.{some_of, passes-of, was-false}
 use Rattle.bfq_laws.proofs.Alive.{Alive, put-was}

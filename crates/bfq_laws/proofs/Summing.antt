@@ -14,10 +14,9 @@ use Rattle.bfq_select.specs.Rules.{group_of, vtime_of, wsum, is_idle}
 use Rattle.plain_machine.specs.declared.call.Call.{Call}
 use Rattle.plain_machine.specs.Step.{Limits, with_slot}
 use Rattle.plain_machine.specs.Keeper.{machine_of, replay}
-use Rattle.plain_machine.specs.Whole.{KeepsWhole}
 use Rattle.bfq_laws.specs.Weights.{WeighEnough}
 use Rattle.bfq_laws.specs.Sums.{SumsArePositiveIn, SumsArePositive}
-use Rattle.bfq_laws.proofs.Puts.{some_is}
+use Rattle.plain_machine.proofs.Puts.{some_is}
 use Rattle.bfq_laws.proofs.Walk.{machine-keeps}
 use Rattle.bfq_laws.proofs.Tree.{idle}
 use Rattle.bfq_laws.proofs.Busy.{Busy, Tidy, with_budget_in-busy, with_slot-busy}
@@ -92,6 +91,6 @@ sums-in l m h under =
     )
 
 -- the law
-pub sums-positive : ((l : Limits) (m : Plain) → KeepsWhole l m) → (l : Limits) (most : ℕ) (journal : List Call) → SumsArePositive l most journal
-sums-positive stay l most journal =
-    sums-in l (machine_of (replay l most journal)) (machine-keeps l most journal Weighs (stay l) (keeps-weighs l) (opening-weighs l, opening-sound l))
+pub sums-positive : (l : Limits) (most : ℕ) (journal : List Call) → SumsArePositive l most journal
+sums-positive l most journal =
+    sums-in l (machine_of (replay l most journal)) (machine-keeps l most journal Weighs (keeps-weighs l) (opening-weighs l, opening-sound l))

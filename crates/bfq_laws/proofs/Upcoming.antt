@@ -11,7 +11,8 @@ use Rattle.process_queue.specs.Merge.{shape_of}
 use Rattle.process_queue.specs.Next.{minimum, wanted, starts, has_start}
 use Rattle.change_record.specs.Machine.{WholeRequest, Plain}
 use Rattle.plain_machine.specs.Step.{shape, next_queue, next_request}
-use Rattle.bfq_laws.proofs.Puts.{some_is, All-find}
+use Rattle.plain_machine.proofs.Puts.{some_is}
+use Rattle.bfq_laws.proofs.Puts.{All-find}
 
 all-other : (P Q : ℕ → Type 0) → ((n : ℕ) → P n → Q n) → (xs : List ℕ) → All P xs → All Q xs
 all-other P Q f [] all = All-nil Q

@@ -18,9 +18,8 @@ use Rattle.bfq_select.specs.Rules.{top, absent, group_of, member_of, put_member,
 use Rattle.plain_machine.specs.declared.answer.Reply.{Reply}
 use Rattle.plain_machine.specs.declared.call.Call.{Call}
 use Rattle.plain_machine.specs.Step.{Limits, opening, is_bfq, is_weight, with_entity, prio_weight, submitted, woken, range_of, next_request, with_budget_in, with_slot, without_first, without_empty, sent_next, sent_in, sent_by_bfq, begun_again, shape}
-use Rattle.plain_machine.specs.Whole.{KeepsWhole}
 use Rattle.bfq_laws.specs.Weights.{WeighEnough, WeightsArePositive}
-use Rattle.bfq_laws.proofs.Puts.{put_here, put_other, some_is, and_then_is, map_is}
+use Rattle.plain_machine.proofs.Puts.{put_here, put_other, some_is, and_then_is, map_is}
 use Rattle.bfq_laws.proofs.Quiet.{unrefused, charge-slot}
 use Rattle.bfq_laws.proofs.Walk.{Keeps, machine-keeps}
 use Rattle.bfq_laws.proofs.Overdue.{overdue}
@@ -373,6 +372,6 @@ pub opening-weighs : (l : Limits) → WeighEnough (opening l).bfq
 opening-weighs l = (λ e. omega arith, λ g e member is. gone-weighs member (sym (opening-none l g e) ∙ is))
 
 -- the law
-pub weights-positive : ((l : Limits) (m : Plain) → KeepsWhole l m) → (l : Limits) (most : ℕ) (journal : List Call) → WeightsArePositive l most journal
-weights-positive stay l most journal =
-    (machine-keeps l most journal Weighs (stay l) (keeps-weighs l) (opening-weighs l, opening-sound l)).0
+pub weights-positive : (l : Limits) (most : ℕ) (journal : List Call) → WeightsArePositive l most journal
+weights-positive l most journal =
+    (machine-keeps l most journal Weighs (keeps-weighs l) (opening-weighs l, opening-sound l)).0

@@ -17,9 +17,10 @@ use Rattle.bfq_select.specs.Rules.{group_of, activate, select, charge, expire}
 use Rattle.plain_machine.specs.declared.answer.Reply.{Reply}
 use Rattle.plain_machine.specs.declared.call.Call.{Call}
 use Rattle.plain_machine.specs.Step.{Limits, opening, is_bfq, with_entity, attached, submitted, woken, size_of, range_of, next_request, next_size, with_budget_in, with_slot, without_first, without_empty, sent_next, sent_in, sent_by_bfq, older, switched, shape}
-use Rattle.plain_machine.specs.Whole.{IsWhole, AreWhole, KeepsWhole}
+use Rattle.plain_machine.specs.Whole.{IsWhole, AreWhole}
 use Rattle.bfq_laws.specs.Budgets.{AreEnough, ServiceIsWithinBudget}
-use Rattle.bfq_laws.proofs.Puts.{put_here, put_other, some_is, and_then_is, map_is, All-find}
+use Rattle.plain_machine.proofs.Puts.{put_here, put_other, some_is, and_then_is, map_is}
+use Rattle.bfq_laws.proofs.Puts.{All-find}
 use Rattle.bfq_laws.proofs.Quiet.{activate-quiet, select-budgets, charge-slot, expire-slot}
 use Rattle.bfq_laws.proofs.Walk.{gone, Keeps, machine-keeps}
 use Rattle.bfq_laws.proofs.Overdue.{overdue}
@@ -296,8 +297,8 @@ keeps-within l first most = record {
 }
 
 -- the law
-pub service-within : ((l : Limits) (m : Plain) → KeepsWhole l m) → (l : Limits) (most : ℕ) (journal : List Call) → ServiceIsWithinBudget l most journal
-service-within stay l most journal first greatest =
+pub service-within : (l : Limits) (most : ℕ) (journal : List Call) → ServiceIsWithinBudget l most journal
+service-within l most journal first greatest =
     let le : 256 ≤ l.max_budget = omega (arith, first, greatest) in
-    let made = machine-keeps l most journal Serves (stay l) (keeps-within l first le) (opening-within l first le, opening-sound l) in
+    let made = machine-keeps l most journal Serves (keeps-within l first le) (opening-within l first le, opening-sound l) in
     λ slot e. made.0.served slot e

@@ -12,83 +12,64 @@ ghost use Rattle.plain_machine.specs.Step.{Limits};
 ghost use Rattle.plain_machine.specs.declared.call.Call.{Call};
 ghost use Rattle.std.specs.Prelude.{ℕ, List};
 
-use plain_machine::requests_stay_whole;
-
 /// On the machine of every keeper that a journal makes, each entity has a budget of 256 sectors or more, where the first
-/// budget and the greatest one are so. The contract is the law.
+/// budget and the greatest one are so. The body is empty: the contract is the law.
 pub fn budgets_are_enough()
     ensures { (l : Limits) (most : ℕ) (journal : List Call) → BudgetsAreEnough l most journal }
-{
-    requests_stay_whole();
-}
+{}
 
 /// There the queue in service, if one is, is that of a seat that is taken, and it has been sent no more sectors than its
-/// budget. The contract is the law.
+/// budget. The body is empty: the contract is the law.
 pub fn service_is_within_budget()
     ensures { (l : Limits) (most : ℕ) (journal : List Call) → ServiceIsWithinBudget l most journal }
-{
-    requests_stay_whole();
-}
+{}
 
-/// B-WF2Q+: the entity of a session waits or is served exactly where, under BFQ, its queue is not empty, on the machine of
-/// every keeper that a journal makes; and the queue in service, if one is, is not empty. The contract is the law.
+/// B-WF2Q+: the entity of a session waits or is served exactly where, under BFQ, its queue is not empty, on the machine
+/// of every keeper that a journal makes; and the queue in service, if one is, is not empty. The body is empty: the
+/// contract is the law.
 pub fn busy_sessions_wait_or_are_served()
     ensures { (l : Limits) (most : ℕ) (journal : List Call) → BusySessionsWaitOrAreServed l most journal }
-{
-    requests_stay_whole();
-}
+{}
 
-/// There, under BFQ, where a queue is not empty, a dispatch finds a queue in service or selects one, and that queue has a next
-/// request; but where the expiry before it is refused, for a time that would be too great. The contract is the law.
+/// There, under BFQ, where a queue is not empty, a dispatch finds a queue in service or selects one, and that queue has a
+/// next request; but where the expiry before it is refused, for a time that would be too great. The body is empty: the
+/// contract is the law.
 pub fn dispatch_finds_a_request()
     ensures { (l : Limits) (most : ℕ) (journal : List Call) → EachDispatchFindsARequest l most journal }
-{
-    requests_stay_whole();
-}
+{}
 
-/// On the machine of every keeper that a journal makes no weight is 0, be it pending or in effect. The contract is the law.
+/// On the machine of every keeper that a journal makes no weight is 0, be it pending or in effect. The body is empty: the
+/// contract is the law.
 pub fn weights_are_positive()
     ensures { (l : Limits) (most : ℕ) (journal : List Call) → WeightsArePositive l most journal }
-{
-    requests_stay_whole();
-}
+{}
 
 /// There, under BFQ, the sum of the weights is not 0 in any group on the path of the queue in service, also where a dispatch
-/// has one in service before it charges. The contract is the law.
+/// has one in service before it charges. The body is empty: the contract is the law.
 pub fn sums_are_positive()
     ensures { (l : Limits) (most : ℕ) (journal : List Call) → SumsArePositive l most journal }
-{
-    requests_stay_whole();
-}
+{}
 
-/// On the machine of every keeper that a journal makes, the tree of a group has just the entities that are in the group. The
-/// contract is the law.
+/// On the machine of every keeper that a journal makes, the tree of a group has just the entities that are in the group.
+/// The body is empty: the contract is the law.
 pub fn entities_are_members()
     ensures { (l : Limits) (most : ℕ) (journal : List Call) → EntitiesAreMembers l most journal }
-{
-    requests_stay_whole();
-}
+{}
 
 /// On the machine of every keeper that a journal makes, each request in the queue of a seat is of the session that sits
-/// there. The contract is the law.
+/// there. The body is empty: the contract is the law.
 pub fn queues_are_of_their_sessions()
     ensures { (l : Limits) (most : ℕ) (journal : List Call) → QueuesAreOfTheirSessions l most journal }
-{
-    requests_stay_whole();
-}
+{}
 
 /// On the machine of every keeper that a journal makes, an entity is in service exactly where it is on the path of the queue
-/// in service: the entity of its session, or that of a group above it. The contract is the law.
+/// in service: the entity of its session, or that of a group above it. The body is empty: the contract is the law.
 pub fn serving_is_the_path()
     ensures { (l : Limits) (most : ℕ) (journal : List Call) → ThePathIsServed l most journal }
-{
-    requests_stay_whole();
-}
+{}
 
 /// On the machine of every keeper that a journal makes, the entity of a seat is in a group exactly where a session sits
-/// there. The contract is the law.
+/// there. The body is empty: the contract is the law.
 pub fn seats_are_in_groups()
     ensures { (l : Limits) (most : ℕ) (journal : List Call) → TakenSeatsAreInGroups l most journal }
-{
-    requests_stay_whole();
-}
+{}

@@ -33,10 +33,12 @@ fn client(keeper: &mut Keeper, alloc: Global, seat: u8, call: ClientCall) -> u64
     told(&keeper.call(alloc, &call.of_seat(seat)))
 }
 
-// None for Stop.
-fn operator(keeper: &mut Keeper, alloc: Global, call: OperatorCall) -> Option<u64> {
-    let call = call.into_call()?;
-    Some(told(&keeper.call(alloc, &call)))
+// Stop is 300.
+fn operator(keeper: &mut Keeper, alloc: Global, call: OperatorCall) -> u64 {
+    match call.into_call() {
+        Some(call) => told(&keeper.call(alloc, &call)),
+        None => 300,
+    }
 }
 
 fn store(alloc: Global, session: u64) -> Result<ClientCall, Fail> {
@@ -53,20 +55,27 @@ fn store(alloc: Global, session: u64) -> Result<ClientCall, Fail> {
 fn clients_at_their_seats(rt: HostRuntime) -> Result<(), Fail> {
     let alloc = rt.alloc();
     let mut keeper = opened(alloc)?;
-    let attach = ClientCall::Attach { group: 0, prio: 4 };
-    assert_eq!(rt; client(&mut keeper, alloc, 2, attach), 1);
     let attach = ClientCall::Attach { group: 0, prio: 8 };
     assert_eq!(rt; client(&mut keeper, alloc, 5, attach), 108);
     let attach = ClientCall::Attach { group: 0, prio: 7 };
-    assert_eq!(rt; client(&mut keeper, alloc, 5, attach), 2);
-    assert_eq!(rt; client(&mut keeper, alloc, 2, store(alloc, 2)?), 104);
-    assert_eq!(rt; client(&mut keeper, alloc, 5, store(alloc, 2)?), 3);
-    let reap = ClientCall::Reap { session: 2 };
-    assert_eq!(rt; client(&mut keeper, alloc, 5, reap), 244);
+    assert_eq!(rt; client(&mut keeper, alloc, 5, attach), 1);
+    let reap = ClientCall::Reap { session: 1 };
+    assert_eq!(rt; client(&mut keeper, alloc, 2, reap), 103);
     let leave = ClientCall::Leave { why: Why::Ended };
-    assert_eq!(rt; client(&mut keeper, alloc, 2, leave), 0);
-    let leave = ClientCall::Leave { why: Why::Ended };
-    assert_eq!(rt; client(&mut keeper, alloc, 2, leave), 103);
+    assert_eq!(rt; client(&mut keeper, alloc, 5, leave), 0);
+    Ok(())
+}
+
+#[test]
+fn client_stores(rt: HostRuntime) -> Result<(), Fail> {
+    let alloc = rt.alloc();
+    let mut keeper = opened(alloc)?;
+    let attach = ClientCall::Attach { group: 0, prio: 4 };
+    assert_eq!(rt; client(&mut keeper, alloc, 0, attach), 1);
+    assert_eq!(rt; client(&mut keeper, alloc, 0, store(alloc, 2)?), 104);
+    assert_eq!(rt; client(&mut keeper, alloc, 0, store(alloc, 1)?), 2);
+    let reap = ClientCall::Reap { session: 1 };
+    assert_eq!(rt; client(&mut keeper, alloc, 0, reap), 244);
     Ok(())
 }
 
@@ -89,52 +98,57 @@ fn payload_in_the_call(rt: HostRuntime) -> Result<(), Fail> {
 }
 
 #[test]
-fn operator_at_work(rt: HostRuntime) -> Result<(), Fail> {
+fn operator_makes_a_group(rt: HostRuntime) -> Result<(), Fail> {
     let alloc = rt.alloc();
     let mut keeper = opened(alloc)?;
-    let calls = [
-        (
-            OperatorCall::GroupMake {
-                parent: 0,
-                weight: 1000,
-            },
-            1,
-        ),
-        (
-            OperatorCall::SetWeight {
-                group: 1,
-                weight: 1001,
-            },
-            107,
-        ),
-        (
-            OperatorCall::SetWeight {
-                group: 1,
-                weight: 300,
-            },
-            0,
-        ),
-        (OperatorCall::GroupDrop { group: 1 }, 0),
-        (OperatorCall::GroupDrop { group: 1 }, 105),
-        (OperatorCall::Freeze, 0),
-        (
-            OperatorCall::Switch {
-                scheduler: Scheduler::Plain,
-            },
-            0,
-        ),
-        (OperatorCall::Thaw, 0),
-        (OperatorCall::Tick, 126),
-        (OperatorCall::Hold, 66),
-        (OperatorCall::Freeze, 241),
-        (OperatorCall::Undo { k: 2 }, 46),
-        (OperatorCall::Redo { k: 1 }, 56),
-        (OperatorCall::Release, 0),
-    ];
-    for (call, answer) in &calls {
-        assert_eq!(rt; operator(&mut keeper, alloc, *call), Some(*answer));
-    }
-    assert_eq!(rt; operator(&mut keeper, alloc, OperatorCall::Stop), None);
+    let make = OperatorCall::GroupMake {
+        parent: 0,
+        weight: 1000,
+    };
+    assert_eq!(rt; operator(&mut keeper, alloc, make), 1);
+    let weigh = OperatorCall::SetWeight {
+        group: 1,
+        weight: 1001,
+    };
+    assert_eq!(rt; operator(&mut keeper, alloc, weigh), 107);
+    let drop = OperatorCall::GroupDrop { group: 1 };
+    assert_eq!(rt; operator(&mut keeper, alloc, drop), 0);
+    assert_eq!(rt; operator(&mut keeper, alloc, drop), 105);
+    Ok(())
+}
+
+#[test]
+fn operator_freezes_and_switches(rt: HostRuntime) -> Result<(), Fail> {
+    let alloc = rt.alloc();
+    let mut keeper = opened(alloc)?;
+    let switch = OperatorCall::Switch {
+        scheduler: Scheduler::Plain,
+    };
+    assert_eq!(rt; operator(&mut keeper, alloc, switch), 123);
+    assert_eq!(rt; operator(&mut keeper, alloc, OperatorCall::Freeze), 0);
+    assert_eq!(rt; operator(&mut keeper, alloc, switch), 0);
+    assert_eq!(rt; operator(&mut keeper, alloc, OperatorCall::Thaw), 0);
+    assert_eq!(rt; operator(&mut keeper, alloc, OperatorCall::Tick), 126);
+    Ok(())
+}
+
+#[test]
+fn operator_rewinds(rt: HostRuntime) -> Result<(), Fail> {
+    let alloc = rt.alloc();
+    let mut keeper = opened(alloc)?;
+    assert_eq!(rt; operator(&mut keeper, alloc, OperatorCall::Freeze), 0);
+    assert_eq!(rt; operator(&mut keeper, alloc, OperatorCall::Hold), 11);
+    assert_eq!(rt; operator(&mut keeper, alloc, OperatorCall::Thaw), 241);
+    assert_eq!(rt;
+        operator(&mut keeper, alloc, OperatorCall::Undo { k: 1 }),
+        1
+    );
+    assert_eq!(rt;
+        operator(&mut keeper, alloc, OperatorCall::Redo { k: 1 }),
+        11
+    );
+    assert_eq!(rt; operator(&mut keeper, alloc, OperatorCall::Release), 0);
+    assert_eq!(rt; operator(&mut keeper, alloc, OperatorCall::Stop), 300);
     Ok(())
 }
 

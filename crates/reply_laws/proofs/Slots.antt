@@ -1,6 +1,5 @@
 -- The queue in service is as old as serials allow, and groups have the greatest budget.
 use Rattle.std.proofs.Common.{true, false, ◌≡◌, ◌≢◌, ℕ, ◌+◌, ◌<◌, ◌≤◌, nat_lt, List, Some, cond, refl, ◌∙◌, subst, arith, rules}
-
 use Rattle.group_tree.specs.Groups.{entity_of}
 use Rattle.change_record.specs.declared.change.InService.{InService}
 use Rattle.change_record.specs.Machine.{Bfq, put}
@@ -75,14 +74,17 @@ slotted-ruled l = record {
 }
 
 opening-slotted : (l : Limits) → Slotted l 0 (opening_bfq l)
-opening-slotted l = (λ slot e. cc, λ group lt.
-    elim (nat_lt (entity_of group) 16) as (λ t. nat_lt (entity_of group) 16 ≡ t → cond t l.first_budget (cond (nat_lt (entity_of group) 48) l.max_budget 256) ≡ l.max_budget) [
-      | true ↦ λ small. let low : entity_of group < 16 = search (rules, small) in absurd (omega (arith, low))
-      | false ↦ λ _. elim (nat_lt (entity_of group) 48) as (λ t. nat_lt (entity_of group) 48 ≡ t → cond t l.max_budget 256 ≡ l.max_budget) [
-        | true ↦ λ _. refl
-        | false ↦ λ high. let big : 48 ≤ entity_of group = search (rules, high) in absurd (omega (arith, big, lt))
-      ] refl
-    ] refl)
+opening-slotted l = (
+  λ slot e. cc,
+  λ group lt.
+      elim (nat_lt (entity_of group) 16) as (λ t. nat_lt (entity_of group) 16 ≡ t → cond t l.first_budget (cond (nat_lt (entity_of group) 48) l.max_budget 256) ≡ l.max_budget) [
+        | true ↦ λ small. let low : entity_of group < 16 = search (rules, small) in absurd (omega (arith, low))
+        | false ↦ λ _. elim (nat_lt (entity_of group) 48) as (λ t. nat_lt (entity_of group) 48 ≡ t → cond t l.max_budget 256 ≡ l.max_budget) [
+          | true ↦ λ _. refl
+          | false ↦ λ high. let big : 48 ≤ entity_of group = search (rules, high) in absurd (omega (arith, big, lt))
+        ] refl
+      ] refl,
+)
 
 -- so on every keeper's machine
 machine-slotted : (l : Limits) (most : ℕ) (journal : List Call) → Slotted l ((replay l most journal).last + 1) (machine_of (replay l most journal)).bfq

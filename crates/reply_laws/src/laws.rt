@@ -58,20 +58,20 @@ pub fn requests_have_seats()
     ensures { (l : Limits) (most : ℕ) (journal : List Call) → RequestsHaveSeats l most journal }
 {}
 
-/// There each bio in an outbox has a result, and no bio that is queued, in the dispatch list or in flight has one. The body is
-/// empty: the contract is the law.
+/// There each bio in an outbox has a result, and no bio that is queued, in the dispatch list or in flight has one. The
+/// body is empty: the contract is the law.
 pub fn outboxes_have_results()
     ensures { (l : Limits) (most : ℕ) (journal : List Call) → OutboxesHaveResults l most journal }
 {}
 
-/// There no bio stands in two places, be it in a queue, in the dispatch list, in flight or in an outbox, and nothing stands at a
-/// seat or under a tag that there is not. The body is empty: the contract is the law.
+/// There no bio stands in two places, be it in a queue, in the dispatch list, in flight or in an outbox, and nothing
+/// stands at a seat or under a tag that there is not. The body is empty: the contract is the law.
 pub fn bios_have_one_place()
     ensures { (l : Limits) (most : ℕ) (journal : List Call) → EachBioHasOnePlace l most journal }
 {}
 
-/// On the machine of every keeper that a journal makes, no virtual time, no start and no finish is above 2^62, where the first
-/// virtual time is not. The body is empty: the contract is the law.
+/// On the machine of every keeper that a journal makes, no virtual time, no start and no finish is above 2^62, where the
+/// first virtual time is not. The body is empty: the contract is the law.
 pub fn times_are_bounded()
     ensures { (l : Limits) (most : ℕ) (journal : List Call) → TimesAreBounded l most journal }
 {}

@@ -2,4 +2,4 @@ use Rattle.bfq_laws.proofs.Found.{dispatch-finds}
 use Rattle.bfq_laws.proofs.laws.dispatch_finds_a_request.Goals as goal
 
 pub returns : goal.returns
-returns c = dispatch-finds c.requests_stay_whole.ensures
+returns c = dispatch-finds

@@ -2,4 +2,4 @@ use Rattle.bfq_laws.proofs.Serving.{taken-seats-in}
 use Rattle.bfq_laws.proofs.laws.seats_are_in_groups.Goals as goal
 
 pub returns : goal.returns
-returns c = taken-seats-in c.requests_stay_whole.ensures
+returns c = taken-seats-in

@@ -2,4 +2,4 @@ use Rattle.bfq_laws.proofs.Serving.{the-path-served}
 use Rattle.bfq_laws.proofs.laws.serving_is_the_path.Goals as goal
 
 pub returns : goal.returns
-returns c = the-path-served c.requests_stay_whole.ensures
+returns c = the-path-served

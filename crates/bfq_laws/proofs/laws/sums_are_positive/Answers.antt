@@ -2,4 +2,4 @@ use Rattle.bfq_laws.proofs.Summing.{sums-positive}
 use Rattle.bfq_laws.proofs.laws.sums_are_positive.Goals as goal
 
 pub returns : goal.returns
-returns c = sums-positive c.requests_stay_whole.ensures
+returns c = sums-positive

@@ -2,4 +2,4 @@ use Rattle.bfq_laws.proofs.Weighing.{weights-positive}
 use Rattle.bfq_laws.proofs.laws.weights_are_positive.Goals as goal
 
 pub returns : goal.returns
-returns c = weights-positive c.requests_stay_whole.ensures
+returns c = weights-positive
