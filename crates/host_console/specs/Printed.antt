@@ -1,5 +1,5 @@
 -- What a line of a script asks of a keeper over an image, and what it prints.
-use Rattle.std.specs.Prelude.{◌≡◌, ℕ, ◌*◌, ◌≤◌, ◌<◌, ◌==◌, nat_le, nat_lt, List, [], ◌∷◌, ◌++◌, length, replicate, codes, Option, None, Some, if◌then◌else◌}
+use Rattle.std.specs.Prelude.{◌≡◌, ℕ, ◌*◌, ◌≤◌, ◌<◌, nat_le, nat_lt, List, [], ◌∷◌, ◌++◌, length, replicate, codes, Option, None, Some, if◌then◌else◌}
 use Rattle.std.specs.Fmt.{decimal}
 use Rattle.std.specs.FinMap as blocks
 use Rattle.sector_core.specs.declared.range.Range.{Range}
@@ -128,41 +128,54 @@ Answers before c text after = (answer : Answer) × MayCall before c answer after
 abbrev pub AnswersOver : Desk → Call → List ℕ → Desk → Type 0
 AnswersOver before c text after = Answers before.keeper c text after.keeper × (after.disk ≡ before.disk)
 
--- nothing is called, and something is printed
-abbrev pub Shows : State → List ℕ → List ℕ → State → Type 0
+-- nothing is called or read, and something is printed
+abbrev pub Shows : Desk → List ℕ → List ℕ → Desk → Type 0
 Shows before shown text after = (after ≡ before) × (text ≡ ended shown)
 
--- what a line that looks at no image may print at a keeper, and what the keeper is then
-abbrev pub PrintsAt : State → Line → List ℕ → State → Type 0
-PrintsAt before (Attach seat group prio) = Answers before (call.Do (step.Attach seat group prio))
-PrintsAt before (Read seat session start count) = Answers before (call.Do (step.Submit seat session op.Fetch (record { start = start; count = count }) []))
-PrintsAt before (Write seat session start count byte) = Answers before (call.Do (step.Submit seat session op.Store (record { start = start; count = count }) (payload_of count byte)))
-PrintsAt before (Reap seat session) = Answers before (call.Do (step.Reap seat session))
-PrintsAt before (Leave seat) = Answers before (call.Do (step.Leave seat why.Ended))
-PrintsAt before Dispatch = Answers before (call.Do step.Dispatch)
-PrintsAt before (Finish tag issue ending) = Answers before (call.Do (step.Finish tag issue (outcome_of before tag issue ending)))
-PrintsAt before (Work tag issue) = λ text after. ⊥
-PrintsAt before (Requeue tag issue) = Answers before (call.Do (step.Requeue tag issue))
-PrintsAt before Hold = Answers before call.Hold
-PrintsAt before Release = Answers before call.Release
-PrintsAt before (Undo k) = Answers before (call.Undo k)
-PrintsAt before (Redo k) = Answers before (call.Redo k)
-PrintsAt before (Group parent weight) = Answers before (call.Do (step.GroupMake parent weight))
-PrintsAt before (Drop group) = Answers before (call.Do (step.GroupDrop group))
-PrintsAt before (Weight group weight) = Answers before (call.Do (step.SetWeight group weight))
-PrintsAt before Freeze = Answers before (call.Do step.Freeze)
-PrintsAt before Thaw = Answers before (call.Do step.Thaw)
-PrintsAt before (Switch scheduler) = Answers before (call.Do (step.Switch scheduler))
-PrintsAt before Tick = Answers before (call.Do step.Tick)
-PrintsAt before (Sector number) = Shows before (sector_text before number)
-PrintsAt before (Queue seat) = Shows before (queue_text before seat)
-PrintsAt before Cursor = Shows before (cursor_text before)
-PrintsAt before (Vtime group) = Shows before (group_text before group)
-PrintsAt before (Entity number) = Shows before (known_text before number)
+-- the call that a line makes, whatever the keeper is; none where the line asks the keeper or the device first, or only looks
+-- (our profile)
+abbrev pub asked : Line → Option Call
+asked (Attach seat group prio) = Some (call.Do (step.Attach seat group prio))
+asked (Read seat session start count) = Some (call.Do (step.Submit seat session op.Fetch (record { start = start; count = count }) []))
+asked (Write seat session start count byte) = Some (call.Do (step.Submit seat session op.Store (record { start = start; count = count }) (payload_of count byte)))
+asked (Reap seat session) = Some (call.Do (step.Reap seat session))
+asked (Leave seat) = Some (call.Do (step.Leave seat why.Ended))
+asked Dispatch = Some (call.Do step.Dispatch)
+asked (Finish tag issue ending) = None
+asked (Work tag issue) = None
+asked (Requeue tag issue) = Some (call.Do (step.Requeue tag issue))
+asked Hold = Some call.Hold
+asked Release = Some call.Release
+asked (Undo k) = Some (call.Undo k)
+asked (Redo k) = Some (call.Redo k)
+asked (Group parent weight) = Some (call.Do (step.GroupMake parent weight))
+asked (Drop group) = Some (call.Do (step.GroupDrop group))
+asked (Weight group weight) = Some (call.Do (step.SetWeight group weight))
+asked Freeze = Some (call.Do step.Freeze)
+asked Thaw = Some (call.Do step.Thaw)
+asked (Switch scheduler) = Some (call.Do (step.Switch scheduler))
+asked Tick = Some (call.Do step.Tick)
+asked (Sector number) = None
+asked (Queue seat) = None
+asked Cursor = None
+asked (Vtime group) = None
+asked (Entity number) = None
 
--- what a line may print at a keeper over an image, and what both are then: only a `work` line reads the image
+-- what such a line as makes no call of its own may print at a keeper over an image, and what both are then: only a `work` line
+-- reads the image (our profile)
+abbrev pub Looks : Desk → Line → List ℕ → Desk → Type 0
+Looks before (Finish tag issue ending) text after = AnswersOver before (call.Do (step.Finish tag issue (outcome_of before.keeper tag issue ending))) text after
+Looks before (Work tag issue) text after =
+    (made : Step) × StepOfWork before.disk tag issue (work_in_flight (machine_of before.keeper) tag issue) made after.disk
+    × Answers before.keeper (call.Do made) text after.keeper
+Looks before (Sector number) text after = Shows before (sector_text before.keeper number) text after
+Looks before (Queue seat) text after = Shows before (queue_text before.keeper seat) text after
+Looks before Cursor text after = Shows before (cursor_text before.keeper) text after
+Looks before (Vtime group) text after = Shows before (group_text before.keeper group) text after
+Looks before (Entity number) text after = Shows before (known_text before.keeper number) text after
+Looks before line text after = ⊥
+
+-- what a line may print at a keeper over an image, and what both are then: its call is made once, and answered; or it has none
+-- of its own
 abbrev pub Prints : Desk → Line → List ℕ → Desk → Type 0
-Prints before (Work tag issue) text after =
-    (asked : Step) × StepOfWork before.disk tag issue (work_in_flight (machine_of before.keeper) tag issue) asked after.disk
-    × Answers before.keeper (call.Do asked) text after.keeper
-Prints before line text after = PrintsAt before.keeper line text after.keeper × (after.disk ≡ before.disk)
+Prints before line text after = elim (asked line) [ None ↦ Looks before line text after | Some made ↦ AnswersOver before made text after ]

@@ -23,6 +23,7 @@
 //! ```
 
 mod answer;
+mod asked;
 mod content;
 mod filled;
 mod group;

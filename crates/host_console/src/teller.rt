@@ -1,14 +1,13 @@
 // A keeper over an image, run from a script.
-ghost use Rattle.std.specs.Prelude.{◌≡◌, ℕ, List, ◌++◌, IfOk, OnOk, OnErr, ◌⊎◌};
-ghost use Rattle.host_console.specs.Printed.{AnswersOver, Prints, outcome_of, sectors_in_flight, ended, sector_text, queue_text, cursor_text, group_text, known_text};
+ghost use Rattle.std.specs.Prelude.{◌≡◌, ℕ, List, ◌++◌, None, IfOk, OnOk, OnErr, ◌⊎◌};
+ghost use Rattle.script_run.specs.Script.{MayHaveRun};
+ghost use Rattle.host_console.specs.Printed.{AnswersOver, Looks, Prints, asked, outcome_of, sectors_in_flight, ended, sector_text, queue_text, cursor_text, group_text, known_text};
 
 use crate::Keeps;
 use crate::answer::put_answer;
+use crate::asked::call_of;
 use crate::filled::sectors_of;
-use crate::group::{make, unmake, weigh};
 use crate::query::{put_cursor, put_entity, put_queue, put_sector, put_vtime};
-use crate::steps::{freeze, leave, requeue, switch, thaw, tick};
-use crate::submit::{fetch, store};
 use base_image::Image;
 use plain_machine::{Call, Step};
 use script_line::{Ending, Line};
@@ -38,53 +37,33 @@ impl<K: Keeps, I: Image> Console for Teller<K, I> {
     ghost prints = { Prints };
 
     fn run(&mut self, alloc: Global, line: Line, out: &mut Vec<u8>) -> Result<(), OutOfMemory> {
-        match line {
-            Line::Attach { seat, group, prio } => {
-                self.step(alloc, Step::Attach { seat, group, prio }, out)
-            }
-            Line::Read {
-                seat,
-                session,
-                start,
-                count,
-            } => self.step(alloc, fetch(seat, session, start, count), out),
-            Line::Write {
-                seat,
-                session,
-                start,
-                count,
-                byte,
-            } => {
-                let step = store(alloc, seat, session, start, count, byte)?;
-                self.step(alloc, step, out)
-            }
-            Line::Reap { seat, session } => self.step(alloc, Step::Reap { seat, session }, out),
-            Line::Leave { seat } => self.step(alloc, leave(seat), out),
-            Line::Dispatch => self.step(alloc, Step::Dispatch, out),
-            Line::Finish { tag, issue, ending } => self.finish(alloc, tag, issue, ending, out),
-            Line::Work { tag, issue } => self.work(alloc, tag, issue, out),
-            Line::Requeue { tag, issue } => self.step(alloc, requeue(tag, issue), out),
-            Line::Hold => self.answer(alloc, &Call::Hold, out),
-            Line::Release => self.answer(alloc, &Call::Release, out),
-            Line::Undo { k } => self.answer(alloc, &Call::Undo { k }, out),
-            Line::Redo { k } => self.answer(alloc, &Call::Redo { k }, out),
-            Line::Group { parent, weight } => self.step(alloc, make(parent, weight), out),
-            Line::Drop { group } => self.step(alloc, unmake(group), out),
-            Line::Weight { group, weight } => self.step(alloc, weigh(group, weight), out),
-            Line::Freeze => self.step(alloc, freeze(), out),
-            Line::Thaw => self.step(alloc, thaw(), out),
-            Line::Switch { scheduler } => self.step(alloc, switch(scheduler), out),
-            Line::Tick => self.step(alloc, tick(), out),
-            Line::Sector { number } => self.tell_sector(number, out),
-            Line::Queue { seat } => self.tell_queue(seat, out),
-            Line::Cursor => self.tell_cursor(out),
-            Line::Vtime { group } => self.tell_vtime(group, out),
-            Line::Entity { number } => self.tell_entity(number, out),
+        match call_of(alloc, line)? {
+            Some(call) => self.answer(alloc, &call, out),
+            None => self.look(alloc, line, out),
         }
     }
 }
 
 impl<K: Keeps, I: Image> Teller<K, I> {
+    // Runs a line that asks the keeper or the device first, or only looks.
+    fn look(&mut self, alloc: Global, line: Line, out: &mut Vec<u8>) -> Result<(), OutOfMemory>
+        requires { asked line ≡ None }
+        ensures ok { OnOk result ((text : List ℕ) × (out.new.items ≡ out.old.items ++ text) × Looks self.old line text self.new) }
+        ensures err { OnErr result (MayHaveRun Looks self.old line self.new) }
+    {
+        match line {
+            Line::Finish { tag, issue, ending } => self.finish(alloc, tag, issue, ending, out),
+            Line::Work { tag, issue } => self.work(alloc, tag, issue, out),
+            Line::Sector { number } => self.tell_sector(number, out),
+            Line::Queue { seat } => self.tell_queue(seat, out),
+            Line::Cursor => self.tell_cursor(out),
+            Line::Vtime { group } => self.tell_vtime(group, out),
+            Line::Entity { number } => self.tell_entity(number, out),
+            // Each other line makes its call.
+            _ => unreachable!(),
+        }
+    }
+
     // Makes one call, and prints its answer; where there is no memory for its text, the call is made.
     fn answer(&mut self, alloc: Global, call: &Call, out: &mut Vec<u8>) -> Result<(), OutOfMemory>
         ensures ok { OnOk result ((text : List ℕ) × (out.new.items ≡ out.old.items ++ text)

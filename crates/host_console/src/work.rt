@@ -3,7 +3,7 @@ ghost use Rattle.std.specs.Prelude.{◌≡◌, ℕ, List, ◌++◌, IfOk, OnOk, 
 ghost use Rattle.script_line.specs.declared.line.Line.TheVariants as line;
 ghost use Rattle.plain_machine.specs.Keeper.{machine_of};
 ghost use Rattle.plain_machine.specs.Device.{work_in_flight};
-ghost use Rattle.host_console.specs.Printed.{Prints, StepOfWork};
+ghost use Rattle.host_console.specs.Printed.{Looks, StepOfWork};
 
 use crate::{Keeps, Teller};
 use base_image::Image;
@@ -22,8 +22,8 @@ impl<K: Keeps, I: Image> Teller<K, I> {
         out: &mut Vec<u8>,
     ) -> Result<(), OutOfMemory>
         ensures ok { OnOk result ((text : List ℕ) × (out.new.items ≡ out.old.items ++ text)
-            × Prints self.old (line.Work tag issue) text self.new) }
-        ensures err { OnErr result ((self.new ≡ self.old) ⊎ ((text : List ℕ) × Prints self.old (line.Work tag issue) text self.new)) }
+            × Looks self.old (line.Work tag issue) text self.new) }
+        ensures err { OnErr result ((self.new ≡ self.old) ⊎ ((text : List ℕ) × Looks self.old (line.Work tag issue) text self.new)) }
     {
         let step = self.step_of_work(alloc, tag, issue)?;
         self.step(alloc, step, out)

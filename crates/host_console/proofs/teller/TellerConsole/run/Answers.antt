@@ -1,65 +1,29 @@
-use Rattle.std.proofs.Common.{inr}
-use Rattle.std.proofs.lemmas.Result.{on_err_weaker}
+use Rattle.std.proofs.Common.{ℕ, List, inr, sym, ◌∙◌, subst}
+use Rattle.std.specs.Prelude.{Option, None, Some, ◌≡◌}
+use Rattle.std.proofs.lemmas.Result.{on_ok_weaker, on_err_weaker}
+use Rattle.script_line.specs.declared.line.Line.{Line}
+use Rattle.plain_machine.specs.declared.call.Call.{Call}
+use Rattle.host_console.specs.Printed.{Desk, AnswersOver, Looks, Prints, asked}
 use Rattle.host_console.proofs.teller.TellerConsole.run.Goals as goal
 
-pub returns-in-Read-clause-err : goal.returns-in-Read-clause-err
-returns-in-Read-clause-err g c =
-    rw c.in-Read.is (on_err_weaker c.step-in-Read.result (λ h. inr h) (rw c.fetch.ensures at c.step-in-Read.ensures.err))
+-- what a line prints, by the call that it makes
+abbrev PrintsBy : Desk → Line → List ℕ → Desk → Option Call → Type 0
+PrintsBy before line text after made = elim made [ None ↦ Looks before line text after | Some c ↦ AnswersOver before c text after ]
 
-pub returns-in_ok-step-in-Write-clause-err : goal.returns-in_ok-step-in-Write-clause-err
-returns-in_ok-step-in-Write-clause-err g c =
-    rw c.in-Write.is (on_err_weaker c.step-in-Write.result (λ h. inr h) (rw c.in_ok-step-in-Write.ensures at c.step-in-Write.ensures.err))
+-- a line prints what its own call is answered
+prints-asked : (before after : Desk) (line : Line) (made : Call) (text : List ℕ) → asked line ≡ Some made → AnswersOver before made text after → Prints before line text after
+prints-asked before after line made text is answers = subst (PrintsBy before line text after) (sym is) answers
 
-pub returns-in-Reap-clause-err : goal.returns-in-Reap-clause-err
-returns-in-Reap-clause-err g c = rw c.in-Reap.is (on_err_weaker c.step-in-Reap.result (λ h. inr h) c.step-in-Reap.ensures.err)
+-- or, with no call of its own, what it finds
+prints-looks : (before after : Desk) (line : Line) (text : List ℕ) → asked line ≡ None → Looks before line text after → Prints before line text after
+prints-looks before after line text is looks = subst (PrintsBy before line text after) (sym is) looks
 
-pub returns-in-Finish-clause-err : goal.returns-in-Finish-clause-err
-returns-in-Finish-clause-err g c = rw c.in-Finish.is c.finish.ensures.err
+pub returns-in-Some-clause-ok : goal.returns-in-Some-clause-ok
+returns-in-Some-clause-ok g c =
+    let is = sym c.in_ok-call.ensures ∙ c.in-Some.is in
+    on_ok_weaker c.answer.result (λ h. (h.0, h.1, prints-asked _ _ c.args.line c.in-Some.call h.0 is h.2)) c.answer.ensures.ok
 
-pub returns-in-Redo-clause-err : goal.returns-in-Redo-clause-err
-returns-in-Redo-clause-err g c = rw c.in-Redo.is (on_err_weaker c.answer-in-Redo.result (λ h. inr h) c.answer-in-Redo.ensures.err)
-
-pub returns-in-Group-clause-err : goal.returns-in-Group-clause-err
-returns-in-Group-clause-err g c =
-    rw c.in-Group.is (on_err_weaker c.step-in-Group.result (λ h. inr h) (rw c.make.ensures at c.step-in-Group.ensures.err))
-
-pub returns-in-Drop-clause-err : goal.returns-in-Drop-clause-err
-returns-in-Drop-clause-err g c =
-    rw c.in-Drop.is (on_err_weaker c.step-in-Drop.result (λ h. inr h) (rw c.unmake.ensures at c.step-in-Drop.ensures.err))
-
-pub returns-in-Weight-clause-err : goal.returns-in-Weight-clause-err
-returns-in-Weight-clause-err g c =
-    rw c.in-Weight.is (on_err_weaker c.step-in-Weight.result (λ h. inr h) (rw c.weigh.ensures at c.step-in-Weight.ensures.err))
-
-pub returns-in-Attach-clause-err : goal.returns-in-Attach-clause-err
-returns-in-Attach-clause-err g c = rw c.in-Attach.is (on_err_weaker c.step.result (λ h. inr h) c.step.ensures.err)
-
-pub returns-in-Dispatch-clause-err : goal.returns-in-Dispatch-clause-err
-returns-in-Dispatch-clause-err g c = rw c.in-Dispatch.is (on_err_weaker c.step-in-Dispatch.result (λ h. inr h) c.step-in-Dispatch.ensures.err)
-
-pub returns-in-Leave-clause-err : goal.returns-in-Leave-clause-err
-returns-in-Leave-clause-err g c =
-    rw c.in-Leave.is (on_err_weaker c.step-in-Leave.result (λ h. inr h) (rw c.leave.ensures at c.step-in-Leave.ensures.err))
-
-pub returns-in-Requeue-clause-err : goal.returns-in-Requeue-clause-err
-returns-in-Requeue-clause-err g c =
-    rw c.in-Requeue.is (on_err_weaker c.step-in-Requeue.result (λ h. inr h) (rw c.requeue.ensures at c.step-in-Requeue.ensures.err))
-
-pub returns-in-Freeze-clause-err : goal.returns-in-Freeze-clause-err
-returns-in-Freeze-clause-err g c =
-    rw c.in-Freeze.is (on_err_weaker c.step-in-Freeze.result (λ h. inr h) (rw c.freeze.ensures at c.step-in-Freeze.ensures.err))
-
-pub returns-in-Thaw-clause-err : goal.returns-in-Thaw-clause-err
-returns-in-Thaw-clause-err g c =
-    rw c.in-Thaw.is (on_err_weaker c.step-in-Thaw.result (λ h. inr h) (rw c.thaw.ensures at c.step-in-Thaw.ensures.err))
-
-pub returns-in-Switch-clause-err : goal.returns-in-Switch-clause-err
-returns-in-Switch-clause-err g c =
-    rw c.in-Switch.is (on_err_weaker c.step-in-Switch.result (λ h. inr h) (rw c.switch.ensures at c.step-in-Switch.ensures.err))
-
-pub returns-in-Tick-clause-err : goal.returns-in-Tick-clause-err
-returns-in-Tick-clause-err g c =
-    rw c.in-Tick.is (on_err_weaker c.step-in-Tick.result (λ h. inr h) (rw c.tick.ensures at c.step-in-Tick.ensures.err))
-
-pub returns-in-Work-clause-err : goal.returns-in-Work-clause-err
-returns-in-Work-clause-err g c = rw c.in-Work.is c.work.ensures.err
+pub returns-in-Some-clause-err : goal.returns-in-Some-clause-err
+returns-in-Some-clause-err g c =
+    let is = sym c.in_ok-call.ensures ∙ c.in-Some.is in
+    on_err_weaker c.answer.result (λ h. inr (h.0, prints-asked _ _ c.args.line c.in-Some.call h.0 is h.1)) c.answer.ensures.err
