@@ -1,0 +1,24 @@
+// The frame of a value.
+ghost use Rattle.std.specs.Prelude.{IfOk};
+ghost use Rattle.frame_stream.specs.Frame.{IsFrame};
+
+use super::side::Side;
+use std::alloc::{AllocError, Global};
+
+/// The frame of a value: four bytes of length, the most significant first, and its body.
+///
+/// # Errors
+///
+/// A growth was refused.
+pub fn encode<S: Side>(alloc: Global, value: &S) -> Result<Vec<u8>, AllocError>
+    requires { S.fits value.now }
+    ensures { IfOk result (λ frame. IsFrame S.body S.fits value.now frame.items) }
+{
+    let mut frame = Vec::new(alloc);
+    // The length is known once the body is there, which so is written in its place and not copied.
+    frame.extend_from_slice(&[0; 4])?;
+    value.put_body(&mut frame)?;
+    let length = (frame.len() - 4) as u32;
+    frame[..4].copy_from_slice(&length.to_be_bytes());
+    Ok(frame)
+}
