@@ -22,8 +22,8 @@
 //! feeder.feed(alloc, &[])                   // Ok(Fed { values: [], fault: Some(BadLengthField) })
 //! ```
 
-mod decode;
-mod encode;
+mod decoding;
+mod encoding;
 mod fault;
 mod feeder;
 mod laws;
@@ -31,8 +31,8 @@ mod next;
 mod side;
 mod split;
 
-pub use decode::decode;
-pub use encode::encode;
+pub use decoding::decode;
+pub use encoding::encode;
 pub use fault::{Fault, ReadError};
 pub use feeder::{Fed, Feeder};
 pub use laws::{one_frame, one_reading};

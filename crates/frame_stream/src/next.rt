@@ -19,11 +19,13 @@ pub enum Next<S> {
 }
 
 // The length that the first four bytes spell.
+#[tactic(auto, unfolding(crate::specs::Frame::length_field))]
 fn length_at(bytes: &[u8]) -> u32
     requires { 4 ≤ length bytes.now }
     ensures { result ≡ length_field bytes.now }
 {
-    u32::from_be_bytes([bytes[0], bytes[1], bytes[2], bytes[3]])
+    let (front, _) = bytes.split_at(4);
+    u32::from_be_bytes([front[0], front[1], front[2], front[3]])
 }
 
 /// What the bytes begin with.
@@ -31,6 +33,7 @@ fn length_at(bytes: &[u8]) -> u32
 /// # Errors
 ///
 /// A growth was refused.
+#[tactic(auto, unfolding(crate::specs::Reading::next_of))]
 pub fn next_in<S: Side>(alloc: Global, bytes: &[u8]) -> Result<Next<S>, AllocError>
     ensures { IfOk result (λ next. next ≡ next_of S.body_at S.MOST bytes.now) }
 {
