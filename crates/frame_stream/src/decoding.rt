@@ -8,16 +8,9 @@ use super::next::{next_in, Next};
 use super::side::Side;
 use std::alloc::Global;
 
-/// The value whose frame the bytes are, all of them.
-///
-/// # Errors
-///
-/// The fault that the bytes begin with. If they begin with none, but are not one whole frame, it is `BadLengthField`.
-/// Or a growth was refused.
-pub fn decode<S: Side>(alloc: Global, bytes: &[u8]) -> Result<S, ReadError>
-    ensures found { IfOk result (λ v. IsFrame S.body S.fits v bytes.now) }
-    ensures only { (v : S) → IsFrame S.body S.fits v bytes.now → Gives result (Ok v) }
-    ensures fault { Gives result (whole_of (length bytes.now) (next_of S.body_at S.MOST bytes.now)) }
+// The value of one whole frame, by what the bytes begin with.
+fn value_of<S: Side>(alloc: Global, bytes: &[u8]) -> Result<S, ReadError>
+    ensures { Gives result (whole_of (length bytes.now) (next_of S.body_at S.MOST bytes.now)) }
 {
     match next_in(alloc, bytes)? {
         Next::More => Err(ReadError::Fault(Fault::BadLengthField)),
@@ -30,4 +23,18 @@ pub fn decode<S: Side>(alloc: Global, bytes: &[u8]) -> Result<S, ReadError>
             }
         }
     }
+}
+
+/// The value whose frame the bytes are, all of them.
+///
+/// # Errors
+///
+/// The fault that the bytes begin with. If they begin with none, but are not one whole frame, it is `BadLengthField`.
+/// Or a growth was refused.
+pub fn decode<S: Side>(alloc: Global, bytes: &[u8]) -> Result<S, ReadError>
+    ensures found { IfOk result (λ v. IsFrame S.body S.fits v bytes.now) }
+    ensures only { (v : S) → IsFrame S.body S.fits v bytes.now → Gives result (Ok v) }
+    ensures fault { Gives result (whole_of (length bytes.now) (next_of S.body_at S.MOST bytes.now)) }
+{
+    value_of(alloc, bytes)
 }
