@@ -10,7 +10,7 @@ use Rattle.frame_stream.specs.declared.fault.Fault.{Fault}
 use Rattle.frame_stream.specs.declared.next.Next.{Next}
 use Rattle.frame_stream.specs.declared.next.Next.TheVariants.{More, Bad, Whole}
 use Rattle.frame_stream.proofs.Frames.{IsBytes-drop, length-framed}
-use Rattle.frame_stream.proofs.Nexts.{IsSide, Found, next_framed, next_found, bad_more}
+use Rattle.frame_stream.proofs.Nexts.{IsSide, Found, next_framed, next_found, next_short, bad_more}
 
 -- ---- one frame
 
@@ -156,4 +156,17 @@ comes_unheld {T} body fits body_at most held stream piece before f is came =
         ends = ap (next_of body_at most) (sym (append_assoc held.bytes came.unheld piece)) ∙ more ∙ sym (ap rest_of is);
       };
       all_held = λ none. let e : Some f ≡ None = sym is ∙ none in absurd cc;
+    }
+
+pub none_came : {T : Type 0} (body : T → List ℕ) (fits : T → Type 0) (body_at : List ℕ → Result T Fault) (most : ℕ) (held : Held)
+    → held.bytes ≡ [] → held.fault ≡ None → HasCome body fits body_at most held [] []
+none_came body fits body_at most held none no_fault =
+    record {
+      unheld = [];
+      reads = record {
+        whole = ap (λ (x : List ℕ). x ++ []) (sym none);
+        each = tt;
+        ends = ap (λ (x : List ℕ). next_of body_at most (x ++ [])) none ∙ next_short body_at most [] (omega arith) ∙ sym (ap rest_of no_fault);
+      };
+      all_held = λ _. refl;
     }

@@ -27,7 +27,7 @@ pub fn split_frames<S: Side>(alloc: Global, bytes: &[u8]) -> Result<Split<S>, Al
 {
     let mut values = Vec::new(alloc);
     let mut size = 0;
-    loop {
+    'frames: loop {
         let (_, rest) = bytes.split_at(size);
         match next_in(alloc, rest)? {
             Next::More => {
