@@ -1,5 +1,5 @@
 // A stream that comes in pieces.
-ghost use Rattle.std.specs.Prelude.{◌≡◌, ℕ, ◌+◌, ◌<◌, ◌↔◌, List, [], ◌++◌, length, Some, None, IfOk, OnErr, IsTrue, IsOkAnd};
+ghost use Rattle.std.specs.Prelude.{◌≡◌, ℕ, ◌+◌, ◌<◌, ◌≤◌, ◌↔◌, List, [], ◌++◌, length, drop, Some, None, IfOk, OnErr, IsTrue, IsOkAnd};
 ghost use Rattle.frame_stream.specs.Stream.{IsStream, HasCome};
 ghost use Rattle.frame_stream.specs.declared.fault.Fault.{Fault};
 
@@ -33,6 +33,17 @@ pub struct Fed<S> {
     pub values: Vec<S>,
     /// The fault that stands after the last whole frame, if one does.
     pub fault: Option<Fault>,
+}
+
+// Lets go of so many bytes at the front.
+fn let_go(held: &mut Vec<u8>, size: usize)
+    requires { size ≤ length held.old.items }
+    ensures { held.new.items ≡ drop size held.old.items }
+{
+    // Where no frame was whole nothing moves: a long frame in small pieces costs its bytes.
+    if size > 0 {
+        held.drain(..size);
+    }
 }
 
 impl<S: Side> Feeder<S> {
@@ -80,7 +91,7 @@ impl<S: Side> Feeder<S> {
         self.held.extend_from_slice(piece)?;
         match split_frames(alloc, &self.held) {
             Ok(found) => {
-                self.held.drain(..found.size);
+                let_go(&mut self.held, found.size);
                 self.fault = found.fault;
                 Ok(Fed {
                     values: found.values,

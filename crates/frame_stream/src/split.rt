@@ -1,5 +1,5 @@
 // The frames that are whole at the front of bytes.
-ghost use Rattle.std.specs.Prelude.{◌≤◌, length, drop, IfOk};
+ghost use Rattle.std.specs.Prelude.{◌≡◌, ◌+◌, ◌<◌, ◌≤◌, length, drop, None, IfOk};
 ghost use Rattle.frame_stream.specs.Stream.{IsStream};
 
 use super::fault::Fault;
@@ -20,10 +20,12 @@ pub struct Split<S> {
 /// # Errors
 ///
 /// A growth was refused.
+#[tactic(auto, using(crate::proofs::Nexts::more_short))]
 pub fn split_frames<S: Side>(alloc: Global, bytes: &[u8]) -> Result<Split<S>, AllocError>
     ensures size { IfOk result (λ s. s.size ≤ length bytes.now) }
     ensures read { IfOk result (λ s.
         IsStream S.body S.fits S.body_at S.MOST bytes.now s.values.items (drop s.size bytes.now) s.fault) }
+    ensures short { IfOk result (λ s. s.fault ≡ None → length (drop s.size bytes.now) < 4 + S.MOST) }
 {
     let mut values = Vec::new(alloc);
     let mut size = 0;

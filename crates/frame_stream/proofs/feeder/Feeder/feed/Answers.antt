@@ -1,13 +1,10 @@
 use Rattle.std.proofs.Common.{◌≡◌, ◌++◌, List, ap, sym, ◌∙◌, arith}
 use Rattle.frame_stream.specs.Reading.{next_of}
 use Rattle.frame_stream.specs.Stream.{HasCome, rest_of}
-use Rattle.frame_stream.proofs.Nexts.{more_short}
 use Rattle.frame_stream.proofs.Streams.{comes_unheld}
 use Rattle.frame_stream.proofs.feeder.Feeder.feed.Goals as goal
 
 pub returns-in-Some-clause-came : goal.returns-in-Some-clause-came
 returns-in-Some-clause-came g c = λ stream values came. rw c.new.ensures.items
-    (comes_unheld g.S.Side.body g.S.Side.fits g.S.Side.body_at g.S.Side.MOST c.args.self.now stream c.args.piece.now values c.in-Some.fault ? came)
-
-pub returns-in-Ok-clause-short : goal.returns-in-Ok-clause-short
-returns-in-Ok-clause-short g c = λ none. more_short g.S.Side.body_at g.S.Side.MOST _ ?
+    (comes_unheld g.S.Side.body g.S.Side.fits g.S.Side.body_at g.S.Side.MOST c.args.self.now stream c.args.piece.now values c.in-Some.fault
+    (rw (← c.self.view_is) c.in-Some.is) came)
