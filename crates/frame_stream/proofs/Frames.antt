@@ -2,7 +2,7 @@
 use Rattle.std.proofs.Common.{◌≡◌, ℕ, ◌+◌, ◌^◌, ◌<◌, ◌≤◌, List, [], ◌∷◌, ◌++◌, length, get_or, take, drop, refl, sym, ap, ◌∙◌, append_assoc, arith, inl, inr}
 use Rattle.std.specs.Int.{w32, to_be_bytes, from_be_bytes}
 use Rattle.std.proofs.lemmas.Bool.{cases_lt}
-use Rattle.std.proofs.lemmas.List.{append-nil, take_at, drop_at, drop-drop, take-append-le, take-append-drop, length-append, length-take-le, length-drop, get_or-take, get_or-drop, get_or_past, length-take}
+use Rattle.std.proofs.lemmas.List.{append-nil, nil_from_length, take_at, take_all, drop_at, drop-drop, take-append-le, take-append-drop, length-append, length-take-le, length-drop, get_or-take, get_or-drop, get_or_past, length-take}
 use Rattle.std.proofs.lemmas.Nat.{be_bytes_4, from_be_bytes-to_be_bytes_4}
 use Rattle.frame_stream.specs.Frame.{IsBytes, framed, length_field}
 
@@ -60,3 +60,13 @@ framed-of bytes fits four whole =
 pub length_field-more : (bytes more : List ℕ) → 4 ≤ length bytes → length_field (bytes ++ more) ≡ length_field bytes
 unfolding length_field
 length_field-more bytes more h = ap (from_be_bytes w32) (take-append-le 4 bytes more h)
+
+-- a frame that was made in the place of other bytes
+pub frame_put : (items zeros body made : List ℕ) (len : ℕ) → items ≡ zeros ++ body → length zeros ≡ 4 → len ≡ length items
+    → made ≡ framed (drop 4 items) → take len (made ++ drop (length made) items) ≡ framed body
+frame_put items zeros body made len is four all e =
+    let n : length items ≡ 4 + length body = omega (arith, ap length is, length-append zeros body) in
+    let frame : made ≡ framed body = e ∙ ap framed (ap (drop 4) is ∙ drop_at zeros body 4 four) in
+    let size : length made ≡ 4 + length body = ap length frame ∙ length-framed body in
+    let none : drop (length made) items ≡ [] = nil_from_length (drop (length made) items) (omega (arith, length-drop (length made) items, size, n)) in
+    ap (λ (x : List ℕ). take len (made ++ x)) none ∙ ap (take len) (append-nil made) ∙ take_all len made (omega (arith, all, n, size)) ∙ frame

@@ -1,6 +1,6 @@
 // The frame of a value.
-ghost use Rattle.std.specs.Prelude.{IfOk};
-ghost use Rattle.frame_stream.specs.Frame.{IsFrame};
+ghost use Rattle.std.specs.Prelude.{◌≡◌, ◌+◌, ◌<◌, ◌≤◌, ◌^◌, length, drop, IfOk};
+ghost use Rattle.frame_stream.specs.Frame.{IsFrame, framed};
 
 use super::side::Side;
 use std::alloc::{AllocError, Global};
@@ -18,7 +18,18 @@ pub fn encode<S: Side>(alloc: Global, value: &S) -> Result<Vec<u8>, AllocError>
     // The length is known once the body is there, which so is written in its place and not copied.
     frame.extend_from_slice(&[0; 4])?;
     value.put_body(&mut frame)?;
-    let length = (frame.len() - 4) as u32;
-    frame[..4].copy_from_slice(&length.to_be_bytes());
+    put_length(&mut frame);
     Ok(frame)
+}
+
+// Writes the length of what follows the first four bytes into these.
+#[tactic(auto, unfolding(crate::specs::Frame::framed))]
+fn put_length(frame: &mut [u8])
+    requires field { 4 ≤ length frame.old }
+    requires few { length frame.old < 4 + 2 ^ 32 }
+    ensures { frame.new ≡ framed (drop 4 frame.old) }
+{
+    let length = (frame.len() - 4) as u32;
+    let (field, _) = frame.split_at_mut(4);
+    field.copy_from_slice(&length.to_be_bytes());
 }
