@@ -38,3 +38,6 @@ pub use feeder::{Fed, Feeder};
 pub use laws::{one_frame, one_reading};
 pub use side::Side;
 
+
+#[cfg(test)]
+mod tests;
