@@ -1,3 +1,5 @@
-// Tests: of all that no clause says, with a small side of three kinds.
+// Frames and streams of an example of a side, against bytes written by hand.
 
+mod frames;
 mod sample;
+mod streams;
