@@ -1,8 +1,8 @@
 -- A frame's length and body are read again, and bytes with their length before them are a frame.
-use Rattle.std.proofs.Common.{◌≡◌, ℕ, ◌+◌, ◌^◌, ◌<◌, ◌≤◌, List, [], ◌∷◌, ◌++◌, length, get_or, take, drop, refl, sym, ap, ◌∙◌, append_assoc, arith, inl, inr}
+use Rattle.std.proofs.Common.{◌≡◌, ℕ, ◌+◌, ◌^◌, ◌<◌, ◌≤◌, List, [], ◌++◌, length, take, drop, refl, sym, ap, ◌∙◌, append_assoc, arith, inl, inr}
 use Rattle.std.specs.Int.{w32, to_be_bytes, from_be_bytes}
 use Rattle.std.proofs.lemmas.Bool.{cases_lt}
-use Rattle.std.proofs.lemmas.List.{append-nil, nil_from_length, take_at, take_all, drop_at, drop-drop, take-append-le, take-append-drop, length-append, length-take-le, length-drop, get_or-take, get_or-drop, get_or_past, length-take}
+use Rattle.std.proofs.lemmas.List.{append-nil, nil_from_length, take_at, take_all, drop_at, take-append-le, take-append-drop, length-append, length-take-le, length-drop, get_or-take, get_or-drop, get_or_past, length-take}
 use Rattle.std.proofs.lemmas.Nat.{be_bytes_4, from_be_bytes-to_be_bytes_4}
 use Rattle.frame_stream.specs.Frame.{IsBytes, framed, length_field}
 

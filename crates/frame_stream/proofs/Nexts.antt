@@ -1,7 +1,7 @@
 -- What bytes begin with, by their length and their first four bytes.
-use Rattle.std.proofs.Common.{◌≡◌, ℕ, ◌+◌, ◌^◌, ◌<◌, ◌≤◌, List, [], ◌++◌, length, take, drop, Bool, true, false, cond, ltb, eqb, ◌||◌, ◌⊎◌, Result, Ok, Err, Option, Some, None, refl, sym, ap, subst, ◌∙◌, append_assoc, arith, inl, inr}
+use Rattle.std.proofs.Common.{◌≡◌, ℕ, ◌+◌, ◌^◌, ◌<◌, ◌≤◌, List, [], ◌++◌, length, take, drop, Bool, true, false, cond, ltb, eqb, ◌||◌, ◌⊎◌, Result, Ok, Err, refl, sym, ap, ◌∙◌, arith, inl, inr}
 use Rattle.std.specs.Prelude.{IfOk}
-use Rattle.std.proofs.lemmas.Bool.{cases_lt, lt-ltb, le-ltb, ltb-true, ltb-false, eqb-true, eqb-false, eq-eqb, ne_eqb, or_from, or_left, or_right, or_parts}
+use Rattle.std.proofs.lemmas.Bool.{cases_lt, lt-ltb, le-ltb, eqb-true, eq-eqb, ne_eqb, or_from, or_right}
 use Rattle.std.proofs.lemmas.List.{append-nil, take-append-le, drop-append-le, length-append, length-drop, length-take-le, take_all}
 use Rattle.frame_stream.specs.Frame.{IsBytes, IsFrame, framed, length_field}
 use Rattle.frame_stream.specs.Reading.{said, next_of, whole_of, Gives}
@@ -65,7 +65,7 @@ pub data NextCase {T : Type 0} (body_at : List ℕ → Result T Fault) (most : �
   is_bad : 4 ≤ length bytes → (length_field bytes ≡ 0) ⊎ (most < length_field bytes) → next_of body_at most bytes ≡ Bad BadLengthField → NextCase body_at most bytes
   is_cut : 4 ≤ length bytes → 0 < length_field bytes → length_field bytes ≤ most → length bytes < 4 + length_field bytes → next_of body_at most bytes ≡ More → NextCase body_at most bytes
   is_whole : 4 ≤ length bytes → 0 < length_field bytes → length_field bytes ≤ most → 4 + length_field bytes ≤ length bytes
-    → next_of body_at most bytes ≡ said (4 + length_field bytes) (body_at (body_field bytes)) → NextCase body_at most bytes
+      → next_of body_at most bytes ≡ said (4 + length_field bytes) (body_at (body_field bytes)) → NextCase body_at most bytes
 
 pub next_case : {T : Type 0} (body_at : List ℕ → Result T Fault) (most : ℕ) (bytes : List ℕ) → NextCase body_at most bytes
 next_case body_at most bytes =
@@ -78,9 +78,9 @@ next_case body_at most bytes =
           | inr high ↦ elim (cases_lt (length bytes) (4 + length_field bytes)) [
             | inl cut ↦ is_cut four low high cut (next_cut body_at most bytes four low high cut)
             | inr whole ↦ is_whole four low high whole (next_said body_at most bytes four low high whole)
-            ]
           ]
         ]
+      ]
     ]
 
 -- the frame of a value that fits, whatever follows it
@@ -93,7 +93,7 @@ next_framed body fits body_at most side v rest h =
     let field : length_field bytes ≡ length (body v) = length_field-framed (body v) rest few in
     let len : length bytes ≡ 4 + length (body v) + length rest = omega (arith, length-append (framed (body v)) rest, length-framed (body v)) in
     let said_so : next_of body_at most bytes ≡ said (4 + length_field bytes) (body_at (body_field bytes)) =
-        next_said body_at most bytes (omega arith) (omega (arith, limits.0, field)) (omega (arith, limits.1, field)) (omega (arith, field)) in
+    next_said body_at most bytes (omega arith) (omega (arith, limits.0, field)) (omega (arith, limits.1, field)) (omega (arith, field)) in
     let the_body : body_field bytes ≡ body v = ap (λ (n : ℕ). take n (drop 4 bytes)) field ∙ body-framed (body v) rest in
     said_so ∙ rw (the_body, field, side.again v h) refl
 
@@ -116,16 +116,16 @@ next_found body fits body_at most side bytes v size are e =
       | is_bad _ _ bad ↦ absurd (cc (bad, e))
       | is_cut _ _ _ _ more ↦ absurd (cc (more, e))
       | is_whole four low high whole is ↦
-        let n = length_field bytes in
-        let parts = said_whole (4 + n) (body_at (body_field bytes)) v size (sym is ∙ e) in
-        let len : length (body_field bytes) ≡ n = length-take-le n (drop 4 bytes) (omega (arith, length-drop 4 bytes)) in
-        let spelled = side.spelled (body_field bytes) v (IsBytes-take n (drop 4 bytes) (IsBytes-drop 4 bytes are)) (omega (arith, len)) parts.0 in
-        record {
-          does_fit = spelled.0;
-          low = omega (arith, parts.1, low);
-          within = omega (arith, parts.1, whole);
-          is_frame = ap (λ (k : ℕ). take k bytes) (sym parts.1) ∙ framed-of bytes are four whole ∙ ap framed spelled.1;
-        }
+          let n = length_field bytes in
+          let parts = said_whole (4 + n) (body_at (body_field bytes)) v size (sym is ∙ e) in
+          let len : length (body_field bytes) ≡ n = length-take-le n (drop 4 bytes) (omega (arith, length-drop 4 bytes)) in
+          let spelled = side.spelled (body_field bytes) v (IsBytes-take n (drop 4 bytes) (IsBytes-drop 4 bytes are)) (omega (arith, len)) parts.0 in
+          record {
+            does_fit = spelled.0;
+            low = omega (arith, parts.1, low);
+            within = omega (arith, parts.1, whole);
+            is_frame = ap (λ (k : ℕ). take k bytes) (sym parts.1) ∙ framed-of bytes are four whole ∙ ap framed spelled.1;
+          }
     ]
 
 -- with more bytes behind it a fault stays the same
@@ -136,20 +136,20 @@ bad_more body_at most bytes more f e =
     elim (next_case body_at most bytes) [
       | is_short _ more_ ↦ absurd (cc (more_, e))
       | is_bad four which bad ↦
-        let field : length_field (bytes ++ more) ≡ length_field bytes = length_field-more bytes more four in
-        elim which [
-          | inl none ↦ next_none body_at most (bytes ++ more) (omega (arith, len)) (field ∙ none) ∙ sym bad ∙ e
-          | inr above ↦ next_above body_at most (bytes ++ more) (omega (arith, len)) (omega (arith, field, above)) ∙ sym bad ∙ e
-        ]
+          let field : length_field (bytes ++ more) ≡ length_field bytes = length_field-more bytes more four in
+          elim which [
+            | inl none ↦ next_none body_at most (bytes ++ more) (omega (arith, len)) (field ∙ none) ∙ sym bad ∙ e
+            | inr above ↦ next_above body_at most (bytes ++ more) (omega (arith, len)) (omega (arith, field, above)) ∙ sym bad ∙ e
+          ]
       | is_cut _ _ _ _ more_ ↦ absurd (cc (more_, e))
       | is_whole four low high whole is ↦
-        let field : length_field (bytes ++ more) ≡ length_field bytes = length_field-more bytes more four in
-        let behind : drop 4 (bytes ++ more) ≡ drop 4 bytes ++ more = drop-append-le 4 bytes more four in
-        let inside : take (length_field bytes) (drop 4 bytes ++ more) ≡ take (length_field bytes) (drop 4 bytes) =
-            take-append-le (length_field bytes) (drop 4 bytes) more (omega (arith, length-drop 4 bytes)) in
-        let the_body : body_field (bytes ++ more) ≡ body_field bytes = ap (λ (n : ℕ). take n (drop 4 (bytes ++ more))) field ∙ ap (take (length_field bytes)) behind ∙ inside in
-        next_said body_at most (bytes ++ more) (omega (arith, len)) (omega (arith, field)) (omega (arith, field)) (omega (arith, field, len))
-        ∙ rw (the_body, field) (sym is ∙ e)
+          let field : length_field (bytes ++ more) ≡ length_field bytes = length_field-more bytes more four in
+          let behind : drop 4 (bytes ++ more) ≡ drop 4 bytes ++ more = drop-append-le 4 bytes more four in
+          let inside : take (length_field bytes) (drop 4 bytes ++ more) ≡ take (length_field bytes) (drop 4 bytes) =
+          take-append-le (length_field bytes) (drop 4 bytes) more (omega (arith, length-drop 4 bytes)) in
+          let the_body : body_field (bytes ++ more) ≡ body_field bytes = ap (λ (n : ℕ). take n (drop 4 (bytes ++ more))) field ∙ ap (take (length_field bytes)) behind ∙ inside in
+          next_said body_at most (bytes ++ more) (omega (arith, len)) (omega (arith, field)) (omega (arith, field)) (omega (arith, field, len))
+          ∙ rw (the_body, field) (sym is ∙ e)
     ]
 
 said_more : {T : Type 0} (size : ℕ) (r : Result T Fault) → said size r ≡ More → ⊥
@@ -198,5 +198,5 @@ pub frame_whole : {T : Type 0} (body : T → List ℕ) (fits : T → Type 0) (bo
 frame_whole body fits body_at most side bytes v is =
     let size : length bytes ≡ 4 + length (body v) = omega (arith, ap length is.1, length-framed (body v)) in
     let found : next_of body_at most bytes ≡ Whole v (4 + length (body v)) =
-        ap (next_of body_at most) (is.1 ∙ sym (append-nil (framed (body v)))) ∙ next_framed body fits body_at most side v [] is.0 in
+    ap (next_of body_at most) (is.1 ∙ sym (append-nil (framed (body v)))) ∙ next_framed body fits body_at most side v [] is.0 in
     rw (found, size, eq-eqb (4 + length (body v)) (4 + length (body v)) refl) refl

@@ -1,16 +1,16 @@
 -- A stream is cut in one way, and a piece more is cut where the bytes before it were.
-use Rattle.std.proofs.Common.{◌≡◌, ℕ, ◌+◌, ◌<◌, ◌≤◌, List, [], ◌∷◌, ◌++◌, length, take, drop, Result, Option, Some, None, refl, sym, ap, ◌∙◌, append_assoc, arith}
-use Rattle.std.specs.List.{flat_map, AllByRecursion}
-use Rattle.std.proofs.lemmas.List.{append-nil, append_cancel_left, take-append-drop, drop-drop, length-drop, nil_from_length, length-append}
-use Rattle.std.proofs.lemmas.List.Concat.{flat_map-append, flat_map-cons}
+use Rattle.std.proofs.Common.{◌≡◌, ℕ, ◌+◌, ◌<◌, ◌≤◌, List, [], ◌∷◌, ◌++◌, length, drop, Result, Option, Some, None, refl, sym, ap, ◌∙◌, append_assoc, arith}
+use Rattle.std.specs.List.{AllByRecursion}
+use Rattle.std.proofs.lemmas.List.{append-nil, append_cancel_left, take-append-drop, drop-drop, length-drop}
+use Rattle.std.proofs.lemmas.List.Concat.{flat_map-append}
 use Rattle.frame_stream.specs.Frame.{IsBytes, IsFrame, framed}
 use Rattle.frame_stream.specs.Reading.{next_of}
 use Rattle.frame_stream.specs.Stream.{frames, rest_of, IsStream, Held, HasCome}
 use Rattle.frame_stream.specs.declared.fault.Fault.{Fault}
 use Rattle.frame_stream.specs.declared.next.Next.{Next}
-use Rattle.frame_stream.specs.declared.next.Next.TheVariants.{More, Bad, Whole}
-use Rattle.frame_stream.proofs.Frames.{IsBytes-drop, length-framed}
-use Rattle.frame_stream.proofs.Nexts.{IsSide, Found, next_framed, next_found, next_short, bad_more}
+use Rattle.frame_stream.specs.declared.next.Next.TheVariants.{Bad, Whole}
+use Rattle.frame_stream.proofs.Frames.{IsBytes-drop}
+use Rattle.frame_stream.proofs.Nexts.{IsSide, next_framed, next_found, next_short, bad_more}
 
 -- ---- one frame
 
@@ -21,7 +21,7 @@ pub one_front : {T : Type 0} (body : T → List ℕ) (fits : T → Type 0) (body
     → (v w : T) (x y : List ℕ) → fits v → fits w → framed (body v) ++ x ≡ framed (body w) ++ y → (v ≡ w) × (x ≡ y)
 one_front body fits body_at most side v w x y p q e =
     let same = same_whole v w (4 + length (body v)) (4 + length (body w)) (next_of body_at most (framed (body v) ++ x)) (next_of body_at most (framed (body w) ++ y))
-        (next_framed body fits body_at most side v x p) (next_framed body fits body_at most side w y q) (ap (next_of body_at most) e) in
+    (next_framed body fits body_at most side v x p) (next_framed body fits body_at most side w y q) (ap (next_of body_at most) e) in
     (same, append_cancel_left (framed (body v)) x y (e ∙ ap (λ z. framed (body z) ++ y) (sym same)))
 
 pub frames_apart : {T : Type 0} (body : T → List ℕ) (fits : T → Type 0) (body_at : List ℕ → Result T Fault) (most : ℕ) → IsSide body fits body_at most
@@ -63,9 +63,9 @@ one_cut body fits body_at most side stream (v ∷ vs) [] x y f g p q =
     absurd (no_whole g v (4 + length (body v)) (next_of body_at most y) q.ends (ap (next_of body_at most) start ∙ next_framed body fits body_at most side v (frames body vs ++ x) p.each.0))
 one_cut {T} body fits body_at most side stream (v ∷ vs) (w ∷ ws) x y f g p q =
     let first = one_front body fits body_at most side v w (frames body vs ++ x) (frames body ws ++ y) p.each.0 q.each.0
-        (sym (frames-cons body v vs x) ∙ sym p.whole ∙ q.whole ∙ frames-cons body w ws y) in
+    (sym (frames-cons body v vs x) ∙ sym p.whole ∙ q.whole ∙ frames-cons body w ws y) in
     let others = one_cut body fits body_at most side (frames body vs ++ x) vs ws x y f g
-        (record { whole = refl; each = p.each.1; ends = p.ends }) (record { whole = first.1; each = q.each.1; ends = q.ends }) in
+    (record { whole = refl; each = p.each.1; ends = p.ends }) (record { whole = first.1; each = q.each.1; ends = q.ends }) in
     let head = first.0 in
     let tail = others.0 in
     let lists : v ∷ vs ≡ w ∷ ws = cc in
@@ -100,15 +100,17 @@ cut_more body fits body_at most side bytes values size v more are cut e =
     let found = next_found body fits body_at most side (drop size bytes) v more (IsBytes-drop size bytes are) e in
     let len = length-drop size bytes in
     let rest : drop size bytes ≡ framed (body v) ++ drop (size + more) bytes =
-        sym (take-append-drop more (drop size bytes)) ∙ ap (λ (x : List ℕ). x ++ drop more (drop size bytes)) found.is_frame ∙ ap (λ (x : List ℕ). framed (body v) ++ x) (drop-drop more size bytes) in
+    sym (take-append-drop more (drop size bytes)) ∙ ap (λ (x : List ℕ). x ++ drop more (drop size bytes)) found.is_frame ∙ ap (λ (x : List ℕ). framed (body v) ++ x) (drop-drop more size bytes) in
     let joined : frames body (values ++ v ∷ []) ≡ frames body values ++ framed (body v) =
-        flat_map-append (λ w. framed (body w)) values (v ∷ []) ∙ ap (λ (x : List ℕ). frames body values ++ x) (frames_of_one body v) in
-    (record {
-      within = omega (arith, found.within, cut.within, len);
-      front = cut.front ∙ ap (λ (x : List ℕ). frames body values ++ x) rest ∙ sym (append_assoc (frames body values) (framed (body v)) (drop (size + more) bytes))
-        ∙ ap (λ (x : List ℕ). x ++ drop (size + more) bytes) (sym joined);
-      each = each-push fits values v cut.each found.does_fit;
-    }, omega (arith, found.low))
+    flat_map-append (λ w. framed (body w)) values (v ∷ []) ∙ ap (λ (x : List ℕ). frames body values ++ x) (frames_of_one body v) in (
+      record {
+        within = omega (arith, found.within, cut.within, len);
+        front = cut.front ∙ ap (λ (x : List ℕ). frames body values ++ x) rest ∙ sym (append_assoc (frames body values) (framed (body v)) (drop (size + more) bytes))
+            ∙ ap (λ (x : List ℕ). x ++ drop (size + more) bytes) (sym joined);
+        each = each-push fits values v cut.each found.does_fit;
+      },
+      omega (arith, found.low),
+    )
 
 pub cut_ends : {T : Type 0} (body : T → List ℕ) (fits : T → Type 0) (body_at : List ℕ → Result T Fault) (most : ℕ)
     → (bytes : List ℕ) (values : List T) (size : ℕ) (fault : Option Fault) → IsCut body fits bytes values size
@@ -130,8 +132,8 @@ comes_more body fits body_at most held stream piece before values rest fault non
       unheld = [];
       reads = record {
         whole = ap (λ (x : List ℕ). x ++ piece) old ∙ append_assoc (frames body before) held.bytes piece
-          ∙ ap (λ (x : List ℕ). frames body before ++ x) new.whole ∙ sym (append_assoc (frames body before) (frames body values) rest)
-          ∙ ap (λ (x : List ℕ). x ++ rest) (sym joined) ∙ ap (λ (x : List ℕ). frames body (before ++ values) ++ x) (sym (append-nil rest));
+            ∙ ap (λ (x : List ℕ). frames body before ++ x) new.whole ∙ sym (append_assoc (frames body before) (frames body values) rest)
+            ∙ ap (λ (x : List ℕ). x ++ rest) (sym joined) ∙ ap (λ (x : List ℕ). frames body (before ++ values) ++ x) (sym (append-nil rest));
         each = each-append fits before values came.reads.each new.each;
         ends = ap (next_of body_at most) (append-nil rest) ∙ new.ends;
       };
@@ -150,8 +152,8 @@ comes_unheld {T} body fits body_at most held stream piece before f is came =
       unheld = came.unheld ++ piece;
       reads = record {
         whole = ap (λ (x : List ℕ). x ++ piece) came.reads.whole ∙ append_assoc (frames body before) (held.bytes ++ came.unheld) piece
-          ∙ ap (λ (x : List ℕ). frames body before ++ x) (append_assoc held.bytes came.unheld piece)
-          ∙ ap (λ (vs : List T). frames body vs ++ (held.bytes ++ (came.unheld ++ piece))) (sym same);
+            ∙ ap (λ (x : List ℕ). frames body before ++ x) (append_assoc held.bytes came.unheld piece)
+            ∙ ap (λ (vs : List T). frames body vs ++ (held.bytes ++ (came.unheld ++ piece))) (sym same);
         each = each-append fits before [] came.reads.each tt;
         ends = ap (next_of body_at most) (sym (append_assoc held.bytes came.unheld piece)) ∙ more ∙ sym (ap rest_of is);
       };

@@ -1,13 +1,12 @@
 -- The laws of the example of a side.
-use Rattle.std.specs.Prelude.{◌≡◌, ℕ, ◌<◌, ◌≤◌, ◌^◌, List, [], ◌∷◌, length, Bool, true, false, Option, Some, None, Result, Ok, Err, ◌==◌, if◌then◌else◌}
-use Rattle.std.specs.Int.{w16, to_be_bytes, from_be_bytes}
-use Rattle.std.proofs.Common.{refl, sym, ap, subst, ◌∙◌, cond, eqb, get_or, zero, suc, arith}
+use Rattle.std.specs.Prelude.{◌≡◌, ℕ, ◌<◌, ◌≤◌, List, [], ◌∷◌, length, Bool, true, false, Option, Some, None, Result, Ok, Err}
+use Rattle.std.specs.Int.{w16, from_be_bytes}
+use Rattle.std.proofs.Common.{refl, sym, ap, subst, eqb, zero, suc, arith}
 use Rattle.std.proofs.lemmas.Bool.{ne_eqb}
 use Rattle.std.proofs.lemmas.Nat.{be_bytes_2, from_be_bytes-to_be_bytes_2}
 use Rattle.frame_stream.specs.Frame.{IsBytes}
 use Rattle.frame_stream.specs.Sample.{sample_body, SampleFits, nothing_at, number_at, flag_at, sample_at}
 use Rattle.frame_stream.specs.declared.fault.Fault.{Fault}
-use Rattle.frame_stream.specs.declared.fault.Fault.TheVariants.{BadKind, BadBody}
 
 pub sample_in_limits : (v : Option (Result ℕ Bool)) → SampleFits v → (0 < length (sample_body v)) × (length (sample_body v) ≤ 32787)
 sample_in_limits None h = (omega arith, omega arith)

@@ -4,7 +4,7 @@ ghost use Rattle.frame_stream.specs.Frame.{IsFrame};
 ghost use Rattle.frame_stream.specs.Reading.{Gives, next_of, whole_of};
 
 use super::fault::{Fault, ReadError};
-use super::next::{next_in, Next};
+use super::next::{Next, next_in};
 use super::side::Side;
 use std::alloc::Global;
 

@@ -11,8 +11,7 @@ pub fn one_frame<S: Side>()
     ensures one { (v : S) (x y : List ℕ) → IsFrame S.body S.fits v x → IsFrame S.body S.fits v y → x ≡ y }
     ensures apart { (v w : S) (x : List ℕ) → IsFrame S.body S.fits v x → IsFrame S.body S.fits w x → v ≡ w }
     ensures prefix { (v w : S) (x rest : List ℕ) → IsFrame S.body S.fits v x → IsFrame S.body S.fits w (x ++ rest) → rest ≡ [] }
-{
-}
+{}
 
 /// A stream is cut in one way: into the same values, the same rest and the same fault.
 pub fn one_reading<S: Side>()
@@ -20,5 +19,4 @@ pub fn one_reading<S: Side>()
         → IsStream S.body S.fits S.body_at S.MOST stream values x f
         → IsStream S.body S.fits S.body_at S.MOST stream others y g
         → (values ≡ others) × (x ≡ y) × (f ≡ g) }
-{
-}
+{}

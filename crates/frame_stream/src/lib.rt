@@ -38,6 +38,5 @@ pub use feeder::{Fed, Feeder};
 pub use laws::{one_frame, one_reading};
 pub use side::Side;
 
-
 #[cfg(test)]
 mod tests;

@@ -3,7 +3,7 @@ ghost use Rattle.std.specs.Prelude.{◌≡◌, ◌+◌, ◌<◌, ◌≤◌, leng
 ghost use Rattle.frame_stream.specs.Stream.{IsStream};
 
 use super::fault::Fault;
-use super::next::{next_in, Next};
+use super::next::{Next, next_in};
 use super::side::Side;
 use std::alloc::{AllocError, Global};
 

@@ -1,4 +1,4 @@
-use Rattle.std.proofs.Common.{◌≡◌, ◌<◌, ◌++◌, ◌∷◌, [], ◌+◌, ◌-◌, length, drop, arith, sym, ap, ◌∙◌}
+use Rattle.std.proofs.Common.{◌≡◌, ◌<◌, ◌++◌, ◌∷◌, [], ◌+◌, drop, arith, sym, ap, ◌∙◌}
 use Rattle.frame_stream.specs.Reading.{next_of}
 use Rattle.frame_stream.specs.declared.next.Next.TheVariants.{Whole}
 use Rattle.frame_stream.proofs.Nexts.{IsSide}
@@ -12,10 +12,10 @@ further : (g : given.Over) (c : goal.In_ok-push-in-Whole g)
 further g c =
     let laws = g.met.S.Side in
     let side : IsSide g.S.Side.body g.S.Side.fits g.S.Side.body_at g.S.Side.MOST =
-        record { few = laws.few; in_limits = laws.in_limits; again = laws.again; spelled = laws.spelled } in
+    record { few = laws.few; in_limits = laws.in_limits; again = laws.again; spelled = laws.spelled } in
     let next = next_of g.S.Side.body_at g.S.Side.MOST in
     let e : next (drop c.frames.size c.args.bytes.now) ≡ Whole c.in-Whole.value c.in-Whole.more =
-        ap next (sym c.split_at.ensures.back) ∙ sym c.in_ok-next_in.ensures ∙ c.in-Whole.is in
+    ap next (sym c.split_at.ensures.back) ∙ sym c.in_ok-next_in.ensures ∙ c.in-Whole.is in
     cut_more g.S.Side.body g.S.Side.fits g.S.Side.body_at g.S.Side.MOST side c.args.bytes.now c.frames.values.items c.frames.size
     c.in-Whole.value c.in-Whole.more (λ i. omega (arith, c.type_inv.bytes i)) c.frames.invariant e
 

@@ -1,6 +1,3 @@
-use Rattle.std.proofs.Common.{◌≡◌, ◌++◌, List, ap, sym, ◌∙◌, arith}
-use Rattle.frame_stream.specs.Reading.{next_of}
-use Rattle.frame_stream.specs.Stream.{HasCome, rest_of}
 use Rattle.frame_stream.proofs.Streams.{comes_unheld}
 use Rattle.frame_stream.proofs.feeder.Feeder.feed.Goals as goal
 
