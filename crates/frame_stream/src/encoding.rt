@@ -10,6 +10,7 @@ use std::alloc::{AllocError, Global};
 /// # Errors
 ///
 /// A growth was refused.
+#[tactic(auto, using(crate::proofs::Frames::frame_put))]
 pub fn encode<S: Side>(alloc: Global, value: &S) -> Result<Vec<u8>, AllocError>
     requires { S.fits value.now }
     ensures { IfOk result (λ frame. IsFrame S.body S.fits value.now frame.items) }
