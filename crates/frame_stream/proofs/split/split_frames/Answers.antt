@@ -1,0 +1,29 @@
+use Rattle.std.proofs.Common.{◌≡◌, ◌<◌, ◌++◌, ◌∷◌, [], ◌+◌, drop, arith, sym, ap, ◌∙◌}
+use Rattle.frame_stream.specs.Reading.{next_of}
+use Rattle.frame_stream.specs.declared.next.Next.TheVariants.{Whole}
+use Rattle.frame_stream.proofs.Nexts.{IsSide}
+use Rattle.frame_stream.proofs.Streams.{IsCut, cut_more}
+use Rattle.frame_stream.proofs.split.split_frames.Given as given
+use Rattle.frame_stream.proofs.split.split_frames.Goals as goal
+
+-- after a value's frame the cut is one frame further
+further : (g : given.Over) (c : goal.In_ok-push-in-Whole g)
+    → IsCut g.S.Side.body g.S.Side.fits c.args.bytes.now (c.frames.values.items ++ c.in-Whole.value ∷ []) (c.frames.size + c.in-Whole.more) × (0 < c.in-Whole.more)
+further g c =
+    let laws = g.met.S.Side in
+    let side : IsSide g.S.Side.body g.S.Side.fits g.S.Side.body_at g.S.Side.MOST =
+    record { few = laws.few; in_limits = laws.in_limits; again = laws.again; spelled = laws.spelled } in
+    let next = next_of g.S.Side.body_at g.S.Side.MOST in
+    let e : next (drop c.frames.size c.args.bytes.now) ≡ Whole c.in-Whole.value c.in-Whole.more =
+    ap next (sym c.split_at.ensures.back) ∙ sym c.in_ok-next_in.ensures ∙ c.in-Whole.is in
+    cut_more g.S.Side.body g.S.Side.fits g.S.Side.body_at g.S.Side.MOST side c.args.bytes.now c.frames.values.items c.frames.size
+    c.in-Whole.value c.in-Whole.more (λ i. omega (arith, c.type_inv.bytes i)) c.frames.invariant e
+
+pub overflow_add-size : goal.overflow_add-size
+overflow_add-size g c = let f = further g c in omega (arith, f.0.within)
+
+pub frames-smaller : goal.frames-smaller
+frames-smaller g c = let f = further g c in omega (arith, f.1, f.0.within)
+
+pub frames-preserved : goal.frames-preserved
+frames-preserved g c = let f = further g c in rw c.in_ok-push-in-Whole.ensures.items f.0
