@@ -1,8 +1,7 @@
 #![tactic(auto)]
 //! Laws of answers, and of where requests and bios stand, on the machine of every keeper.
 //!
-//! `specs/` has what the laws say: `Requests` has what holds of each request; `Lengths` how many bytes blocks, payloads and
-//! results have; `Answered` what a call is answered; `Sessions` at which seats sessions sit, and whose the requests are;
+//! `specs/` has what the laws say: `Lengths` how many bytes blocks, payloads and results have; `Answered` what a call is answered; `Sessions` at which seats sessions sit, and whose the requests are;
 //! `Results` which bios have a result; `Places` where a bio stands; `Bounds` how great times, ages and budgets are.
 //!
 //! | call | rule that it meets |
