@@ -16,9 +16,10 @@
 //! is a type of its own.
 //!
 //! ```text
-//! encode(alloc, &Some(7))                   // Ok of 00 00 00 03 02 00 07, where a number is kind 02
+//! // Of a side where a number is kind 02, in two bytes:
+//! encode(alloc, &Some(Ok(7)))               // Ok of 00 00 00 03 02 00 07
 //! feeder.feed(alloc, &[0, 0, 0, 3, 2])      // Ok(Fed { values: [], fault: None })
-//! feeder.feed(alloc, &[0, 7, 0, 0, 0, 0])   // Ok(Fed { values: [Some(7)], fault: Some(BadLengthField) })
+//! feeder.feed(alloc, &[0, 7, 0, 0, 0, 0])   // Ok(Fed { values: [Some(Ok(7))], fault: Some(BadLengthField) })
 //! feeder.feed(alloc, &[])                   // Ok(Fed { values: [], fault: Some(BadLengthField) })
 //! ```
 

@@ -24,6 +24,26 @@ const VALUES: [Sample; 5] = [
 ];
 
 #[test]
+fn example_of_the_page(rt: HostRuntime) -> Result<(), Fail> {
+    let alloc = rt.alloc();
+    let mut feeder = Feeder::<Sample>::new(alloc);
+    for (piece, values, fault) in [
+        ([0, 0, 0, 3, 2].as_slice(), [].as_slice(), None),
+        (
+            [0, 7, 0, 0, 0, 0].as_slice(),
+            [Some(Ok(7))].as_slice(),
+            Some(Fault::BadLengthField),
+        ),
+        ([].as_slice(), [].as_slice(), Some(Fault::BadLengthField)),
+    ] {
+        let fed = feeder.feed(alloc, piece)?;
+        assert_eq!(rt; fed.values.as_slice(), values, "{piece:?}");
+        assert_eq!(rt; fed.fault, fault, "{piece:?}");
+    }
+    Ok(())
+}
+
+#[test]
 fn cut_at_every_byte(rt: HostRuntime) -> Result<(), Fail> {
     let alloc = rt.alloc();
     for at in 0..37 {
