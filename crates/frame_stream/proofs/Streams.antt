@@ -119,27 +119,6 @@ cut_ends body fits body_at most bytes values size fault cut e = record { whole =
 
 -- ---- a piece more
 
-pub comes_more : {T : Type 0} (body : T → List ℕ) (fits : T → Type 0) (body_at : List ℕ → Result T Fault) (most : ℕ)
-    → (held : Held) (stream piece : List ℕ) (before values : List T) (rest : List ℕ) (fault : Option Fault)
-    → held.fault ≡ None → HasCome body fits body_at most held stream before
-    → IsStream body fits body_at most (held.bytes ++ piece) values rest fault
-    → HasCome body fits body_at most (record { bytes = rest; fault = fault }) (stream ++ piece) (before ++ values)
-comes_more body fits body_at most held stream piece before values rest fault none came new =
-    let all : held.bytes ++ came.unheld ≡ held.bytes = ap (λ (x : List ℕ). held.bytes ++ x) (came.all_held none) ∙ append-nil held.bytes in
-    let old : stream ≡ frames body before ++ held.bytes = came.reads.whole ∙ ap (λ (x : List ℕ). frames body before ++ x) all in
-    let joined : frames body (before ++ values) ≡ frames body before ++ frames body values = flat_map-append (λ w. framed (body w)) before values in
-    record {
-      unheld = [];
-      reads = record {
-        whole = ap (λ (x : List ℕ). x ++ piece) old ∙ append_assoc (frames body before) held.bytes piece
-            ∙ ap (λ (x : List ℕ). frames body before ++ x) new.whole ∙ sym (append_assoc (frames body before) (frames body values) rest)
-            ∙ ap (λ (x : List ℕ). x ++ rest) (sym joined) ∙ ap (λ (x : List ℕ). frames body (before ++ values) ++ x) (sym (append-nil rest));
-        each = each-append fits before values came.reads.each new.each;
-        ends = ap (next_of body_at most) (append-nil rest) ∙ new.ends;
-      };
-      all_held = λ _. refl;
-    }
-
 pub comes_unheld : {T : Type 0} (body : T → List ℕ) (fits : T → Type 0) (body_at : List ℕ → Result T Fault) (most : ℕ)
     → (held : Held) (stream piece : List ℕ) (before : List T) (f : Fault)
     → held.fault ≡ Some f → HasCome body fits body_at most held stream before

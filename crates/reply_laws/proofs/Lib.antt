@@ -2,6 +2,7 @@ pub mod Full
 pub mod Fillings
 pub mod Replies
 pub mod Frames
+pub mod Reaped
 pub mod Outcomes
 pub mod Sittings
 pub mod Totals

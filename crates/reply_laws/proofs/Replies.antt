@@ -49,7 +49,7 @@ refusal-is R W (Refused code) h = tt
 refusal-is R W (NotYet cause) h = h
 
 -- so what some tests may refuse is answered as it is else
-first-is : {M : Type 0} (R : Reply → Type 0) (W : Cause → Type 0) (tests : List (Bool × Answer)) (m : M) (outcome : M × Answer) → AllRefuse W tests → IsAnswer R W outcome.1
+pub first-is : {M : Type 0} (R : Reply → Type 0) (W : Cause → Type 0) (tests : List (Bool × Answer)) (m : M) (outcome : M × Answer) → AllRefuse W tests → IsAnswer R W outcome.1
     → IsAnswer R W (elim (first_of tests) as (λ _. M × Answer) [ None ↦ outcome | Some answer ↦ (m, answer) ]).1
 first-is R W [] m outcome e h = h
 first-is {M} R W (test ∷ tests) m outcome e h =
@@ -58,7 +58,7 @@ first-is {M} R W (test ∷ tests) m outcome e h =
       | false ↦ first-is R W tests m outcome e.1 h
     ]
 
-accepted-is : (R : Reply → Type 0) (W : Cause → Type 0) (room : Bool) (m next : Plain) (reply : Reply) → R reply → IsAnswer R W (accepted room m next reply).1
+pub accepted-is : (R : Reply → Type 0) (W : Cause → Type 0) (room : Bool) (m next : Plain) (reply : Reply) → R reply → IsAnswer R W (accepted room m next reply).1
 accepted-is R W true m next reply h = h
 accepted-is R W false m next reply h = tt
 
@@ -211,7 +211,7 @@ step-is l m n room (Switch scheduler) h =
     done-is tests m (switched l m scheduler) room (tt, (tt, (tt, tt)))
 step-is l m n room Tick h = ticked-is m room m.bfq.slot
 
-did-is : (R : Reply → Type 0) (W : Cause → Type 0) (k : State) (s : Step) (answer : Answer) → IsAnswer R W answer → IsAnswer R W (did k s answer).1
+pub did-is : (R : Reply → Type 0) (W : Cause → Type 0) (k : State) (s : Step) (answer : Answer) → IsAnswer R W answer → IsAnswer R W (did k s answer).1
 did-is R W k s (Accepted reply) h = h
 did-is R W k s (Refused code) h = tt
 did-is R W k s (NotYet cause) h = h

@@ -5,7 +5,7 @@ ghost use Rattle.plain_machine.specs.declared.call.Call.{Call};
 ghost use Rattle.reply_laws.specs.Lengths.{EachBlockIsFull, EachPayloadFits, EachResultFits};
 ghost use Rattle.reply_laws.specs.Answered.{CallsAreAnswered, ClientsAreAnswered, OperatorIsAnswered};
 ghost use Rattle.reply_laws.specs.Sessions.{SessionsSitApart, RequestsHaveSeats};
-ghost use Rattle.reply_laws.specs.Results.{OutboxesHaveResults};
+ghost use Rattle.reply_laws.specs.Results.{OutboxesHaveResults, ReapsTellResults};
 ghost use Rattle.reply_laws.specs.Places.{EachBioHasOnePlace};
 ghost use Rattle.reply_laws.specs.Bounds.{TimesAreBounded, AgesAreBounded, GroupsHaveTheGreatestBudget};
 
@@ -64,8 +64,15 @@ pub fn outboxes_have_results()
     ensures { (l : Limits) (most : ℕ) (journal : List Call) → OutboxesHaveResults l most journal }
 {}
 
-/// There no bio stands in two places, be it in a queue, in the dispatch list, in flight or in an outbox, and nothing
-/// stands at a seat or under a tag that there is not. The body is empty: the contract is the law.
+/// Whatever a client reaps from the keeper of a journal, it is told the serial and the result of the first bio in its outbox.
+/// The body is empty: the contract is the law.
+pub fn reaps_tell_results()
+    ensures { (l : Limits) (most : ℕ) (journal : List Call) → ReapsTellResults l most journal }
+{}
+
+/// On the machine of every keeper that a journal makes, no bio stands in two places, be it in a queue, in the dispatch
+/// list, in flight or in an outbox, and nothing stands at a seat or under a tag that there is not. The body is empty: the
+/// contract is the law.
 pub fn bios_have_one_place()
     ensures { (l : Limits) (most : ℕ) (journal : List Call) → EachBioHasOnePlace l most journal }
 {}

@@ -1,8 +1,9 @@
 #![tactic(auto)]
 //! Laws of answers, and of where requests and bios stand, on the machine of every keeper.
 //!
-//! `specs/` has what the laws say: `Lengths` how many bytes blocks, payloads and results have; `Answered` what a call is answered; `Sessions` at which seats sessions sit, and whose the requests are;
-//! `Results` which bios have a result; `Places` where a bio stands; `Bounds` how great times, ages and budgets are.
+//! `specs/` has what the laws say: `Lengths` how many bytes blocks, payloads and results have; `Answered` what a call
+//! is answered; `Sessions` at which seats sessions sit, and whose the requests are; `Results` which bios have a result,
+//! and who is told of it; `Places` where a bio stands; `Bounds` how great times, ages and budgets are.
 //!
 //! | call | rule that it meets |
 //! |---|---|
@@ -15,6 +16,7 @@
 //! | [`sessions_sit_apart`] | no two seats have one session |
 //! | [`requests_have_seats`] | the session of each request sits at exactly one seat |
 //! | [`outboxes_have_results`] | the bios in outboxes have a result, and no others |
+//! | [`reaps_tell_results`] | a reap tells the result of the first bio in the outbox |
 //! | [`bios_have_one_place`] | no bio stands in two places |
 //! | [`times_are_bounded`] | no time is above 2^62 |
 //! | [`ages_are_bounded`] | the queue in service is no older than the last serial |
@@ -25,6 +27,6 @@ mod laws;
 pub use laws::{
     ages_are_bounded, bios_have_one_place, blocks_are_full, calls_are_answered,
     clients_are_answered, groups_have_the_greatest_budget, operator_is_answered,
-    outboxes_have_results, payloads_fit, requests_have_seats, results_fit, sessions_sit_apart,
-    times_are_bounded,
+    outboxes_have_results, payloads_fit, reaps_tell_results, requests_have_seats, results_fit,
+    sessions_sit_apart, times_are_bounded,
 };
