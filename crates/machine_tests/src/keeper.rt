@@ -27,10 +27,9 @@ enum Act {
 // What a keeper is called with, or shows, together with what comes of it.
 #[derive(Clone, Copy, Debug, PartialEq, Eq)]
 enum Told {
-    // A call and its answer: the number of what was accepted, or of a refusal after 100, or of a wait after 200.
-    Call(Act, u64),
-    // The cursor, the length of the line, and whether the block is stored.
-    Line(u32, u32, bool),
+    // A call and its answer: the number of what was accepted, or of a refusal after 100, or of a wait after 200. And then the
+    // cursor, the length of the line, and whether the block is stored.
+    Call(Act, u64, (u32, u32, bool)),
     LastSerial(u64),
     Held(bool),
     IsInFlight(bool),
@@ -99,13 +98,18 @@ fn is_stored(keeper: &Keeper) -> bool {
     }
 }
 
+// The cursor, the length of the line, and whether the block is stored.
+fn line_of(keeper: &Keeper) -> (u32, u32, bool) {
+    let view = keeper.view();
+    (view.cursor(), view.length(), is_stored(keeper))
+}
+
 // Does that again, and tells what came of it.
 fn again(keeper: &mut Keeper, alloc: Global, told: Told) -> Told {
     match told {
-        Told::Call(act, _) => Told::Call(act, number_of(&keeper.call(alloc, &call_of(act)))),
-        Told::Line(..) => {
-            let view = keeper.view();
-            Told::Line(view.cursor(), view.length(), is_stored(keeper))
+        Told::Call(act, ..) => {
+            let answer = number_of(&keeper.call(alloc, &call_of(act)));
+            Told::Call(act, answer, line_of(keeper))
         }
         Told::LastSerial(_) => Told::LastSerial(keeper.view().last_serial()),
         Told::Held(_) => Told::Held(keeper.view().held()),
@@ -131,41 +135,24 @@ fn expect(rt: &(impl Abort + AllocGlobal), draft: ConfigDraft, all: &[Told]) -> 
 fn undone_and_redone(rt: HostRuntime) -> Result<(), Fail> {
     let held = 200 + Cause::Held.number() as u64;
     let all = [
-        Told::Call(Act::Attach(0), 1),
-        Told::Line(1, 1, false),
-        Told::Call(Act::Store, 2),
-        Told::Line(2, 2, false),
-        Told::Call(Act::Dispatch, 3),
-        Told::Line(3, 3, false),
-        Told::Call(Act::Finish(3), 1),
-        Told::Line(4, 4, true),
-        Told::Call(Act::Release, refused(Code::NotHeld)),
-        Told::Line(4, 4, true),
-        Told::Call(Act::Hold, 44),
-        Told::Line(4, 4, true),
-        Told::Call(Act::Hold, refused(Code::AlreadyHeld)),
-        Told::Line(4, 4, true),
-        Told::Call(Act::Attach(1), held),
-        Told::Line(4, 4, true),
-        Told::Call(Act::Undo(0), refused(Code::ZeroCount)),
-        Told::Line(4, 4, true),
-        Told::Call(Act::Undo(5), refused(Code::NothingToUndo)),
-        Told::Line(4, 4, true),
-        Told::Call(Act::Undo(1), 34),
-        Told::Line(3, 4, false),
-        Told::Call(Act::Redo(1), 44),
-        Told::Line(4, 4, true),
-        Told::Call(Act::Redo(1), refused(Code::NothingToRedo)),
-        Told::Line(4, 4, true),
+        Told::Call(Act::Attach(0), 1, (1, 1, false)),
+        Told::Call(Act::Store, 2, (2, 2, false)),
+        Told::Call(Act::Dispatch, 3, (3, 3, false)),
+        Told::Call(Act::Finish(3), 1, (4, 4, true)),
+        Told::Call(Act::Release, refused(Code::NotHeld), (4, 4, true)),
+        Told::Call(Act::Hold, 44, (4, 4, true)),
+        Told::Call(Act::Hold, refused(Code::AlreadyHeld), (4, 4, true)),
+        Told::Call(Act::Attach(1), held, (4, 4, true)),
+        Told::Call(Act::Undo(0), refused(Code::ZeroCount), (4, 4, true)),
+        Told::Call(Act::Undo(5), refused(Code::NothingToUndo), (4, 4, true)),
+        Told::Call(Act::Undo(1), 34, (3, 4, false)),
+        Told::Call(Act::Redo(1), 44, (4, 4, true)),
+        Told::Call(Act::Redo(1), refused(Code::NothingToRedo), (4, 4, true)),
         // Another future: the two last steps are cut off by the next one.
-        Told::Call(Act::Undo(2), 24),
-        Told::Line(2, 4, false),
-        Told::Call(Act::Release, 0),
-        Told::Line(2, 4, false),
-        Told::Call(Act::Dispatch, 5),
-        Told::Line(3, 3, false),
-        Told::Call(Act::Finish(3), refused(Code::NotInFlight)),
-        Told::Line(3, 3, false),
+        Told::Call(Act::Undo(2), 24, (2, 4, false)),
+        Told::Call(Act::Release, 0, (2, 4, false)),
+        Told::Call(Act::Dispatch, 5, (3, 3, false)),
+        Told::Call(Act::Finish(3), refused(Code::NotInFlight), (3, 3, false)),
         Told::LastSerial(5),
         Told::Held(false),
         Told::IsInFlight(true),
@@ -223,10 +210,10 @@ fn full_history(rt: HostRuntime) -> Result<(), Fail> {
     let mut draft = ConfigDraft::default();
     draft.history_max = 2;
     let all = [
-        Told::Call(Act::Attach(0), 1),
-        Told::Call(Act::Hold, 11),
-        Told::Call(Act::Undo(1), refused(Code::HistoryFull)),
-        Told::Call(Act::Release, refused(Code::HistoryFull)),
+        Told::Call(Act::Attach(0), 1, (1, 1, false)),
+        Told::Call(Act::Hold, 11, (1, 1, false)),
+        Told::Call(Act::Undo(1), refused(Code::HistoryFull), (1, 1, false)),
+        Told::Call(Act::Release, refused(Code::HistoryFull), (1, 1, false)),
     ];
     two_undos_are_one(1, 2);
     redo_gives_back(1);
