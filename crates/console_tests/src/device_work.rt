@@ -1,13 +1,38 @@
 // Device work over images that no file is: each line, and what it prints.
-use crate::host::Host;
+use crate::host::{Host, opened};
 use base_image::{FailingImage, Image, ImageFault, MemoryImage, ZeroImage};
 use bytes::Bytes;
-use history::Keeper;
 use host_console::{Teller, run_keeper};
 use script_run::ScriptEnd;
-use sector_core::{Config, ConfigDraft};
+use std::alloc::Global;
 use std::process::Abort;
 use std::test::Fail;
+
+// The lines of the rows, or their texts, each with its end.
+fn part_of(alloc: Global, rows: &str, is_text: bool) -> Result<Vec<u8>, Fail> {
+    let mut part = Vec::new(alloc);
+    for row in rows.lines() {
+        let (line, text) = row.split_once(" -> ").ok_or("a line and its text")?;
+        let words = if is_text { text } else { line };
+        part.extend_from_slice(words.as_bytes())?;
+        part.push(b'\n')?;
+    }
+    Ok(part)
+}
+
+// How the lines of the rows end on a new host over the image, and what they print.
+fn run<I: Image + Drop>(alloc: Global, image: I, rows: &str) -> Result<(ScriptEnd, Vec<u8>), Fail> {
+    let script = part_of(alloc, rows, false)?;
+    let keeper = opened(alloc, image.sectors())?;
+    let mut teller = Teller {
+        keeper: Host { keeper },
+        image,
+    };
+    let mut reader = script.as_slice();
+    let mut written = Vec::new(alloc);
+    let end = run_keeper(alloc, &mut reader, &mut written, &mut teller);
+    Ok((end, written))
+}
 
 // Each line of the rows prints its text on a new host over the image.
 fn expect_rows<I: Image + Drop>(
@@ -15,26 +40,8 @@ fn expect_rows<I: Image + Drop>(
     image: I,
     rows: &str,
 ) -> Result<(), Fail> {
-    let mut script = String::new(rt.alloc());
-    let mut text = String::new(rt.alloc());
-    for row in rows.lines() {
-        let (line, printed) = row.split_once(" -> ").ok_or("a line and its text")?;
-        script.push_str(line)?;
-        script.push('\n')?;
-        text.push_str(printed)?;
-        text.push('\n')?;
-    }
-    let config = Config::check(ConfigDraft::default())?;
-    let keeper = Keeper::new(rt.alloc(), config, image.sectors())?;
-    let mut teller = Teller {
-        keeper: Host { keeper },
-        image,
-    };
-    let mut reader = script.as_bytes();
-    let mut written = Vec::new(rt.alloc());
-    let end = run_keeper(rt.alloc(), &mut reader, &mut written, &mut teller);
-    assert_eq!(rt; end, ScriptEnd::Done);
-    assert_eq!(rt; written.as_slice(), text.as_bytes(), "{rows}");
+    let wanted = (ScriptEnd::Done, part_of(rt.alloc(), rows, true)?);
+    assert_eq!(rt; run(rt.alloc(), image, rows)?, wanted, "{rows}");
     Ok(())
 }
 

@@ -4,7 +4,23 @@ use dispatch_core::SectorView;
 use history::Keeper;
 use host_console::{Content, Keeps};
 use plain_machine::{Answer, Call, EntityView, RequestView, Work};
+use sector_core::{Config, ConfigDraft};
 use std::alloc::Global;
+use std::test::Fail;
+
+/// The keeper of the default configuration, over an image of so many sectors, before its first call.
+pub fn opened(alloc: Global, sectors: u64) -> Result<Keeper, Fail> {
+    if sectors >= 1 << 55 {
+        return Err(Fail::from("too many sectors"));
+    }
+    let config = checked(ConfigDraft::default())?;
+    Ok(Keeper::new(alloc, config, sectors)?)
+}
+
+// The configuration of a draft. This has no clauses, so that nothing carries the limits of its numbers.
+fn checked(draft: ConfigDraft) -> Result<Config, Fail> {
+    Ok(Config::check(draft)?)
+}
 
 /// A keeper that a script is run at.
 #[derive(Drop)]

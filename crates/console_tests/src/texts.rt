@@ -6,7 +6,7 @@ use host_console::{Teller, put_answer, run_keeper};
 use plain_machine::{Answer, Cause, Code, Reply, Work};
 use script_run::ScriptEnd;
 use sector_core::{BioResult, FailKind, Op, Range};
-use std::process::Abort;
+use std::alloc::Global;
 use std::test::Fail;
 
 const AT_FOUR: Range = Range { start: 4, count: 2 };
@@ -37,12 +37,24 @@ fn completed(bio: u64, what: BioResult) -> Answer {
     Answer::Accepted(Reply::Completed { bio, result: what })
 }
 
+// The answer's text after what stands there.
+fn text_after(alloc: Global, answer: &Answer) -> Result<Vec<u8>, Fail> {
+    let mut out = b"> ".to_vec(alloc)?;
+    put_answer(answer, &mut out)?;
+    Ok(out)
+}
+
+// The first sector has zeros, and the second the letter A.
+fn two_sectors(alloc: Global) -> Result<BioResult, Fail> {
+    let mut read = vec![in alloc; 0u8; 512]?;
+    read.extend_from_slice(&[65; 512])?;
+    Ok(BioResult::Read(Bytes::from_vec(read)?))
+}
+
 // Each answer's text comes after what stands there.
 #[test]
 fn answers(rt: HostRuntime) -> Result<(), Fail> {
-    let mut read = vec![in rt.alloc(); 0u8; 512]?;
-    read.extend_from_slice(&[65; 512])?;
-    let read = BioResult::Read(Bytes::from_vec(read)?);
+    let read = two_sectors(rt.alloc())?;
     for (answer, text) in [
         (accepted(Reply::Attached { session: 1 }), "> attached 1"),
         (
@@ -79,8 +91,7 @@ fn answers(rt: HostRuntime) -> Result<(), Fail> {
         (Answer::NotYet(Cause::Held), "> notyet 41"),
         (Answer::NotYet(Cause::NotCompleted), "> notyet 44"),
     ] {
-        let mut out = b"> ".to_vec(rt.alloc())?;
-        put_answer(&answer, &mut out)?;
+        let out = text_after(rt.alloc(), &answer)?;
         assert_eq!(rt; out.as_slice(), text.as_bytes(), "{text}");
     }
     Ok(())
@@ -169,8 +180,8 @@ line 0 0 0
 bad line 39
 ";
 
-#[test]
-fn each_line_prints_one(rt: HostRuntime) {
+// How the run of these lines ends, what it writes, and how many calls the keeper got.
+fn run(alloc: Global) -> (ScriptEnd, Vec<u8>, u64) {
     let mut teller = Teller {
         keeper: Full {
             sectors: 8,
@@ -178,10 +189,15 @@ fn each_line_prints_one(rt: HostRuntime) {
         },
         image: ZeroImage::new(8),
     };
-    let mut written = Vec::new(rt.alloc());
+    let mut written = Vec::new(alloc);
     let mut script = SCRIPT;
-    let end = run_keeper(rt.alloc(), &mut script, &mut written, &mut teller);
-    assert_eq!(rt; end, ScriptEnd::BadLine(39));
+    let end = run_keeper(alloc, &mut script, &mut written, &mut teller);
+    (end, written, teller.keeper.calls)
+}
+
+#[test]
+fn each_line_prints_one(rt: HostRuntime) {
+    let (end, written, calls) = run(rt.alloc());
     assert_eq!(rt; written.as_slice(), TEXT);
-    assert_eq!(rt; teller.keeper.calls, 28);
+    assert_eq!(rt; (end, calls), (ScriptEnd::BadLine(39), 28));
 }

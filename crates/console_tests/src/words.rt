@@ -2,6 +2,7 @@
 use host_options::{Request, WordFault, request_of};
 use sector_core::{ConfigDraft, Scheduler};
 use std::alloc::{AllocError, Global};
+use std::process::Abort;
 use std::test::Fail;
 
 // The words of a line, joined by single spaces; two spaces have the empty word between them.
@@ -94,39 +95,46 @@ const FIVE_TAGS: [u64; 8] = [64, 5, 1024, 4096, 8, 65_536, 0, 1024];
 
 const EACH: [u64; 8] = [1, 2, 3, 4, 5, 6, 7, 8];
 
-#[test]
-fn words_that_ask_for_a_run(rt: HostRuntime) -> Result<(), Fail> {
-    for (lines, scheduler, numbers) in RUNS {
-        for line in lines.lines() {
-            let words = words_of(rt.alloc(), line)?;
-            let asked = request_of(rt.alloc(), words.as_slice());
-            assert_eq!(rt; asked, Ok(sim(scheduler, numbers)), "{line}");
-        }
+// What a line asks for.
+fn asked(alloc: Global, line: &str) -> Result<Result<Request, WordFault>, Fail> {
+    let words = words_of(alloc, line)?;
+    Ok(request_of(alloc, words.as_slice()))
+}
+
+// Each of these lines asks for that.
+fn expect(rt: &(impl Abort + AllocGlobal), lines: &str, request: Request) -> Result<(), Fail> {
+    let wanted = Ok(request);
+    for line in lines.lines() {
+        assert_eq!(rt; asked(rt.alloc(), line)?, wanted, "{line}");
     }
     Ok(())
 }
 
 #[test]
-fn words_that_ask_for_help(rt: HostRuntime) -> Result<(), Fail> {
-    for line in [
-        "bfqhost --help",
-        "bfqhost -h",
-        "bfqhost --help sim",
-        "bfqhost sim --help",
-        "bfqhost sim -h",
-        "bfqhost sim --scheduler none --help",
-        "bfqhost sim --tags 5 -h",
-    ] {
-        let words = words_of(rt.alloc(), line)?;
-        let asked = request_of(rt.alloc(), words.as_slice());
-        assert_eq!(rt; asked, Ok(Request::Help), "{line}");
+fn words_that_ask_for_a_run(rt: HostRuntime) -> Result<(), Fail> {
+    for (lines, scheduler, numbers) in RUNS {
+        expect(&rt, lines, sim(scheduler, numbers))?;
     }
     Ok(())
+}
+
+const HELP: &str = "\
+bfqhost --help
+bfqhost -h
+bfqhost --help sim
+bfqhost sim --help
+bfqhost sim -h
+bfqhost sim --scheduler none --help
+bfqhost sim --tags 5 -h";
+
+#[test]
+fn words_that_ask_for_help(rt: HostRuntime) -> Result<(), Fail> {
+    expect(&rt, HELP, Request::Help)
 }
 
 #[test]
 fn words_that_name_an_image(rt: HostRuntime) -> Result<(), Fail> {
-    for (line, named, asked) in [
+    for (line, named, sectors) in [
         ("bfqhost sim --image disk.img", "disk.img", 1024),
         (
             "bfqhost sim --image=/srv/disks/a=b.img",
@@ -140,17 +148,12 @@ fn words_that_name_an_image(rt: HostRuntime) -> Result<(), Fail> {
             70_000,
         ),
     ] {
-        let words = words_of(rt.alloc(), line)?;
         let wanted = Request::Sim {
             draft: ConfigDraft::default(),
-            sectors: asked,
+            sectors,
             image: Some(String::from_str(rt.alloc(), named)?),
         };
-        assert_eq!(rt;
-            request_of(rt.alloc(), words.as_slice()),
-            Ok(wanted),
-            "{line}"
-        );
+        expect(&rt, line, wanted)?;
     }
     Ok(())
 }

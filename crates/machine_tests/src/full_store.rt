@@ -3,6 +3,7 @@ use crate::host::Host;
 use bytes::Bytes;
 use dispatch_core::{Reply, RequestView, SectorView, Step};
 use sector_core::{Op, Outcome, Range};
+use std::alloc::Global;
 use std::process::Abort;
 use std::test::Fail;
 
@@ -24,90 +25,134 @@ fn is_stored(host: &Host) -> bool {
     }
 }
 
-fn attached(rt: &(impl Abort + AllocGlobal), host: &mut Host) -> Result<(), Fail> {
-    let attach = Step::Attach {
-        seat: 0,
-        group: 0,
-        prio: 4,
-    };
-    let Reply::Attached { session } = host.turned(rt, attach, 6, LAST)? else {
-        return Err(Fail::from("the seat is not taken"));
-    };
-    assert_eq!(rt; session, 1);
-    Ok(())
+// A step of this test. A store is named by the serial that it gets, so the first is 2.
+#[derive(Clone, Copy, Debug, PartialEq, Eq)]
+enum Act {
+    Attach,
+    Store(u64),
+    Dispatch,
+    Finish,
 }
 
-// The stores, each with its own serial: the first begins a request and activates an entity, and the others join it.
-fn submitted(rt: &(impl Abort + AllocGlobal), host: &mut Host) -> Result<(), Fail> {
-    let payload = Bytes::from_static(&[9; 4096]);
-    for serial in 2..34u64 {
-        let store = Step::Submit {
+// What a step was answered.
+#[derive(Clone, Copy, Debug, PartialEq, Eq)]
+enum Came {
+    Attached(u64),
+    Queued(u64),
+    Issued(u8, u64, Op, Range),
+    Finished(u32),
+    Other,
+}
+
+// What is done with the machine, or seen of it, together with what comes of it.
+#[derive(Clone, Copy, Debug, PartialEq, Eq)]
+enum Told {
+    // A step, turned back and forth: its answer, the exchanges that each of the three makes, and whether the last sector was
+    // the image's while it was turned back.
+    Step(Act, Came, [u64; 3], bool),
+    // At a place of seat 0.
+    Request(usize, RequestView),
+    IsStored(bool),
+    // How many steps the line has, and how many exchanges were made.
+    Made(u32, u64),
+}
+
+fn step_of(act: Act) -> Step {
+    match act {
+        Act::Attach => Step::Attach {
+            seat: 0,
+            group: 0,
+            prio: 4,
+        },
+        Act::Store(serial) => Step::Submit {
             seat: 0,
             session: 1,
             op: Op::Store,
             range: Range {
-                start: 8 * (serial - 2),
+                start: serial.wrapping_sub(2).wrapping_mul(8),
                 count: 8,
             },
-            payload: payload.clone()?,
-        };
-        let exchanges = if serial == 2 { 5 } else { 3 };
-        let Reply::Queued { bio } = host.turned(rt, store, exchanges, LAST)? else {
-            return Err(Fail::from("the store is not queued"));
-        };
-        assert!(rt; bio == serial);
-        assert_eq!(rt; host.view().request(0, 1), RequestView::Past);
+            payload: Bytes::from_static(&[9; 4096]),
+        },
+        Act::Dispatch => Step::Dispatch,
+        Act::Finish => Step::Finish {
+            tag: 0,
+            issue: 34,
+            outcome: Outcome::Stored,
+        },
+    }
+}
+
+fn reply_of(reply: &Reply) -> Came {
+    match reply {
+        Reply::Attached { session } => Came::Attached(*session),
+        Reply::Queued { bio } => Came::Queued(*bio),
+        Reply::Issued {
+            tag,
+            issue,
+            op,
+            range,
+        } => Came::Issued(*tag, *issue, *op, *range),
+        Reply::Finished { bios } => Came::Finished(*bios),
+        _ => Came::Other,
+    }
+}
+
+// Does that again, and tells what came of it.
+fn again(host: &mut Host, alloc: Global, told: Told) -> Result<Told, Fail> {
+    match told {
+        Told::Step(act, ..) => {
+            let (reply, exchanges, is_base) = host.turned(alloc, step_of(act), LAST)?;
+            Ok(Told::Step(act, reply_of(&reply), exchanges, is_base))
+        }
+        Told::Request(place, _) => Ok(Told::Request(place, host.view().request(0, place))),
+        Told::IsStored(_) => Ok(Told::IsStored(is_stored(host))),
+        Told::Made(..) => Ok(Told::Made(host.steps(), host.turns())),
+    }
+}
+
+// All of that comes again, in this order.
+fn expect(rt: &(impl Abort + AllocGlobal), host: &mut Host, all: &[Told]) -> Result<(), Fail> {
+    for told in all {
+        assert_eq!(rt; again(host, rt.alloc(), *told)?, *told);
     }
     Ok(())
 }
 
-// The stores are one request, and it is sent to the device: its entity is selected (2), charged (2), and expires (3).
-fn sent(rt: &(impl Abort + AllocGlobal), host: &mut Host) -> Result<(), Fail> {
+// The first store begins a request and activates an entity, and the others join it. The request is sent to the device: its
+// entity is selected (2), charged (2), and expires (3). The Finish has a block for each sector, the bios, and then the
+// request, the tag and the outbox.
+#[test]
+fn steps_of_a_full_store(rt: HostRuntime) -> Result<(), Fail> {
+    let mut host = Host::new(rt.alloc(), 1024)?;
+    let attach = Told::Step(Act::Attach, Came::Attached(1), [6; 3], true);
+    expect(&rt, &mut host, &[attach])?;
+    for serial in 2..34 {
+        let exchanges = if serial == 2 { 5 } else { 3 };
+        let store = Told::Step(
+            Act::Store(serial),
+            Came::Queued(serial),
+            [exchanges; 3],
+            true,
+        );
+        expect(
+            &rt,
+            &mut host,
+            &[store, Told::Request(1, RequestView::Past)],
+        )?;
+    }
     let full = RequestView::Queued {
         range: WHOLE,
         bios: 32,
     };
-    assert_eq!(rt; host.view().request(0, 0), full);
-    let Reply::Issued {
-        tag,
-        issue,
-        op,
-        range,
-    } = host.turned(rt, Step::Dispatch, 10, LAST)?
-    else {
-        return Err(Fail::from("the request is not issued"));
-    };
-    assert_eq!(rt; (tag, issue, op), (0, 34, Op::Store));
-    assert_eq!(rt; range, WHOLE);
-    Ok(())
-}
-
-// A block for each sector, the bios, and then the request, the tag and the outbox.
-fn finished(rt: &(impl Abort + AllocGlobal), host: &mut Host) -> Result<(), Fail> {
-    let finish = Step::Finish {
-        tag: 0,
-        issue: 34,
-        outcome: Outcome::Stored,
-    };
-    let exchanges = 256 + 32 + 3;
-    let Reply::Finished { bios } = host.turned(rt, finish, exchanges, LAST)? else {
-        return Err(Fail::from("the request is not finished"));
-    };
-    assert_eq!(rt; bios, 32);
-    assert!(rt; is_stored(host));
-    Ok(())
-}
-
-#[test]
-fn steps_of_a_full_store(rt: HostRuntime) -> Result<(), Fail> {
-    let mut host = Host::new(rt.alloc(), 1024)?;
-    attached(&rt, &mut host)?;
-    submitted(&rt, &mut host)?;
-    sent(&rt, &mut host)?;
-    finished(&rt, &mut host)?;
-    assert_eq!(rt; host.steps(), 35);
-
-    // 6, 5, 31 times 3, 10 and 291 exchanges, each made three times.
-    assert_eq!(rt; host.turns(), 1215);
-    Ok(())
+    let issued = Came::Issued(0, 34, Op::Store, WHOLE);
+    let all = [
+        Told::Request(0, full),
+        Told::Step(Act::Dispatch, issued, [10; 3], true),
+        Told::Step(Act::Finish, Came::Finished(32), [256 + 32 + 3; 3], true),
+        Told::IsStored(true),
+        // 6, 5, 31 times 3, 10 and 291 exchanges, each made three times.
+        Told::Made(35, 1215),
+    ];
+    expect(&rt, &mut host, &all)
 }

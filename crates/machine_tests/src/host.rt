@@ -3,8 +3,12 @@ use dispatch_core::{Answer, Reply, SectorView, Step, View};
 use history::{Call, Keeper};
 use sector_core::{Config, ConfigDraft};
 use std::alloc::Global;
-use std::process::Abort;
 use std::test::Fail;
+
+// The configuration of a draft. This has no clauses, so that nothing carries the limits of its numbers.
+pub fn checked(draft: ConfigDraft) -> Result<Config, Fail> {
+    Ok(Config::check(draft)?)
+}
 
 #[derive(Drop)]
 pub struct Host {
@@ -14,7 +18,7 @@ pub struct Host {
 impl Host {
     // Before its first step, with the default configuration, over an image of so many sectors.
     pub fn new(alloc: Global, sectors: u32) -> Result<Host, Fail> {
-        let config = Config::check(ConfigDraft::default())?;
+        let config = checked(ConfigDraft::default())?;
         let keeper = Keeper::new(alloc, config, u64::from(sectors))?;
         Ok(Host { keeper })
     }
@@ -33,38 +37,32 @@ impl Host {
         }
     }
 
-    // Makes a step that is accepted, and turns its list of so many exchanges back and then forth. While it is turned back,
-    // nothing is stored at this sector.
+    // Makes a step that is accepted, and turns its list back and then forth. Tells its reply, how many exchanges each of the
+    // three made, and whether nothing was stored at this sector while the step was turned back.
     pub fn turned(
         &mut self,
-        rt: &(impl Abort + AllocGlobal),
+        alloc: Global,
         step: Step,
-        exchanges: u32,
         sector: u64,
-    ) -> Result<Reply, Fail> {
+    ) -> Result<(Reply, [u64; 3], bool), Fail> {
         let before = self.turns();
-        let count = u64::from(exchanges);
-        let Answer::Accepted(reply) = self.keeper.call(rt.alloc(), &Call::Do(step)) else {
+        let Answer::Accepted(reply) = self.keeper.call(alloc, &Call::Do(step)) else {
             return Err(Fail::from("the step is not accepted"));
         };
-        let steps = self.steps();
-        assert_eq!(rt; self.turns(), before.wrapping_add(count), "step {steps}");
-        self.accepts(rt.alloc(), &Call::Hold)?;
-        self.accepts(rt.alloc(), &Call::Undo { k: 1 })?;
-        assert_eq!(rt;
-            self.turns(),
-            before.wrapping_add(2 * count),
-            "step {steps}"
-        );
-        assert!(rt; self.is_base(sector), "step {steps}");
-        self.accepts(rt.alloc(), &Call::Redo { k: 1 })?;
-        assert_eq!(rt;
-            self.turns(),
-            before.wrapping_add(3 * count),
-            "step {steps}"
-        );
-        self.accepts(rt.alloc(), &Call::Release)?;
-        Ok(reply)
+        let made = self.turns();
+        self.accepts(alloc, &Call::Hold)?;
+        self.accepts(alloc, &Call::Undo { k: 1 })?;
+        let undone = self.turns();
+        let is_base = self.is_base(sector);
+        self.accepts(alloc, &Call::Redo { k: 1 })?;
+        let redone = self.turns();
+        self.accepts(alloc, &Call::Release)?;
+        let exchanges = [
+            made.wrapping_sub(before),
+            undone.wrapping_sub(made),
+            redone.wrapping_sub(undone),
+        ];
+        Ok((reply, exchanges, is_base))
     }
 
     fn accepts(&mut self, alloc: Global, call: &Call) -> Result<(), Fail> {

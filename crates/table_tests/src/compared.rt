@@ -3,7 +3,6 @@ ghost use Rattle.std.specs.Prelude.{◌<◌};
 
 use sector_core::Entity;
 use service_tree::{Member, ServiceTree, State, plain_least_start, plain_pick, plain_weight_sum};
-use std::test::Fail;
 
 // How many entities there are: 16 sessions and 32 groups.
 const ENTITIES: Entity = 48;
@@ -31,7 +30,7 @@ impl Numbers {
 }
 
 // What has been met at least once.
-#[derive(Drop)]
+#[derive(Clone, Copy, Debug, PartialEq, Eq)]
 struct Met {
     none_eligible: bool,
     tie: bool,
@@ -106,8 +105,27 @@ fn meet(met: &mut Met, tree: &ServiceTree, vtime: u64) {
     }
 }
 
-#[test]
-fn answers_are_the_plain_ones(rt: HostRuntime) -> Result<(), Fail> {
+// What a tree answers at a virtual time: the least start, the pick and the sum of weights.
+type Answers = (Option<u64>, Option<Entity>, u64);
+
+// A difference: after which change, at which virtual time, and the tree's own answers beside the plain ones.
+type Difference = (u32, u64, Answers, Answers);
+
+fn own_answers(tree: &ServiceTree, vtime: u64) -> Answers {
+    (tree.least_start(), tree.pick(vtime), tree.weight_sum(vtime))
+}
+
+fn plain_answers(tree: &ServiceTree, vtime: u64) -> Answers {
+    let least_start = plain_least_start(tree);
+    (
+        least_start,
+        plain_pick(tree, vtime),
+        plain_weight_sum(tree, vtime),
+    )
+}
+
+// The first difference after any of 600 changes, if there is one, and what was met.
+fn compared() -> (Option<Difference>, Met) {
     let mut numbers = Numbers { last: 1 };
     let mut tree = ServiceTree::new(0);
     let mut met = Met {
@@ -118,26 +136,25 @@ fn answers_are_the_plain_ones(rt: HostRuntime) -> Result<(), Fail> {
     };
     for round in 0..600 {
         change(&mut tree, &mut numbers);
-        assert_eq!(rt;
-            tree.least_start(),
-            plain_least_start(&tree),
-            "after change {round}"
-        );
         for vtime in VTIMES {
-            assert_eq!(rt;
-                tree.pick(vtime),
-                plain_pick(&tree, vtime),
-                "after change {round}"
-            );
-            assert_eq!(rt;
-                tree.weight_sum(vtime),
-                plain_weight_sum(&tree, vtime),
-                "after change {round}"
-            );
+            let own = own_answers(&tree, vtime);
+            let plain = plain_answers(&tree, vtime);
+            if own != plain {
+                return (Some((round, vtime, own, plain)), met);
+            }
             meet(&mut met, &tree, vtime);
         }
     }
-    assert!(rt; met.none_eligible && met.tie);
-    assert!(rt; met.idle_that_counts && met.idle_that_does_not);
-    Ok(())
+    (None, met)
+}
+
+#[test]
+fn answers_are_the_plain_ones(rt: HostRuntime) {
+    let all = Met {
+        none_eligible: true,
+        tie: true,
+        idle_that_counts: true,
+        idle_that_does_not: true,
+    };
+    assert_eq!(rt; compared(), (None, all));
 }

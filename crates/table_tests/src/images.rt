@@ -1,121 +1,139 @@
 // What no clause says: the lengths and bytes of reads as numbers, what a file gives, and how often a
 // read is refused.
-ghost use Rattle.std.specs.Prelude.{◌≡◌, ◌<◌, ◌≤◌, ◌+◌, ◌^◌};
-
 use base_image::{FailingImage, FileImage, Image, ImageFault, MemoryImage, ZeroImage};
 use bytes::Bytes;
 use std::fs::File;
+use std::process::Abort;
 use std::test::Fail;
 use std::{fs, process};
 
-// What a read of `length` bytes at an offset answers, and how many bytes at the buffer's front are
-// then this one. No byte of the buffer is this one before.
-fn read<I: Image>(
-    image: &mut I,
-    offset: u64,
-    length: usize,
-    byte: u8,
-) -> (Result<usize, ImageFault>, usize)
-    requires countable { (I.disk image.old).faults < 2 ^ 63 }
-    requires fits { length ≤ 512 }
-    ensures { (I.disk image.new).faults ≤ (I.disk image.old).faults + 1 }
-{
-    let mut buffer = [byte ^ 0xff; 512];
-    let answer = image.read_at(offset, &mut buffer[..length]);
-    let front = buffer
-        .iter()
-        .position(|b| *b != byte)
-        .unwrap_or(buffer.len());
-    (answer, front)
+// What is asked of an image, together with what it answers.
+#[derive(Clone, Copy, Debug, PartialEq, Eq)]
+enum Told {
+    Sectors(u64),
+    Faults(u64),
+    // A read at an offset of so many bytes: the answer, and how many bytes at the buffer's front are then the image's.
+    Read(u64, usize, Result<usize, ImageFault>, usize),
+    OutOfRange,
 }
 
+// Asks that again of an image whose bytes are all this one, and tells what it answers. No byte of the buffer is that one
+// before.
+fn again<I: Image>(image: &mut I, byte: u8, told: Told) -> Told {
+    match told {
+        Told::Sectors(_) => Told::Sectors(image.sectors()),
+        Told::Faults(_) => Told::Faults(image.faults()),
+        Told::Read(offset, length, ..) if length <= 512 && image.faults() < 1 << 63 => {
+            let mut buffer = [byte ^ 0xff; 512];
+            let answer = image.read_at(offset, &mut buffer[..length]);
+            let front = buffer
+                .iter()
+                .position(|b| *b != byte)
+                .unwrap_or(buffer.len());
+            Told::Read(offset, length, answer, front)
+        }
+        Told::Read(..) | Told::OutOfRange => Told::OutOfRange,
+    }
+}
+
+// All of that is answered again, in this order.
+fn expect<I: Image>(rt: &impl Abort, image: &mut I, byte: u8, all: &[Told]) {
+    for told in all {
+        assert_eq!(rt; again(image, byte, *told), *told);
+    }
+}
+
+// A read of so many bytes that gives these, and reads of 8 bytes that give all of them or fail.
+fn gives(offset: u64, length: usize, count: usize) -> Told {
+    Told::Read(offset, length, Ok(count), count)
+}
+
+const EIGHT: Told = Told::Read(0, 8, Ok(8), 8);
+
+const BUSY: Told = Told::Read(0, 8, Err(ImageFault::Busy), 0);
+
+const FAILS: Told = Told::Read(0, 8, Err(ImageFault::Device), 0);
+
 // One sector of bytes that are 0x37, told as two sectors.
-fn one_of_two_sectors() -> MemoryImage
-    ensures { result.faults ≡ 0 }
-{
+fn one_of_two_sectors() -> MemoryImage {
     MemoryImage::new(Bytes::from_static(&[0x37; 512]), 2)
 }
 
 #[test]
 fn memory_image(rt: HostRuntime) {
-    for (offset, length, count) in [
-        (0, 512, 512),
-        (500, 100, 12),
-        (511, 1, 1),
+    for told in [
+        Told::Sectors(2),
+        Told::Faults(0),
+        gives(0, 512, 512),
+        gives(500, 100, 12),
+        gives(511, 1, 1),
         // at its end and past it, within the sectors that it tells and behind them
-        (512, 512, 0),
-        (600, 8, 0),
-        (1024, 8, 0),
-        (u64::MAX, 8, 0),
-        (0, 0, 0),
+        gives(512, 512, 0),
+        gives(600, 8, 0),
+        gives(1024, 8, 0),
+        gives(u64::MAX, 8, 0),
+        gives(0, 0, 0),
     ] {
-        assert!(rt; length <= 512);
-        let mut image = one_of_two_sectors();
-        let answer = read(&mut image, offset, length, 0x37);
-        assert_eq!(rt; answer, (Ok(count), count), "{length} at {offset}");
+        expect(&rt, &mut one_of_two_sectors(), 0x37, &[told]);
     }
-    let image = one_of_two_sectors();
-    assert_eq!(rt; image.sectors(), 2);
-    assert_eq!(rt; image.faults(), 0);
 }
 
 #[test]
 fn zero_image(rt: HostRuntime) {
-    for (offset, length, count) in [
-        (0, 512, 512),
-        (512, 512, 512),
-        (1012, 100, 12),
-        (1024, 512, 0),
-        (u64::MAX, 8, 0),
-        (0, 0, 0),
+    for told in [
+        Told::Sectors(2),
+        Told::Faults(0),
+        gives(0, 512, 512),
+        gives(512, 512, 512),
+        gives(1012, 100, 12),
+        gives(1024, 512, 0),
+        gives(u64::MAX, 8, 0),
+        gives(0, 0, 0),
     ] {
-        assert!(rt; length <= 512);
-        let mut image = ZeroImage::new(2);
-        let answer = read(&mut image, offset, length, 0);
-        assert_eq!(rt; answer, (Ok(count), count), "{length} at {offset}");
+        expect(&rt, &mut ZeroImage::new(2), 0, &[told]);
     }
-    let image = ZeroImage::new(2);
-    assert_eq!(rt; image.sectors(), 2);
-    assert_eq!(rt; image.faults(), 0);
 }
 
+// The first read fails, or the second, or none.
 #[test]
-fn first_read_fails(rt: HostRuntime) {
-    let mut image = FailingImage::new(one_of_two_sectors(), 1, ImageFault::Busy);
-    assert_eq!(rt; image.sectors(), 2);
-    assert_eq!(rt; read(&mut image, 0, 8, 0x37), (Err(ImageFault::Busy), 0));
-    assert_eq!(rt; image.faults(), 1);
-    assert_eq!(rt; read(&mut image, 0, 8, 0x37), (Ok(8), 8));
-    assert_eq!(rt; image.faults(), 1);
-}
-
-#[test]
-fn second_read_fails(rt: HostRuntime) {
-    let mut image = FailingImage::new(one_of_two_sectors(), 2, ImageFault::Device);
-    assert_eq!(rt; read(&mut image, 0, 8, 0x37), (Ok(8), 8));
-    assert_eq!(rt; read(&mut image, 0, 8, 0x37), (Err(ImageFault::Device), 0));
-    assert_eq!(rt; read(&mut image, 0, 8, 0x37), (Ok(8), 8));
-    assert_eq!(rt; image.faults(), 1);
-}
-
-#[test]
-fn no_read_fails(rt: HostRuntime) {
-    let mut image = FailingImage::new(one_of_two_sectors(), 0, ImageFault::Device);
-    assert_eq!(rt; read(&mut image, 0, 8, 0x37), (Ok(8), 8));
-    assert_eq!(rt; read(&mut image, 0, 8, 0x37), (Ok(8), 8));
-    assert_eq!(rt; image.faults(), 0);
+fn reads_that_fail(rt: HostRuntime) {
+    for (number, fault, all) in [
+        (
+            1,
+            ImageFault::Busy,
+            [
+                Told::Sectors(2),
+                BUSY,
+                Told::Faults(1),
+                EIGHT,
+                Told::Faults(1),
+            ]
+            .as_slice(),
+        ),
+        (
+            2,
+            ImageFault::Device,
+            [EIGHT, FAILS, EIGHT, Told::Faults(1)].as_slice(),
+        ),
+        (
+            0,
+            ImageFault::Device,
+            [EIGHT, EIGHT, Told::Faults(0)].as_slice(),
+        ),
+    ] {
+        let mut image = FailingImage::new(one_of_two_sectors(), number, fault);
+        expect(&rt, &mut image, 0x37, all);
+    }
 }
 
 // Failures of the image inside are counted, those before and those after it was put inside.
 #[test]
 fn failure_inside(rt: HostRuntime) {
     let mut inside = FailingImage::new(one_of_two_sectors(), 1, ImageFault::Busy);
-    assert_eq!(rt; read(&mut inside, 0, 8, 0x37), (Err(ImageFault::Busy), 0));
+    expect(&rt, &mut inside, 0x37, &[BUSY]);
     let mut middle = FailingImage::new(inside, 1, ImageFault::Device);
-    assert_eq!(rt; middle.faults(), 1);
-    assert_eq!(rt; read(&mut middle, 0, 8, 0x37), (Err(ImageFault::Device), 0));
-    assert_eq!(rt; middle.faults(), 2);
-    assert_eq!(rt; read(&mut middle, 0, 8, 0x37), (Ok(8), 8));
+    let all = [Told::Faults(1), FAILS, Told::Faults(2), EIGHT];
+    expect(&rt, &mut middle, 0x37, &all);
 }
 
 // A file of 1,000 bytes is one whole sector, and a read may go past that to the file's end.
@@ -127,11 +145,14 @@ fn file_image(rt: HostRuntime) -> Result<(), Fail> {
     let file = File::open(&rt, path.as_str())?;
     fs::remove_file(&rt, path.as_str())?;
     let mut image = FileImage::from_file(file)?;
-    assert_eq!(rt; image.sectors(), 1);
-    assert_eq!(rt; read(&mut image, 0, 512, 0x37), (Ok(512), 512));
-    assert_eq!(rt; read(&mut image, 900, 512, 0x37), (Ok(100), 100));
-    assert_eq!(rt; read(&mut image, 1000, 512, 0x37), (Ok(0), 0));
-    assert_eq!(rt; image.faults(), 0);
+    let all = [
+        Told::Sectors(1),
+        gives(0, 512, 512),
+        gives(900, 512, 100),
+        gives(1000, 512, 0),
+        Told::Faults(0),
+    ];
+    expect(&rt, &mut image, 0x37, &all);
     Ok(())
 }
 
@@ -146,8 +167,7 @@ fn file_that_has_become_shorter(rt: HostRuntime) -> Result<(), Fail> {
     fs::remove_file(&rt, path.as_str())?;
     let mut image = FileImage::from_file(file)?;
     writable.set_len(0)?;
-    assert_eq!(rt; image.sectors(), 1);
-    assert_eq!(rt; read(&mut image, 0, 512, 0x37), (Ok(0), 0));
+    expect(&rt, &mut image, 0x37, &[Told::Sectors(1), gives(0, 512, 0)]);
     Ok(())
 }
 
@@ -155,20 +175,20 @@ fn file_that_has_become_shorter(rt: HostRuntime) -> Result<(), Fail> {
 #[test]
 fn file_image_counts_failures(rt: HostRuntime) -> Result<(), Fail> {
     let mut image = FileImage::from_file(File::open(&rt, "/dev/null")?)?;
-    assert_eq!(rt; image.sectors(), 0);
-    assert_eq!(rt;
-        read(&mut image, u64::MAX, 8, 0),
-        (Err(ImageFault::Device), 0)
-    );
-    assert_eq!(rt; image.faults(), 1);
+    let fails = Told::Read(u64::MAX, 8, Err(ImageFault::Device), 0);
+    let all = [Told::Sectors(0), fails, Told::Faults(1)];
+    expect(&rt, &mut image, 0, &all);
     Ok(())
 }
 
 #[test]
 fn no_image_in_a_folder(rt: HostRuntime) -> Result<(), Fail> {
     let folder = File::open(&rt, "/tmp")?;
-    assert!(rt; FileImage::from_file(folder).is_err());
     let write_only = File::options().write(true).open(&rt, "/dev/null")?;
-    assert!(rt; FileImage::from_file(write_only).is_err());
+    let are_refused = [
+        FileImage::from_file(folder).is_err(),
+        FileImage::from_file(write_only).is_err(),
+    ];
+    assert_eq!(rt; are_refused, [true, true]);
     Ok(())
 }

@@ -5,91 +5,70 @@ use bytes::Bytes;
 use process_queue::{Link, Place, ProcessQueue};
 use request_pool::{Request, RequestPool};
 use sector_core::{Bio, Op, Range, Slot};
+use std::process::Abort;
 use std::test::Fail;
 
-fn link(seat: u8, serial: u64) -> Option<Link> {
-    Some(Link { seat, serial })
+// What is done with the queues and the pool, together with what comes of it.
+#[derive(Clone, Copy, Debug, PartialEq, Eq)]
+enum Told {
+    // A slot is linked so, or taken out: the link that came back.
+    Link(Slot, Option<Link>, Option<Link>),
+    // The link of a slot.
+    Linked(Slot, Option<Link>),
+    // The first slots of the seats 0 and 1.
+    Firsts(Option<Slot>, Option<Slot>),
+    IsEmpty(u8, bool),
+    // At a place of a seat.
+    Nth(u8, usize, Option<Slot>),
+    // A request of session 1 comes into a slot of the pool, and its bios into the slots of bios from the second on.
+    Put(Slot, Slot, Bios),
+    // At a seat, for a bio of a session with this range.
+    Merge(u8, u64, Op, Range, Option<Place>),
+    // At a seat, from this sector on.
+    Next(u8, u64, Option<Slot>),
+    TooManyBios,
 }
 
-// Slots are put where they are to be linked, or taken out. After each: the link that came back, and the first slots of the
-// seats 0 and 1.
-#[test]
-fn queues(rt: HostRuntime) -> Result<(), Fail> {
-    let mut queues = ProcessQueue::new(rt.alloc(), 4)?;
-    assert!(rt; queues.is_empty(0));
-    assert_eq!(rt; queues.first(0), None);
-    for (slot, new, wanted) in [
-        // Seat 0 has slot 3, inserted first, and slot 1; seat 1 has slot 0.
-        (3, link(0, 5), (None, Some(3), None)),
-        (1, link(0, 7), (None, Some(3), None)),
-        (0, link(1, 6), (None, Some(3), Some(0))),
-        // Of two slots with one serial the lower one is first.
-        (2, link(0, 5), (None, Some(2), Some(0))),
-        (2, None, (link(0, 5), Some(3), Some(0))),
-        (3, None, (link(0, 5), Some(1), Some(0))),
-        // Slot 4 is not there.
-        (4, link(2, 8), (link(2, 8), Some(1), Some(0))),
-    ] {
-        let old = match new {
-            Some(link) => queues.link(slot, link.seat, link.serial),
-            None => queues.unlink(slot),
-        };
-        let seen = (old, queues.first(0), queues.first(1));
-        assert_eq!(rt; seen, wanted, "slot {slot}");
-        assert!(rt; !queues.is_empty(0));
-    }
-    assert_eq!(rt; queues.get(1), link(0, 7));
-    assert!(rt; queues.is_empty(2));
-    Ok(())
+// Bios that touch: one of `count` sectors from `start` on, and `more` of `each`.
+#[derive(Clone, Copy, Debug, PartialEq, Eq)]
+struct Bios {
+    start: u64,
+    count: u32,
+    more: u16,
+    each: u32,
 }
 
-#[test]
-fn places(rt: HostRuntime) -> Result<(), Fail> {
-    let mut queues = ProcessQueue::new(rt.alloc(), 6)?;
-    assert_eq!(rt; queues.nth(0, 0), None);
-    // Seat 0 has slot 4, then slots 1 and 3 of one serial, then slot 0; seat 1 has slots 5 and 2.
-    for (slot, seat, serial) in [
-        (0, 0, 9),
-        (1, 0, 7),
-        (2, 1, 8),
-        (3, 0, 7),
-        (4, 0, 5),
-        (5, 1, 6),
-    ] {
-        let _free = queues.link(slot, seat, serial);
-    }
-    for (seat, place, wanted) in [
-        (0, 0, Some(4)),
-        (0, 1, Some(1)),
-        (0, 2, Some(3)),
-        (0, 3, Some(0)),
-        (0, 4, None),
-        (0, usize::MAX, None),
-        (1, 0, Some(5)),
-        (1, 1, Some(2)),
-        (1, 2, None),
-        (2, 0, None),
-    ] {
-        let slot = queues.nth(seat, place);
-        assert_eq!(rt; slot, wanted, "place {place} of seat {seat}");
-    }
-    Ok(())
+#[derive(Drop)]
+struct Tables {
+    pool: RequestPool,
+    queues: ProcessQueue,
 }
 
-// Puts a request of session 1 in a slot of the pool, with its bios in the slots of bios from `from` on.
-fn put(pool: &mut RequestPool, slot: Slot, from: Slot, ranges: &[Range]) -> Result<(), Fail> {
+fn bio(range: Range) -> Bio {
+    Bio {
+        serial: 1,
+        range,
+        payload: Bytes::new(),
+        result: None,
+    }
+}
+
+// Puts a request in a slot of the pool, with its bios in the slots of bios from `from` on. Tells whether they fit.
+fn put(pool: &mut RequestPool, slot: Slot, from: Slot, all: Bios) -> bool {
     let mut bios = ArrayVec::new();
-    let mut place = from;
-    for range in ranges {
-        let bio = Bio {
-            serial: 1,
-            range: *range,
-            payload: Bytes::new(),
-            result: None,
+    let mut range = Range {
+        start: all.start,
+        count: all.count,
+    };
+    for place in from..=from.saturating_add(all.more) {
+        let _none = pool.exchange_bio(place, Some(bio(range)));
+        if bios.try_push(place).is_err() {
+            return false;
+        }
+        range = Range {
+            start: range.start.saturating_add(u64::from(range.count)),
+            count: all.each,
         };
-        let _none = pool.exchange_bio(place, Some(bio));
-        bios.try_push(place)?;
-        place = place.saturating_add(1);
     }
     let request = Request {
         session: 1,
@@ -97,124 +76,235 @@ fn put(pool: &mut RequestPool, slot: Slot, from: Slot, ranges: &[Range]) -> Resu
         bios,
     };
     let _old = pool.exchange_request(slot, Some(request));
+    true
+}
+
+// Does that again, and tells what came of it.
+fn again(tables: &mut Tables, told: Told) -> Told {
+    let queues = &mut tables.queues;
+    match told {
+        Told::Link(slot, new, _) => {
+            let old = match new {
+                Some(link) => queues.link(slot, link.seat, link.serial),
+                None => queues.unlink(slot),
+            };
+            Told::Link(slot, new, old)
+        }
+        Told::Linked(slot, _) => Told::Linked(slot, queues.get(slot)),
+        Told::Firsts(..) => Told::Firsts(queues.first(0), queues.first(1)),
+        Told::IsEmpty(seat, _) => Told::IsEmpty(seat, queues.is_empty(seat)),
+        Told::Nth(seat, place, _) => Told::Nth(seat, place, queues.nth(seat, place)),
+        Told::Put(slot, from, bios) if put(&mut tables.pool, slot, from, bios) => told,
+        Told::Put(..) | Told::TooManyBios => Told::TooManyBios,
+        Told::Merge(seat, session, op, bio, _) => {
+            let place = queues.merge_place(&tables.pool, seat, session, op, bio);
+            Told::Merge(seat, session, op, bio, place)
+        }
+        Told::Next(seat, head, _) => Told::Next(seat, head, queues.next(&tables.pool, seat, head)),
+    }
+}
+
+// All of that comes again in this order, where tables of so many slots are new.
+fn expect(rt: &(impl Abort + AllocGlobal), slots: u16, all: &[Told]) -> Result<(), Fail> {
+    let mut tables = Tables {
+        pool: RequestPool::new(rt.alloc(), slots)?,
+        queues: ProcessQueue::new(rt.alloc(), slots)?,
+    };
+    for told in all {
+        assert_eq!(rt; again(&mut tables, *told), *told);
+    }
     Ok(())
 }
 
-fn range(start: u64, count: u32) -> Range {
-    Range { start, count }
+fn link(seat: u8, serial: u64) -> Option<Link> {
+    Some(Link { seat, serial })
+}
+
+// Slots are put where they are to be linked, or taken out.
+#[test]
+fn queues(rt: HostRuntime) -> Result<(), Fail> {
+    let all = [
+        Told::IsEmpty(0, true),
+        Told::Firsts(None, None),
+        // Seat 0 has slot 3, inserted first, and slot 1; seat 1 has slot 0.
+        Told::Link(3, link(0, 5), None),
+        Told::Firsts(Some(3), None),
+        Told::IsEmpty(0, false),
+        Told::Link(1, link(0, 7), None),
+        Told::Firsts(Some(3), None),
+        Told::IsEmpty(0, false),
+        Told::Link(0, link(1, 6), None),
+        Told::Firsts(Some(3), Some(0)),
+        Told::IsEmpty(0, false),
+        // Of two slots with one serial the lower one is first.
+        Told::Link(2, link(0, 5), None),
+        Told::Firsts(Some(2), Some(0)),
+        Told::IsEmpty(0, false),
+        Told::Link(2, None, link(0, 5)),
+        Told::Firsts(Some(3), Some(0)),
+        Told::IsEmpty(0, false),
+        Told::Link(3, None, link(0, 5)),
+        Told::Firsts(Some(1), Some(0)),
+        Told::IsEmpty(0, false),
+        // Slot 4 is not there.
+        Told::Link(4, link(2, 8), link(2, 8)),
+        Told::Firsts(Some(1), Some(0)),
+        Told::IsEmpty(0, false),
+        Told::Linked(1, link(0, 7)),
+        Told::IsEmpty(2, true),
+    ];
+    expect(&rt, 4, &all)
+}
+
+// Seat 0 has slot 4, then slots 1 and 3 of one serial, then slot 0; seat 1 has slots 5 and 2.
+#[test]
+fn places(rt: HostRuntime) -> Result<(), Fail> {
+    let all = [
+        Told::Nth(0, 0, None),
+        Told::Link(0, link(0, 9), None),
+        Told::Link(1, link(0, 7), None),
+        Told::Link(2, link(1, 8), None),
+        Told::Link(3, link(0, 7), None),
+        Told::Link(4, link(0, 5), None),
+        Told::Link(5, link(1, 6), None),
+        Told::Nth(0, 0, Some(4)),
+        Told::Nth(0, 1, Some(1)),
+        Told::Nth(0, 2, Some(3)),
+        Told::Nth(0, 3, Some(0)),
+        Told::Nth(0, 4, None),
+        Told::Nth(0, usize::MAX, None),
+        Told::Nth(1, 0, Some(5)),
+        Told::Nth(1, 1, Some(2)),
+        Told::Nth(1, 2, None),
+        Told::Nth(2, 0, None),
+    ];
+    expect(&rt, 6, &all)
+}
+
+// A request of one bio.
+fn one(start: u64, count: u32) -> Bios {
+    Bios {
+        start,
+        count,
+        more: 0,
+        each: 0,
+    }
+}
+
+// A request of bios of one sector.
+fn single(start: u64, bios: u16) -> Bios {
+    Bios {
+        start,
+        count: 1,
+        more: bios.saturating_sub(1),
+        each: 1,
+    }
 }
 
 fn place(slot: Slot, front: bool) -> Option<Place> {
     Some(Place { slot, front })
 }
 
+// The bio that is to be merged.
+const BIO: Range = Range {
+    start: 1000,
+    count: 8,
+};
+
 // Of session 1, seat 0, and a bio from sector 1000 on; then another session, operation or seat, or another bio.
 #[test]
 fn merges(rt: HostRuntime) -> Result<(), Fail> {
-    let mut pool = RequestPool::new(rt.alloc(), 8)?;
-    let mut queues = ProcessQueue::new(rt.alloc(), 8)?;
-    let bio = range(1000, 8);
-    // A slot in the queue with no request takes no bio.
-    let _free = queues.link(7, 0, 1);
-    assert_eq!(rt; queues.merge_place(&pool, 0, 1, Op::Fetch, bio), None);
-
-    let split = [range(990, 4), range(994, 6)];
-    for (slot, from, ranges, serial, wanted) in [
+    let split = Bios {
+        start: 990,
+        count: 4,
+        more: 1,
+        each: 6,
+    };
+    let inside = Range {
+        start: 1001,
+        count: 6,
+    };
+    let all = [
+        // A slot in the queue with no request takes no bio.
+        Told::Link(7, link(0, 1), None),
+        Told::Merge(0, 1, Op::Fetch, BIO, None),
         // Slot 5 starts where the bio ends. Slot 4 was inserted later and ends where the bio starts.
-        (5, 0, [range(1008, 4)].as_slice(), 2, place(5, true)),
-        (4, 1, split.as_slice(), 9, place(4, false)),
+        Told::Put(5, 0, one(1008, 4)),
+        Told::Link(5, link(0, 2), None),
+        Told::Merge(0, 1, Op::Fetch, BIO, place(5, true)),
+        Told::Put(4, 1, split),
+        Told::Link(4, link(0, 9), None),
+        Told::Merge(0, 1, Op::Fetch, BIO, place(4, false)),
         // Slot 6 does so too, and was inserted before slot 4.
-        (6, 3, [range(999, 1)].as_slice(), 7, place(6, false)),
-    ] {
-        put(&mut pool, slot, from, ranges)?;
-        let _free = queues.link(slot, 0, serial);
-        let found = queues.merge_place(&pool, 0, 1, Op::Fetch, bio);
-        assert_eq!(rt; found, wanted, "with slot {slot}");
-    }
-    for (seat, session, op, bio) in [
-        (0, 2, Op::Fetch, bio),
-        (0, 1, Op::Store, bio),
-        (1, 1, Op::Fetch, bio),
+        Told::Put(6, 3, one(999, 1)),
+        Told::Link(6, link(0, 7), None),
+        Told::Merge(0, 1, Op::Fetch, BIO, place(6, false)),
+        Told::Merge(0, 2, Op::Fetch, BIO, None),
+        Told::Merge(0, 1, Op::Store, BIO, None),
+        Told::Merge(1, 1, Op::Fetch, BIO, None),
         // It touches no request.
-        (0, 1, Op::Fetch, range(1001, 6)),
-    ] {
-        let found = queues.merge_place(&pool, seat, session, op, bio);
-        assert_eq!(rt; found, None, "session {session} at seat {seat}");
-    }
-    Ok(())
+        Told::Merge(0, 1, Op::Fetch, inside, None),
+    ];
+    expect(&rt, 8, &all)
 }
 
 #[test]
 fn full_requests(rt: HostRuntime) -> Result<(), Fail> {
-    let mut pool = RequestPool::new(rt.alloc(), 8)?;
-    let mut queues = ProcessQueue::new(rt.alloc(), 8)?;
-    let bio = range(1000, 8);
-    put(&mut pool, 4, 0, &[range(999, 1)])?;
-    let _free = queues.link(4, 0, 9);
-    let _free = queues.link(6, 0, 7);
-
-    let mut most = Vec::new(rt.alloc());
-    for sector in 969..1000 {
-        most.push(range(sector, 1))?;
-    }
-    let mut full = most.clone()?;
-    full.insert(0, range(968, 1))?;
-    for (ranges, wanted) in [
+    let all = [
+        Told::Put(4, 0, one(999, 1)),
+        Told::Link(4, link(0, 9), None),
+        Told::Link(6, link(0, 7), None),
         // With the bio slot 6 would have 256 sectors, and then 257.
-        ([range(752, 248)].as_slice(), place(6, false)),
-        ([range(751, 249)].as_slice(), place(4, false)),
+        Told::Put(6, 32, one(752, 248)),
+        Told::Merge(0, 1, Op::Fetch, BIO, place(6, false)),
+        Told::Put(6, 32, one(751, 249)),
+        Told::Merge(0, 1, Op::Fetch, BIO, place(4, false)),
         // With the bio slot 6 would have 32 bios, and then 33.
-        (most.as_slice(), place(6, false)),
-        (full.as_slice(), place(4, false)),
-    ] {
-        put(&mut pool, 6, 32, ranges)?;
-        let found = queues.merge_place(&pool, 0, 1, Op::Fetch, bio);
-        let bios = ranges.len();
-        assert_eq!(rt; found, wanted, "{bios} bios and one more");
-    }
-    Ok(())
+        Told::Put(6, 32, single(969, 31)),
+        Told::Merge(0, 1, Op::Fetch, BIO, place(6, false)),
+        Told::Put(6, 32, single(968, 32)),
+        Told::Merge(0, 1, Op::Fetch, BIO, place(4, false)),
+    ];
+    expect(&rt, 8, &all)
 }
 
 #[test]
 fn next_requests(rt: HostRuntime) -> Result<(), Fail> {
-    let mut pool = RequestPool::new(rt.alloc(), 8)?;
-    let mut queues = ProcessQueue::new(rt.alloc(), 8)?;
-    assert_eq!(rt; queues.next(&pool, 0, 0), None);
-    // Seat 0 has slots 1, 4 and 2, in this order. Seat 1 has slot 0, and slot 7, which has no request.
-    let split = [range(50, 4), range(54, 4)];
-    for (slot, from, ranges) in [
-        (1, 0, [range(100, 8)].as_slice()),
-        (4, 1, split.as_slice()),
-        (2, 3, [range(10, 1)].as_slice()),
-        (0, 4, [range(60, 8)].as_slice()),
-    ] {
-        put(&mut pool, slot, from, ranges)?;
-    }
-    for (slot, seat, serial) in [(1, 0, 5), (4, 0, 6), (2, 0, 7), (0, 1, 8), (7, 1, 1)] {
-        let _free = queues.link(slot, seat, serial);
-    }
-    for (seat, head, wanted) in [
-        (0, 0, Some(2)),
-        (0, 10, Some(2)),
-        (0, 11, Some(4)),
-        (0, 58, Some(1)),
-        (0, 101, Some(2)),
-        (1, 0, Some(0)),
-        (1, 61, Some(0)),
-    ] {
-        let found = queues.next(&pool, seat, head);
-        assert_eq!(rt; found, wanted, "seat {seat} from {head} on");
-    }
-
-    // Slot 3 starts where slot 4 does, inserted later; slot 6 does so too, inserted earlier.
-    for (slot, from, count, serial, wanted) in [(3, 5, 8, 9, Some(4)), (6, 6, 2, 4, Some(6))] {
-        put(&mut pool, slot, from, &[range(50, count)])?;
-        let _free = queues.link(slot, 0, serial);
-        assert_eq!(rt; queues.next(&pool, 0, 11), wanted, "with slot {slot}");
-    }
-
-    // A queue whose slots have no request.
-    let _old = queues.unlink(0);
-    assert_eq!(rt; queues.next(&pool, 1, 0), None);
-    Ok(())
+    let split = Bios {
+        start: 50,
+        count: 4,
+        more: 1,
+        each: 4,
+    };
+    let all = [
+        Told::Next(0, 0, None),
+        // Seat 0 has slots 1, 4 and 2, in this order. Seat 1 has slot 0, and slot 7, which has no request.
+        Told::Put(1, 0, one(100, 8)),
+        Told::Put(4, 1, split),
+        Told::Put(2, 3, one(10, 1)),
+        Told::Put(0, 4, one(60, 8)),
+        Told::Link(1, link(0, 5), None),
+        Told::Link(4, link(0, 6), None),
+        Told::Link(2, link(0, 7), None),
+        Told::Link(0, link(1, 8), None),
+        Told::Link(7, link(1, 1), None),
+        Told::Next(0, 0, Some(2)),
+        Told::Next(0, 10, Some(2)),
+        Told::Next(0, 11, Some(4)),
+        Told::Next(0, 58, Some(1)),
+        Told::Next(0, 101, Some(2)),
+        Told::Next(1, 0, Some(0)),
+        Told::Next(1, 61, Some(0)),
+        // Slot 3 starts where slot 4 does, inserted later; slot 6 does so too, inserted earlier.
+        Told::Put(3, 5, one(50, 8)),
+        Told::Link(3, link(0, 9), None),
+        Told::Next(0, 11, Some(4)),
+        Told::Put(6, 6, one(50, 2)),
+        Told::Link(6, link(0, 4), None),
+        Told::Next(0, 11, Some(6)),
+        // A queue whose slots have no request.
+        Told::Link(0, None, link(1, 8)),
+        Told::Next(1, 0, None),
+    ];
+    expect(&rt, 8, &all)
 }

@@ -4,17 +4,19 @@ use sector_core::{
     Block, Config, ConfigDraft, ConfigFault, OutOfMemory, Range, SECTOR_BYTES, Scheduler,
     empty_table, first_free,
 };
+use std::alloc::Global;
 use std::test::Fail;
 
 #[test]
 fn default_configuration(rt: HostRuntime) -> Result<(), Fail> {
     let config = Config::check(ConfigDraft::default())?;
     let tables = (config.scheduler, config.nr_requests, config.tags);
-    assert_eq!(rt; tables, (Scheduler::Bfq, 64, 4));
     let budgets = (config.first_budget, config.max_budget, config.timeout);
-    assert_eq!(rt; budgets, (1024, 4096, 8));
     let line = (config.history_max, config.first_vtime);
-    assert_eq!(rt; line, (65_536, 0));
+    assert_eq!(rt;
+        (tables, budgets, line),
+        ((Scheduler::Bfq, 64, 4), (1024, 4096, 8), (65_536, 0))
+    );
     Ok(())
 }
 
@@ -105,47 +107,69 @@ fn limits(rt: HostRuntime) {
     }
 }
 
+// What a text is printed of.
+#[derive(Clone, Copy)]
+enum Printed {
+    Fault(ConfigFault),
+    OutOfMemory,
+}
+
+fn text_of(alloc: Global, printed: Printed) -> Result<String, Fail> {
+    match printed {
+        Printed::Fault(fault) => Ok(format!(in alloc; "{fault}")?),
+        Printed::OutOfMemory => Ok(format!(in alloc; "{OutOfMemory}")?),
+    }
+}
+
 #[test]
 fn texts(rt: HostRuntime) -> Result<(), Fail> {
-    for (fault, text) in [
-        (ConfigFault::NrRequests, "nr_requests"),
-        (ConfigFault::Tags, "tags"),
-        (ConfigFault::MaxBudget, "max_budget"),
-        (ConfigFault::FirstBudget, "first_budget"),
-        (ConfigFault::Timeout, "timeout"),
-        (ConfigFault::HistoryMax, "history_max"),
-        (ConfigFault::FirstVtime, "first_vtime"),
+    for (printed, text) in [
+        (Printed::Fault(ConfigFault::NrRequests), "nr_requests"),
+        (Printed::Fault(ConfigFault::Tags), "tags"),
+        (Printed::Fault(ConfigFault::MaxBudget), "max_budget"),
+        (Printed::Fault(ConfigFault::FirstBudget), "first_budget"),
+        (Printed::Fault(ConfigFault::Timeout), "timeout"),
+        (Printed::Fault(ConfigFault::HistoryMax), "history_max"),
+        (Printed::Fault(ConfigFault::FirstVtime), "first_vtime"),
+        (Printed::OutOfMemory, "out of memory"),
     ] {
-        let printed = format!(in rt.alloc(); "{fault}")?;
-        assert_eq!(rt; printed.as_str(), text);
+        assert_eq!(rt; text_of(rt.alloc(), printed)?.as_str(), text);
     }
-    let printed = format!(in rt.alloc(); "{OutOfMemory}")?;
-    assert_eq!(rt; printed.as_str(), "out of memory");
     Ok(())
+}
+
+// A block of letters A has them.
+fn is_kept() -> bool {
+    let block = Block::new(Bytes::from_static(&[65; 512]));
+    block.as_slice() == [65; SECTOR_BYTES].as_slice()
 }
 
 #[test]
 fn range_and_block(rt: HostRuntime) {
     let range = Range { start: 4, count: 2 };
-    assert_eq!(rt; range.end(), 6);
-    let block = Block::new(Bytes::from_static(&[65; 512]));
-    assert_eq!(rt; block.as_slice(), [65; SECTOR_BYTES].as_slice());
+    assert_eq!(rt; (range.end(), is_kept()), (6, true));
 }
 
-#[test]
-fn tables(rt: HostRuntime) -> Result<(), Fail> {
-    let mut table = empty_table::<u8>(rt.alloc(), 3)?;
-    assert_eq!(rt; table.as_slice(), [None, None, None].as_slice());
-    assert_eq!(rt; first_free(table.as_slice()), Some(0));
+// A new table of three places, and the first free one where none is taken, where all but place 1 are, and where all are.
+fn free_places(alloc: Global) -> Result<(bool, [Option<usize>; 3]), Fail> {
+    let mut table = empty_table::<u8>(alloc, 3)?;
+    let is_empty = table.as_slice() == [None, None, None].as_slice();
+    let first = first_free(table.as_slice());
     for (free, place) in table.iter_mut().enumerate() {
         if free != 1 {
             *place = Some(7);
         }
     }
-    assert_eq!(rt; first_free(table.as_slice()), Some(1));
+    let second = first_free(table.as_slice());
     for place in table.iter_mut() {
         *place = Some(7);
     }
-    assert_eq!(rt; first_free(table.as_slice()), None);
+    Ok((is_empty, [first, second, first_free(table.as_slice())]))
+}
+
+#[test]
+fn tables(rt: HostRuntime) -> Result<(), Fail> {
+    let wanted = (true, [Some(0), Some(1), None]);
+    assert_eq!(rt; free_places(rt.alloc())?, wanted);
     Ok(())
 }

@@ -1,11 +1,12 @@
 // The exchanges in examples: the rules are proved, and these say what they mean, and that a call succeeds while memory is left.
-ghost use Rattle.std.specs.Prelude.{◌≡◌, false};
+ghost use Rattle.std.specs.Prelude.{◌≡◌, ◌∷◌, [], IfOk, OnOk, false};
 
 use bytes::Bytes;
-use change_record::{Change, Making, Parts, Tape};
+use change_record::{Change, Making, Parts, Seat, Tape};
 use process_queue::Link;
-use sector_core::{Block, Scheduler};
+use sector_core::{Block, Scheduler, Slot};
 use std::alloc::Global;
+use std::process::Abort;
 use std::test::Fail;
 
 const MAKING: Making = Making {
@@ -17,7 +18,7 @@ const MAKING: Making = Making {
     first_vtime: 7,
 };
 
-// The tables before the first exchange. This and the two that follow have no clauses, so that no test carries what is promised.
+// The tables before the first exchange. This and the three that follow have no clauses, so that no test carries what is promised.
 fn opened(alloc: Global) -> Result<Parts, Fail> {
     Ok(Parts::new(alloc, MAKING)?)
 }
@@ -28,11 +29,16 @@ fn turned(parts: &mut Parts, change: &mut Change) -> Result<(), Fail> {
     Ok(())
 }
 
-// A block of letters A for sector 5.
+// A block of letters A.
+fn letters() -> Block {
+    Block::new(Bytes::from_static(&[65; 512]))
+}
+
+// It comes to sector 5.
 fn storing() -> Change {
     Change::Sector {
         sector: 5,
-        block: Some(Block::new(Bytes::from_static(&[65; 512]))),
+        block: Some(letters()),
     }
 }
 
@@ -71,11 +77,6 @@ fn mode(change: &Change) -> Option<(Scheduler, bool, u8)> {
     }
 }
 
-// And as they stand.
-fn mode_of(parts: &Parts) -> (Scheduler, bool, u8) {
-    (parts.scheduler(), parts.frozen(), parts.served())
-}
-
 // The round robin has served this seat last.
 fn serving(seat: u8) -> Change
     ensures { result ≡ Change.Mode Scheduler.Bfq false seat }
@@ -87,93 +88,155 @@ fn serving(seat: u8) -> Change
     }
 }
 
+// What is done with the tables and a change, together with what comes of it.
+#[derive(Clone, Copy, Debug, PartialEq, Eq)]
+enum Told {
+    // The change is turned.
+    Turn,
+    // How many exchanges were made.
+    Turns(u64),
+    // A block stands at the sector.
+    Stands(u64, bool),
+    // A block of letters A stands at sector 5.
+    IsStored(bool),
+    // What the change has, as `stores` and `mode` tell it.
+    Stores(Option<bool>),
+    Has(Option<(Scheduler, bool, u8)>),
+    Mode(Scheduler, bool, u8),
+    FreeRequest(Option<Slot>),
+    FreeBio(Option<Slot>),
+    LowestFree(Option<u8>),
+    // No slot waits at seat 0 in the queues, and in the dispatch list.
+    IsEmpty(bool, bool),
+    FirstRequeued(Option<Slot>),
+    Seat(u8, Option<Seat>),
+    // How many bios the outbox of the seat has.
+    Outbox(u8, Option<usize>),
+    NoMemory,
+}
+
+// Does that again, and tells what came of it.
+fn again(parts: &mut Parts, change: &mut Change, told: Told) -> Told {
+    match told {
+        Told::Turn => match parts.turn(change) {
+            Ok(()) => Told::Turn,
+            Err(_) => Told::NoMemory,
+        },
+        Told::Turns(_) => Told::Turns(parts.turns()),
+        Told::Stands(sector, _) => Told::Stands(sector, parts.overlay().get(sector).is_some()),
+        Told::IsStored(_) => Told::IsStored(is_stored(parts)),
+        Told::Stores(_) => Told::Stores(stores(change)),
+        Told::Has(_) => Told::Has(mode(change)),
+        Told::Mode(..) => Told::Mode(parts.scheduler(), parts.frozen(), parts.served()),
+        Told::FreeRequest(_) => Told::FreeRequest(parts.pool().free_request()),
+        Told::FreeBio(_) => Told::FreeBio(parts.pool().free_bio(15)),
+        Told::LowestFree(_) => Told::LowestFree(parts.tags().lowest_free()),
+        Told::IsEmpty(..) => Told::IsEmpty(
+            parts.queues().is_empty(0),
+            parts.requeued().is_empty(0),
+        ),
+        Told::FirstRequeued(_) => Told::FirstRequeued(parts.requeued().first(0)),
+        Told::Seat(seat, _) => Told::Seat(seat, parts.seat(seat)),
+        Told::Outbox(seat, _) => Told::Outbox(seat, outbox_len(parts, seat)),
+        Told::NoMemory => Told::NoMemory,
+    }
+}
+
+fn outbox_len(parts: &Parts, seat: u8) -> Option<usize> {
+    match parts.outbox(seat) {
+        Some(outbox) => Some(outbox.as_slice().len()),
+        None => None,
+    }
+}
+
+// What came first that is not what is told, beside that.
+fn difference(parts: &mut Parts, change: &mut Change, all: &[Told]) -> Option<(Told, Told)> {
+    for told in all {
+        let came = again(parts, change, *told);
+        if came != *told {
+            return Some((came, *told));
+        }
+    }
+    None
+}
+
+// All of that comes again at new tables and this change, in this order.
+fn expect(rt: &(impl Abort + AllocGlobal), change: &mut Change, all: &[Told]) -> Result<(), Fail> {
+    let mut parts = opened(rt.alloc())?;
+    assert_eq!(rt; difference(&mut parts, change, all), None);
+    Ok(())
+}
+
 #[test]
 fn new_tables(rt: HostRuntime) -> Result<(), Fail> {
-    let parts = opened(rt.alloc())?;
-    assert_eq!(rt; parts.turns(), 0);
-    // Seat 15 counts as served, so that seat 0 is the first.
-    assert_eq!(rt; parts.served(), 15);
-    assert!(rt; parts.overlay().get(0).is_none());
-    assert_eq!(rt; parts.pool().free_request(), Some(0));
-    assert_eq!(rt; parts.pool().free_bio(15), Some(480));
-    assert_eq!(rt; parts.tags().lowest_free(), Some(0));
-    Ok(())
+    let all = [
+        Told::Turns(0),
+        // The tables are not frozen. Seat 15 counts as served, so that seat 0 is the first.
+        Told::Mode(Scheduler::Bfq, false, 15),
+        Told::Stands(0, false),
+        Told::FreeRequest(Some(0)),
+        // Seat 15 has the last slots.
+        Told::FreeBio(Some(480)),
+        Told::LowestFree(Some(0)),
+        Told::IsEmpty(true, true),
+        Told::Seat(0, None),
+        // There are 16 seats.
+        Told::Outbox(15, Some(0)),
+        Told::Outbox(16, None),
+    ];
+    expect(&rt, &mut storing(), &all)
 }
 
-#[test]
-fn new_seats(rt: HostRuntime) -> Result<(), Fail> {
-    let parts = opened(rt.alloc())?;
-    assert!(rt; parts.queues().is_empty(0));
-    assert!(rt; parts.requeued().is_empty(0));
-    assert!(rt; !parts.frozen());
-    assert_eq!(rt; parts.seat(0), None);
-    assert_eq!(rt;
-        parts
-            .outbox(15)
-            .ok_or("there are 16 seats")?
-            .as_slice()
-            .len(),
-        0
-    );
-    assert!(rt; parts.outbox(16).is_none());
-    Ok(())
-}
-
+// The block goes in, and the change has what stood there: none. Turned again, the block comes back.
 #[test]
 fn a_turn_and_back(rt: HostRuntime) -> Result<(), Fail> {
-    let mut parts = opened(rt.alloc())?;
-    let mut change = storing();
-
-    // The block goes in, and the change has what stood there: none.
-    turned(&mut parts, &mut change)?;
-    assert!(rt; is_stored(&parts));
-    assert_eq!(rt; stores(&change), Some(false));
-    assert_eq!(rt; parts.turns(), 1);
-
-    // Turned again, the block comes back.
-    turned(&mut parts, &mut change)?;
-    assert!(rt; parts.overlay().get(5).is_none());
-    assert_eq!(rt; stores(&change), Some(true));
-    assert_eq!(rt; parts.turns(), 2);
-    Ok(())
+    let all = [
+        Told::Turn,
+        Told::IsStored(true),
+        Told::Stores(Some(false)),
+        Told::Turns(1),
+        Told::Turn,
+        Told::Stands(5, false),
+        Told::Stores(Some(true)),
+        Told::Turns(2),
+    ];
+    expect(&rt, &mut storing(), &all)
 }
 
 // The three parts of the mode are one place, and what stood there is in the change then.
 #[test]
 fn a_mode_and_back(rt: HostRuntime) -> Result<(), Fail> {
-    let mut parts = opened(rt.alloc())?;
     let mut change = Change::Mode {
         scheduler: Scheduler::Plain,
         frozen: true,
         served: 4,
     };
-
-    turned(&mut parts, &mut change)?;
-    assert_eq!(rt; mode_of(&parts), (Scheduler::Plain, true, 4));
-    assert_eq!(rt; mode(&change), Some((Scheduler::Bfq, false, 15)));
-
-    turned(&mut parts, &mut change)?;
-    assert_eq!(rt; mode_of(&parts), (Scheduler::Bfq, false, 15));
-    assert_eq!(rt; parts.turns(), 2);
-    Ok(())
+    let all = [
+        Told::Turn,
+        Told::Mode(Scheduler::Plain, true, 4),
+        Told::Has(Some((Scheduler::Bfq, false, 15))),
+        Told::Turn,
+        Told::Mode(Scheduler::Bfq, false, 15),
+        Told::Turns(2),
+    ];
+    expect(&rt, &mut change, &all)
 }
 
 // The dispatch list has links of its own.
 #[test]
 fn a_link_of_the_dispatch_list(rt: HostRuntime) -> Result<(), Fail> {
-    let mut parts = opened(rt.alloc())?;
     let mut change = Change::Requeued {
         slot: 2,
         link: Some(Link { seat: 0, serial: 5 }),
     };
-
-    turned(&mut parts, &mut change)?;
-    assert_eq!(rt; parts.requeued().first(0), Some(2));
-    assert!(rt; parts.queues().is_empty(0));
-
-    turned(&mut parts, &mut change)?;
-    assert!(rt; parts.requeued().is_empty(0));
-    Ok(())
+    let all = [
+        Told::Turn,
+        Told::FirstRequeued(Some(2)),
+        Told::IsEmpty(true, false),
+        Told::Turn,
+        Told::IsEmpty(true, true),
+    ];
+    expect(&rt, &mut change, &all)
 }
 
 // The seat that was served last, and how many exchanges were made.
@@ -181,14 +244,22 @@ fn seen(parts: &Parts) -> (u8, u64) {
     (parts.served(), parts.turns())
 }
 
-// A list of two changes of the seat: its size, and what is seen when it was turned forth, and then back.
-fn forth_and_back(alloc: Global) -> Result<(usize, (u8, u64), (u8, u64)), Fail> {
-    let mut parts = opened(alloc)?;
+// A tape with one list of two changes of the seat.
+fn two_changes(alloc: Global) -> Result<Tape, Fail>
+    ensures { IfOk result (λ tape. tape.steps ≡ (Change.Mode Scheduler.Bfq false 7 ∷ Change.Mode Scheduler.Bfq false 9 ∷ []) ∷ []) }
+{
     let mut tape = Tape::new(alloc);
     tape.reserve(2)?;
     tape.push(serving(7));
     tape.push(serving(9));
     tape.close();
+    Ok(tape)
+}
+
+// A list of two changes of the seat: its size, and what is seen when it was turned forth, and then back.
+fn forth_and_back(alloc: Global) -> Result<(usize, (u8, u64), (u8, u64)), Fail> {
+    let mut parts = opened(alloc)?;
+    let mut tape = two_changes(alloc)?;
     let size = tape.size(0);
     tape.forth(&mut parts, 0)?;
     let forth = seen(&parts);
@@ -196,33 +267,43 @@ fn forth_and_back(alloc: Global) -> Result<(usize, (u8, u64), (u8, u64)), Fail> 
     Ok((size, forth, seen(&parts)))
 }
 
-// Back it goes in reverse order: 7 comes back first, and then 15.
-#[test]
-fn a_step_forth_and_back(rt: HostRuntime) -> Result<(), Fail> {
-    assert_eq!(rt; forth_and_back(rt.alloc())?, (2, (9, 2), (15, 4)));
-    Ok(())
-}
-
 // A step that stores a block: whether it stands then, and how many lists the tape has.
 fn block_stored(alloc: Global) -> Result<(bool, usize), Fail> {
     let mut parts = opened(alloc)?;
     let mut tape = Tape::new(alloc);
     tape.reserve(1)?;
-    tape.try_exchange(
-        &mut parts,
-        Change::Sector {
-            sector: 5,
-            block: Some(Block::new(Bytes::from_static(&[65; 512]))),
-        },
-    )?;
+    let stored = Change::Sector {
+        sector: 5,
+        block: Some(letters()),
+    };
+    tape.try_exchange(&mut parts, stored)?;
     tape.close();
     Ok((is_stored(&parts), tape.len()))
 }
 
-#[test]
-fn a_block_stored_by_a_step(rt: HostRuntime) -> Result<(), Fail> {
-    assert_eq!(rt; block_stored(rt.alloc())?, (true, 1));
+// A step that serves this seat.
+fn serve(tape: &mut Tape, parts: &mut Parts, seat: u8) -> Result<(), Fail>
+    ensures { OnOk result (tape.new.current ≡ []) }
+{
+    tape.reserve(1)?;
+    tape.exchange(parts, serving(seat));
+    tape.close();
     Ok(())
+}
+
+// The last list takes the place of the first, and is dropped then. How many lists the tape has before, between and after.
+fn drop_lists(tape: &mut Tape) -> [usize; 3]
+    requires { tape.old.current ≡ [] }
+{
+    let before = tape.len();
+    if before > 0 {
+        tape.keep_last(0);
+    }
+    let between = tape.len();
+    if between > 0 {
+        tape.drop_last();
+    }
+    [before, between, tape.len()]
 }
 
 // How many lists the tape has at first, after two steps, when the second has taken the place of the first, and when that is
@@ -231,23 +312,10 @@ fn lists_dropped(alloc: Global) -> Result<([usize; 4], u8), Fail> {
     let mut parts = opened(alloc)?;
     let mut tape = Tape::new(alloc);
     let first = tape.len();
-    tape.reserve(1)?;
-    tape.exchange(&mut parts, serving(3));
-    tape.close();
-    tape.reserve(1)?;
-    tape.exchange(&mut parts, serving(7));
-    tape.close();
-    let both = tape.len();
-    tape.keep_last(0);
-    let last = tape.len();
-    tape.drop_last();
-    Ok(([first, both, last, tape.len()], parts.served()))
-}
-
-#[test]
-fn steps_dropped(rt: HostRuntime) -> Result<(), Fail> {
-    assert_eq!(rt; lists_dropped(rt.alloc())?, ([0, 2, 1, 0], 7));
-    Ok(())
+    serve(&mut tape, &mut parts, 3)?;
+    serve(&mut tape, &mut parts, 7)?;
+    let [both, last, none] = drop_lists(&mut tape);
+    Ok(([first, both, last, none], parts.served()))
 }
 
 // A step of two exchanges that is given up: the seat that was served last before that, and after it, and how many lists the
@@ -263,28 +331,88 @@ fn given_up(alloc: Global) -> Result<(u8, u8, usize), Fail> {
     Ok((before, parts.served(), tape.len()))
 }
 
-#[test]
-fn a_step_that_is_given_up(rt: HostRuntime) -> Result<(), Fail> {
-    assert_eq!(rt; given_up(rt.alloc())?, (9, 15, 0));
+// A tape that gave up a step of no change.
+fn given_up_at_once(alloc: Global, parts: &mut Parts) -> Result<Tape, Fail> {
+    let mut tape = Tape::new(alloc);
+    tape.reserve(3)?;
+    tape.abandon(parts);
+    Ok(tape)
+}
+
+// A list of this change alone.
+fn add(tape: &mut Tape, change: Change) -> Result<(), Fail> {
+    tape.reserve(1)?;
+    tape.push(change);
+    tape.close();
     Ok(())
 }
 
-// A change that has been turned is added alone: the seat that was served last, and the size of its list.
-fn added(alloc: Global) -> Result<(u8, usize), Fail> {
+// A change that has been turned is added alone: the seat that was served last, and the size of the first list.
+fn added(alloc: Global) -> Result<(u8, Option<usize>), Fail> {
     let mut parts = opened(alloc)?;
-    let mut tape = Tape::new(alloc);
-    tape.reserve(3)?;
-    tape.abandon(&mut parts);
-    tape.reserve(1)?;
+    let mut tape = given_up_at_once(alloc, &mut parts)?;
     let mut change = serving(6);
     turned(&mut parts, &mut change)?;
-    tape.push(change);
-    tape.close();
-    Ok((parts.served(), tape.size(0)))
+    add(&mut tape, change)?;
+    Ok((parts.served(), size_of_first(&tape)))
+}
+
+fn size_of_first(tape: &Tape) -> Option<usize> {
+    if tape.len() > 0 {
+        Some(tape.size(0))
+    } else {
+        None
+    }
+}
+
+// What the lists above come to.
+#[derive(Clone, Copy, Debug, PartialEq, Eq)]
+enum Listed {
+    ForthAndBack(usize, (u8, u64), (u8, u64)),
+    Stored(bool, usize),
+    Dropped([usize; 4], u8),
+    GivenUp(u8, u8, usize),
+    Added(u8, Option<usize>),
+}
+
+// Makes the tape and the lists again, and tells what they came to.
+fn made(alloc: Global, told: Listed) -> Result<Listed, Fail> {
+    match told {
+        Listed::ForthAndBack(..) => {
+            let (size, forth, back) = forth_and_back(alloc)?;
+            Ok(Listed::ForthAndBack(size, forth, back))
+        }
+        Listed::Stored(..) => {
+            let (stands, lists) = block_stored(alloc)?;
+            Ok(Listed::Stored(stands, lists))
+        }
+        Listed::Dropped(..) => {
+            let (lists, served) = lists_dropped(alloc)?;
+            Ok(Listed::Dropped(lists, served))
+        }
+        Listed::GivenUp(..) => {
+            let (before, after, lists) = given_up(alloc)?;
+            Ok(Listed::GivenUp(before, after, lists))
+        }
+        Listed::Added(..) => {
+            let (served, size) = added(alloc)?;
+            Ok(Listed::Added(served, size))
+        }
+    }
 }
 
 #[test]
-fn a_change_that_was_turned_before(rt: HostRuntime) -> Result<(), Fail> {
-    assert_eq!(rt; added(rt.alloc())?, (6, 1));
+fn steps(rt: HostRuntime) -> Result<(), Fail> {
+    for told in [
+        // Back it goes in reverse order: 7 comes back first, and then 15.
+        Listed::ForthAndBack(2, (9, 2), (15, 4)),
+        Listed::Stored(true, 1),
+        Listed::Dropped([0, 2, 1, 0], 7),
+        // The seat that was served before the step is there again.
+        Listed::GivenUp(9, 15, 0),
+        Listed::Added(6, Some(1)),
+    ] {
+        assert_eq!(rt; made(rt.alloc(), told)?, told);
+    }
     Ok(())
 }
