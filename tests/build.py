@@ -10,14 +10,16 @@ reads, and what was made is moved into the checkout. On standard error stand how
 
 import fcntl
 import os
+import re
 import shutil
 import subprocess
 import sys
 import tempfile
 import time
 from concurrent.futures import FIRST_COMPLETED, ThreadPoolExecutor, wait
+from pathlib import Path
 
-from checkout import CRATES, TOP, below, copy_for, crate_lines, lanes
+from checkout import CRATES, TOP, below, copy_for, crate_lines
 
 PROGRAM = "bfqhost"
 # What all crates took by docs/GATE.md, in minutes by the clock times processors.
@@ -27,6 +29,12 @@ MINUTES_OF_ALL = 55
 def tell(text):
     """Says what the build is at."""
     print(f"bfqhost: {text}", file=sys.stderr, flush=True)
+
+
+def lanes():
+    """How many checks run side by side: one for each processor, and no more than memory holds at 4 GB each."""
+    free = int(re.search(r"MemAvailable:\s+(\d+)", Path("/proc/meminfo").read_text())[1])
+    return max(1, min(len(os.sched_getaffinity(0)), free // (4 << 20)))
 
 
 def sources(name):

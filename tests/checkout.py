@@ -1,6 +1,5 @@
-"""The crates of this checkout, a copy of what a check of one reads, and how many checks run side by side."""
+"""The crates of this checkout, and a copy of what a check of one reads."""
 
-import os
 import re
 import shutil
 from pathlib import Path
@@ -33,9 +32,3 @@ def copy_for(name, lines, folder):
         left_out = shutil.ignore_patterns("wrong", "must-fail", *["incremental"] * (it != name))
         shutil.copytree(CRATES / it, Path(folder, "crates", it), ignore=left_out)
     return Path(folder, "crates", name)
-
-
-def lanes():
-    """How many checks run side by side: one for each processor, and no more than memory holds at 4 GB each."""
-    free = int(re.search(r"MemAvailable:\s+(\d+)", Path("/proc/meminfo").read_text())[1])
-    return max(1, min(len(os.sched_getaffinity(0)), free // (4 << 20)))

@@ -4,8 +4,7 @@
     tests/wrong_bodies.py [--all] [CRATE..]
 
 Tried are those of the crates that are named, or of each that is not as tests/wrong_bodies.seen has it and of the one whose line is
-oldest there, or with --all of every crate. The status is 1 if one failed. A crate whose wrong bodies were all refused gets its line:
-their number, the date, a hash of all that was read, and the toolchain's line.
+oldest there, or with --all of every crate. A crate whose wrong bodies were all refused gets a line: how many, when, a hash, the kit.
 """
 
 import argparse
@@ -15,11 +14,11 @@ import subprocess
 import sys
 import tempfile
 import time
-from collections import defaultdict
 from concurrent.futures import ThreadPoolExecutor, as_completed
 
-from checkout import CRATES, TOP, below, copy_for, crate_lines, lanes
-from rounds import Crate, in_rounds, read_edit
+from build import PROGRAM, lanes, stale
+from checkout import CRATES, TOP, below, copy_for, crate_lines
+from twins import Crate, has_twin, read_edit
 
 SEEN = TOP / "tests" / "wrong_bodies.seen"
 PART = 40  # Wrong bodies of a crate that are tried in one copy; if it has more, several copies are worked on side by side.
@@ -27,21 +26,19 @@ PART = 40  # Wrong bodies of a crate that are tried in one copy; if it has more,
 
 def hashes(lines):
     """For each crate a hash of what is read: its files and those below it as they stand, their lines of crates.txt, and these scripts."""
-    paths = [TOP / "HANDLES", *(TOP / "tests" / name for name in ("wrong_bodies.py", "rounds.py", "checkout.py", "build.py"))]
+    paths = [TOP / "HANDLES", *(TOP / "tests" / name for name in ("wrong_bodies.py", "twins.py", "checkout.py", "build.py"))]
     paths += sorted(it for it in CRATES.rglob("*") if it.is_file() and it.relative_to(CRATES).parts[1] != "out")
-    words = ["git", "hash-object", "--no-filters", "--stdin-paths"]
-    sums = subprocess.run(words, input="\n".join(map(str, paths)), capture_output=True, text=True, check=True).stdout.split()
-    rows, found = [f"{path.relative_to(TOP)} {row}" for path, row in zip(paths, sums)], {}
-    for name in lines:
-        parts = [*below(name, lines), name]
-        read = [it for it in rows if it.startswith(("HANDLES", "tests/", *(f"crates/{part}/" for part in parts)))]
-        found[name] = hashlib.sha256("\n".join([*read, *(lines[part] for part in parts)]).encode()).hexdigest()
-    return found
+    words, names = ["git", "hash-object", "--no-filters", "--stdin-paths"], "\n".join(map(str, paths))
+    sums = subprocess.run(words, input=names, capture_output=True, text=True, check=True).stdout.split()
+    rows = [f"{path.relative_to(TOP)} {row}" for path, row in zip(paths, sums)]
+    parts = {it: [*below(it, lines), it] for it in lines}
+    read = {name: [row for row in rows if row.startswith(("HANDLES", "tests/", *(f"crates/{it}/" for it in its)))] for name, its in parts.items()}
+    return {name: hashlib.sha256("\n".join([*read[name], *map(lines.get, its)]).encode()).hexdigest() for name, its in parts.items()}
 
 
-def wrong_bodies(name, first=0, step=1):
-    """The texts of a crate's wrong bodies, by their names; or from one on each that comes so many after the last."""
-    return {it.stem: it.read_text() for it in sorted((CRATES / name / "wrong").glob("*.edit"))[first::step]}
+def wrong_bodies(name):
+    """The names and texts of a crate's wrong bodies, those of one file together."""
+    return sorted(((it.stem, it.read_text()) for it in (CRATES / name / "wrong").glob("*.edit")), key=lambda it: it[1])
 
 
 def trial(name, texts, lines, keeps_on):
@@ -49,17 +46,15 @@ def trial(name, texts, lines, keeps_on):
     refused, failed, edits = {}, {}, []
     with contextlib.suppress(TimeoutError), tempfile.TemporaryDirectory(prefix="wrong-bodies-") as folder:
         crate = Crate(copy_for(name, lines, folder) if keeps_on() else CRATES / name, keeps_on)
-        if (plain := crate.check())[0] != 0:
-            return {}, {it: f"not tried, as the crate is not proved without it: {plain[1].splitlines()[-1:]}" for it in texts}
+        # A library was proved by the build just now.
+        if stale([name], lines) or name == PROGRAM and crate.check({})[0] != 0:
+            return {}, {it: "not tried, as the crate is not proved without it" for it in texts}
         for it, text in texts.items():
             try:
                 edits.append(read_edit(it, text, crate.texts))
             except ValueError as why:
                 failed[it] = f"bad edit: {why}"
-        # Twice, since one whose callee was refused beside it is not settled.
-        for _ in range(2):
-            for planted in in_rounds([it for it in edits if it.name not in refused]):
-                refused.update(crate.round(planted))
+        refused.update(crate.together([it for it in edits if has_twin(it, crate.texts)]))
         for edit in [it for it in edits if it.name not in refused]:
             is_refused, told = crate.alone(edit)
             (refused if is_refused else failed)[edit.name] = told
@@ -69,18 +64,19 @@ def trial(name, texts, lines, keeps_on):
 def try_all(named=(), every=False, deadline=float("inf")):
     """Tries wrong bodies, and says of which it has not. Gives how many were refused, and what was told of each that failed."""
     lines, kit = crate_lines(), subprocess.run(["rt", "version"], capture_output=True, text=True, check=True).stdout.strip()
-    now, having, goes_on, waiting, tried = hashes(lines), {it for it in lines if wrong_bodies(it)}, [True], 0, defaultdict(lambda: ({}, {}))
+    now, bodies, goes_on = hashes(lines), {it: found for it in lines if (found := wrong_bodies(it))}, [True]
     rows = dict((it.split(" ", 1)[0], it.split(" ", 4)[1:]) for it in (SEEN.read_text().splitlines() if SEEN.exists() else []))
-    as_seen = {it: row for it, row in rows.items() if it in having and row[2:] == [now[it], kit] and not every}
+    as_seen = {it: row for it, row in rows.items() if it in bodies and row[2:] == [now[it], kit] and not every}
     # Those that are not as they were seen, the longest trials first, and then the one that was seen first.
-    changed = sorted(having - as_seen.keys(), key=lambda it: -len(wrong_bodies(it)) - len(below(it, lines)))
-    names = named or changed + sorted(as_seen, key=lambda it: as_seen[it][1])[:1]
+    others = sorted(bodies.keys() - as_seen.keys(), key=lambda it: -len(bodies[it]) - len(below(it, lines)))
+    names = named or others + sorted(as_seen, key=lambda it: as_seen[it][1])[:1]
+    tried = {it: ({}, {}) for it in names}
     if time.time() < deadline:
         subprocess.run([sys.executable, TOP / "tests" / "build.py", *names], check=False)
     with ThreadPoolExecutor(lanes()) as pool:
         try:
-            parts = [(it, at, len(wrong_bodies(it)) // PART + 1) for it in names for at in range(len(wrong_bodies(it)) // PART + 1)]
-            runs = {pool.submit(trial, it[0], wrong_bodies(*it), lines, lambda: goes_on[0] and time.time() < deadline): it[0] for it in parts}
+            parts = [(it, dict(bodies[it][at:at + PART])) for it in names for at in range(0, len(bodies[it]), PART)]
+            runs = {pool.submit(trial, *it, lines, lambda: goes_on[0] and time.time() < deadline): it[0] for it in parts}
             for ran in as_completed(runs):
                 results = ({}, {"some of them": f"not tried: {ran.exception()!r}"}) if ran.exception() else ran.result()
                 for word, found, so_far in zip(("refused", "failed"), results, tried[runs[ran]]):
@@ -89,13 +85,13 @@ def try_all(named=(), every=False, deadline=float("inf")):
         finally:
             goes_on[0] = False
     for it, (refused, failed) in tried.items():
-        waiting += len(wrong_bodies(it)) - len(refused) - len(failed)
         if failed:
             rows.pop(it, None)
-        elif len(refused) == len(wrong_bodies(it)) and now[it] == hashes(lines)[it]:  # nothing changed meanwhile
+        elif len(refused) == len(bodies[it]) and now[it] == hashes(lines)[it]:  # nothing changed meanwhile
             rows[it] = [str(len(refused)), time.strftime("%Y-%m-%d"), now[it], kit]
-    SEEN.write_text("".join(" ".join([it, *rows[it]]) + "\n" for it in sorted(having & rows.keys())))
-    unseen = 0 if named else sum(len(wrong_bodies(it)) for it in having.difference(names))
+    SEEN.write_text("".join(" ".join([it, *rows[it]]) + "\n" for it in sorted(bodies.keys() & rows.keys())))
+    unseen = 0 if named else sum(len(bodies[it]) for it in bodies.keys() - names)
+    waiting = sum(len(bodies[it]) - len(refused) - len(failed) for it, (refused, failed) in tried.items())
     print(f"{unseen} wrong bodies not tried: seen before\n" * bool(unseen) + f"{waiting} wrong bodies wait\n" * bool(waiting), end="")
     return sum(len(it[0]) for it in tried.values()), [f"failed: {name}/{it}: {why}" for name in tried for it, why in tried[name][1].items()]
 
@@ -103,7 +99,7 @@ def try_all(named=(), every=False, deadline=float("inf")):
 def main():
     words = argparse.ArgumentParser(description=__doc__, formatter_class=argparse.RawDescriptionHelpFormatter)
     words.add_argument("--all", action="store_true", dest="every")
-    words.add_argument("named", nargs="*", metavar="CRATE", choices=[[], *(it for it in crate_lines() if wrong_bodies(it))])
+    words.add_argument("named", nargs="*", metavar="CRATE", choices=[[], *filter(wrong_bodies, crate_lines())])
     refused, failed = try_all(**vars(words.parse_args()))
     print(f"{refused} refused, {len(failed)} failed")
     return min(len(failed), 1)

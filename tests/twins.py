@@ -1,0 +1,156 @@
+"""Wrong bodies of one crate, tried in a copy of it, many by one check.
+
+A check proves each function over the contracts of those that it calls, and names the open goals. So a wrong body is planted in a twin
+of its function, a copy beside it with another name and with copies of its proof files. Callers stand on the true one. It is refused
+if a goal of its twin is open. What has no twin, or is not settled there, is planted in its place and tried alone.
+"""
+
+import re
+from collections import namedtuple
+
+from build import CRATES, run, sources
+
+# What a check prints of an open goal, of a function, and of a text or proof that it does not take.
+GOAL = re.compile(r"note: (?:\./)?(src/\S+\.rt):(\d+):\d+: (.* \(`[^`]+`\))")
+FUNCTION = re.compile(r"fn (\S+): (.*)")
+ERROR = re.compile(r"(?:\./)?((?:src|specs|proofs)/\S+?):\d+:\d+: error(?:\[\S+\])?: (.*)")
+# What an error says if a name is gone or a text unread, so that no goal was tried.
+UNREAD = re.compile(r"is not in scope|has no field|has no `|is no name|not admitted|was rejected|operand is missing|expected the end|cannot continue|\(nearest: ")
+IMPL = re.compile(r"impl\b(?:<.*?>)? (.* for )?&?(\w+)")
+OPENS = re.compile(r"( *)(?:pub(?:\([^)]*\))? )?(?:const )?(?:unsafe )?fn (\w+)")
+# A function, with the type that it is a method of, and its lines; and a wrong body: new lines, by place, and whose they are (None: no function's).
+Function = namedtuple("Function", "path name owner is_of_trait first last")
+Edit = namedtuple("Edit", "name lines functions")
+
+
+def functions_of(path, lines):
+    """The functions with a body of a file in the layout of rt fmt: it ends at the first brace right under the start of `fn`."""
+    for first, line in enumerate(lines):
+        opens = OPENS.match(line)
+        ends = re.compile(opens[1] + r"(?:(\S.*|    \S.*\});|(\S.*)?\{\}?)$") if opens else None
+        at = next((at for at in range(first, len(lines)) if ends.match(lines[at])), None) if opens else None
+        if at is not None and not lines[at].endswith(";"):
+            while re.match(r"\s*[^\s/]", lines[first - 1]) and not lines[first - 1].endswith(("{", "}", ";")):
+                first -= 1
+            owner = next((IMPL.match(it) for it in lines[first::-1] if it[:1].strip()), None) if opens[1] else None
+            is_of_trait = bool(opens[1]) and (owner is None or owner[1] is not None)
+            last = at if lines[at].endswith("}") else lines.index(opens[1] + "}", at)
+            yield Function(path, opens[2], owner[2] if owner else "", is_of_trait, first, last)
+
+
+def read_edit(name, text, texts):
+    """Reads a wrong body: a line 'file: PATH', and pairs of lines 'old: TEXT' and 'new: TEXT', over the texts of the crate's files."""
+    path, old, changed, lines, functions = "", "", {}, {}, set()
+    for key, value in (re.match("(file|old|new|): ?(.*)|", line).groups("") for line in text.splitlines()):
+        path, old = value.strip() if key == "file" else path, value if key == "old" else old
+        if key == "new":
+            was = changed.get(path, texts.get(path, ""))
+            if not old or was.count(old) != 1:
+                raise ValueError(f"its old text stands in {path} {was.count(old) if old else 0} times, and not once: {old}")
+            changed[path] = was.replace(old, value)
+    for path, new in changed.items():
+        spans = [*functions_of(path, texts[path].split("\n"))]
+        for at, (was, line) in enumerate(zip(texts[path].split("\n"), new.split("\n"))):
+            if line != was:
+                lines[path, at] = line
+                functions.add(min((it for it in spans if it.first <= at <= it.last), key=lambda it: it.last - it.first, default=None))
+    if not lines:
+        raise ValueError("it changes nothing")
+    return Edit(name, lines, functions)
+
+
+def proof_files(function, texts):
+    """The files of a function's own proof, which stand under its module, or under that of the type that it is a method of."""
+    modules = [it for it in function.path[len("src/"):-len(".rt")].split("/") if it not in ("lib", "main", "mod")]
+    here, of_type = "/".join(["proofs", *modules, function.name]), f"/{function.owner}/{function.name}"
+    folders = [(it, it.rpartition("/")[0]) for it in texts if it.startswith("proofs/")]
+    return [it for it, folder in folders if (folder.endswith(of_type) if function.owner else folder == here)]
+
+
+def has_twin(edit, texts):
+    """Whether a twin is judged as the function is: one is changed, no trait has it, and only its own proof files speak of its proof."""
+    function = next(iter(edit.functions))
+    own = proof_files(function, texts) if function else []
+    names = {it.rpartition("/")[0].replace("/", ".") + "." for it in own}
+    is_alone = not any(name in text for name in names for path, text in texts.items() if path not in own)
+    return is_alone and len(edit.functions) == 1 and function is not None and not function.is_of_trait
+
+
+def in_twins(edits, texts):
+    """The files that change if each wrong body stands in a twin of its function, and the wrong bodies by the names of their twins."""
+    files, names, after = {}, {}, {}
+    for edit in edits:
+        [function] = edit.functions
+        lines, twin = texts[function.path].split("\n"), f"{function.name}_twin_{len(names)}"
+        body = "\n".join(edit.lines.get((function.path, at), lines[at]) for at in range(function.first, function.last + 1))
+        after.setdefault((function.path, function.last), []).extend(["", re.sub(rf"\bfn {function.name}\b", f"fn {twin}", body, count=1)])
+        names[twin] = edit.name
+        for path in proof_files(function, texts):
+            *above, own, file = path.split("/")
+            files["/".join([*above, twin, file])] = texts[path].replace(".".join([*above, own, ""]), ".".join([*above, twin, ""]))
+    for path in {path for path, _ in after}:
+        files[path] = "\n".join(it for at, line in enumerate(texts[path].split("\n")) for it in [line, *after.get((path, at), ())])
+    return files, names
+
+
+def settled(names, status, said):
+    """Of wrong bodies in twins those that are refused, each with its goal; None if the check counts for nothing."""
+    refused, goals = {}, []
+    for line in said.splitlines() if "\nlogic=" in said and status in (0, 1) else ["src/:0:0: error: no verdict"]:
+        goal, ends, error = GOAL.match(line), FUNCTION.match(line), ERROR.match(line)
+        twin = next((it for it in names if error and it in error[1].split("/") or ends and it in ends[1].split("::")), None)
+        if (error or ends and ends[2] != "proved") and twin is None:
+            return None
+        if goal:
+            goals.append(goal[3])
+        elif error and not UNREAD.search(error[2]):
+            refused.setdefault(names[twin], error[2])
+        elif ends:
+            # The goals of a function stand before its line.
+            refused.update({names[twin]: it for it in goals[:1] if twin})
+            goals = []
+    return refused
+
+
+class Crate:
+    """A copy of a crate, in which wrong bodies are planted and checked, while `keeps_on` says so."""
+
+    def __init__(self, folder, keeps_on):
+        self.folder, self.keeps_on = folder, keeps_on
+        self.texts = {str(it.relative_to(CRATES / folder.name)): it.read_text() for it in sources(folder.name)}
+
+    def check(self, files):
+        """Checks the crate with these texts in place of its own; gives the status and what was said. All is as it was, after."""
+        if not self.keeps_on():
+            raise TimeoutError
+        for path in files:
+            (self.folder / path).parent.mkdir(exist_ok=True)
+            (self.folder / path).write_text(files[path])
+        ended = run(["rt", "check", "--jobs", "1"], self.folder)
+        for path in files:
+            (self.folder / path).write_text(self.texts[path]) if path in self.texts else (self.folder / path).unlink()
+        return ended
+
+    def together(self, edits):
+        """Tries wrong bodies in twins by one check. Gives those that are refused, each with its goal."""
+        files, names = in_twins(edits, self.texts)
+        found = settled(names, *self.check(files)) if edits else {}
+        if found is None and len(edits) > 1:
+            # One of them does not compile, or meets a limit of the check. Halves find it.
+            return {**self.together(edits[::2]), **self.together(edits[1::2])}
+        return found or {}
+
+    def alone(self, edit):
+        """Tries one wrong body in its place. Gives whether it is refused, and its goal or what is wrong with it."""
+        files = {path: "\n".join(edit.lines.get((path, at), it) for at, it in enumerate(self.texts[path].split("\n"))) for path, _ in edit.lines}
+        status, said = self.check(files)
+        errors = [it for it in map(ERROR.match, said.splitlines()) if it]
+        unread = [it[0] for it in errors if it[1][:6] != "proofs" and (it[1][:5] == "specs" or it[2][0] != "`" or UNREAD.search(it[2]))]
+        told = [it[3] for it in map(GOAL.match, said.splitlines()) if it] + [it[2] for it in errors if not UNREAD.search(it[2])]
+        if unread or "\nlogic=" not in said or status not in (0, 1):
+            return False, f"bad edit: {[*unread, *said.splitlines()[-1:], 'the check said nothing'][0]}"
+        if status == 1:
+            return bool(told), [*told, "bad edit: no goal is open, and a proof only names what it took away"][0]
+        # A check refuses what is no text, in any file that it reads.
+        is_read = self.check({path: "} " + text for path, text in files.items()})[0] != 0
+        return False, "not refused" if is_read else f"bad edit: no check reads {min(files)}"
