@@ -1,5 +1,5 @@
 -- The operator's calls, as the words of a command line spell them.
-use Rattle.std.specs.Prelude.{◌≡◌, ℕ, ◌<◌, ◌^◌, List, [], ◌∷◌, codes, Option, MatchOption}
+use Rattle.std.specs.Prelude.{ℕ, ◌<◌, ◌^◌, List, [], ◌∷◌, codes}
 use Rattle.std.specs.Fmt.{decimal}
 use Rattle.sector_core.specs.declared.config.Scheduler.{Scheduler}
 use Rattle.sector_core.specs.declared.config.Scheduler.TheVariants.{Plain, Bfq}
@@ -40,15 +40,3 @@ Fits Release = Unit {0}
 Fits (Undo k) = k < 2 ^ 32
 Fits (Redo k) = k < 2 ^ 32
 Fits Stop = Unit {0}
-
--- what words are read to: the call that has them, or none where no call has them
-abbrev pub Reads : List (List ℕ) → Option OperatorCall → Type 0
-Reads words found = MatchOption found
-    ((call : OperatorCall) → Fits call → words ≡ words_of call → ⊥)
-    (λ call. Fits call × (words ≡ words_of call))
-
--- the number below the limit that a word spells in decimal, or none where it spells none
-abbrev pub IsNumberBelow : ℕ → List ℕ → Option ℕ → Type 0
-IsNumberBelow limit word found = MatchOption found
-    ((n : ℕ) → n < limit → word ≡ decimal n → ⊥)
-    (λ n. (n < limit) × (word ≡ decimal n))

@@ -1,6 +1,6 @@
 // Numbers in decimal that fit their types.
 ghost use Rattle.std.specs.Prelude.{◌^◌};
-ghost use Rattle.operator_words.specs.Words.{IsNumberBelow};
+ghost use Rattle.operator_words.specs.Reading.{IsNumberBelow};
 
 use script_line::number;
 

@@ -1,6 +1,6 @@
 // Calls from the words after their names.
 ghost use Rattle.std.specs.Prelude.{[], ◌∷◌, codes};
-ghost use Rattle.operator_words.specs.Words.{Reads};
+ghost use Rattle.operator_words.specs.Reading.{Reads};
 
 use super::fitted::{byte, count, weight};
 use host_calls::OperatorCall;

@@ -1,6 +1,7 @@
 // The call that words spell.
 ghost use Rattle.std.specs.Prelude.{◌≡◌, [], ◌∷◌, map, Ok, IfOk, IfErr};
-ghost use Rattle.operator_words.specs.Words.{words_of, Fits, Reads};
+ghost use Rattle.operator_words.specs.Reading.{Reads};
+ghost use Rattle.operator_words.specs.Words.{words_of, Fits};
 
 use super::fault::WordFault;
 use super::named::{group_drop, group_make, redo, set_weight, switch, undo};
