@@ -1,0 +1,6 @@
+pub mod Fields
+pub mod Kinds
+pub mod FieldLaws
+pub mod KindLaws
+pub mod Client
+pub mod ClientLaws
