@@ -4,3 +4,5 @@ pub mod FieldLaws
 pub mod KindLaws
 pub mod Client
 pub mod ClientLaws
+pub mod Operator
+pub mod OperatorLaws

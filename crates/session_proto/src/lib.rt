@@ -55,5 +55,7 @@
 
 mod client;
 mod fields;
+mod operator;
 
 pub use client::Client;
+pub use operator::Operator;
