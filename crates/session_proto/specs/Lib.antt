@@ -6,3 +6,5 @@ pub mod Client
 pub mod ClientLaws
 pub mod Operator
 pub mod OperatorLaws
+pub mod Host
+pub mod HostLaws

@@ -55,7 +55,9 @@
 
 mod client;
 mod fields;
+mod host;
 mod operator;
 
 pub use client::Client;
+pub use host::Host;
 pub use operator::Operator;
