@@ -1,5 +1,5 @@
 -- The laws of a client's side.
-use Rattle.std.proofs.Common.{◌≡◌, ℕ, ◌+◌, ◌^◌, ◌<◌, ◌≤◌, List, [], ◌∷◌, ◌++◌, length, Result, Ok, Err, refl, sym, ap, subst, ◌∙◌, append_assoc, cond, leb, arith}
+use Rattle.std.proofs.Common.{◌≡◌, ℕ, ◌^◌, ◌<◌, ◌≤◌, List, [], ◌∷◌, ◌++◌, length, Ok, Err, refl, sym, ap, subst, ◌∙◌, append_assoc, cond, leb, arith}
 use Rattle.std.specs.Int.{w8, w16, w64}
 use Rattle.std.proofs.lemmas.Bool.{leb-true, le-leb}
 use Rattle.std.proofs.lemmas.List.{append-nil, length-append}
@@ -9,12 +9,11 @@ use Rattle.plain_machine.specs.declared.step.Why.TheVariants.{Ended}
 use Rattle.host_calls.specs.declared.client.ClientCall.{ClientCall}
 use Rattle.host_calls.specs.declared.client.ClientCall.TheVariants.{Attach, Submit, Reap, Leave}
 use Rattle.frame_stream.specs.Frame.{IsBytes}
-use Rattle.frame_stream.specs.declared.fault.Fault.{Fault}
 use Rattle.frame_stream.specs.declared.fault.Fault.TheVariants.{BadBody}
 use Rattle.session_proto.specs.declared.client.Client.{Client}
 use Rattle.session_proto.specs.Kinds.{read_by}
 use Rattle.session_proto.specs.Fields.{◌>>=◌, big_endian, number_at, ended}
-use Rattle.session_proto.specs.FieldLaws.{wide8, wide16, wide64, bind_ok, test_ok, done, ok_value, number_is, number_again, last_again, ended_is, ended_again}
+use Rattle.session_proto.specs.FieldLaws.{wide8, wide16, wide64, bind_ok, test_ok, done, ok_value, number_is, number_again, ended_is, ended_again}
 use Rattle.session_proto.specs.KindLaws.{Spells, read_spells, none_spells, one_spells, one_again, two_spells, two_again}
 use Rattle.session_proto.specs.Client.{client_body, SpanFits, ClientFits, client_at, client_kinds, span_bytes, span_at, attach_at, fetch_at, store_at, reap_at}
 
