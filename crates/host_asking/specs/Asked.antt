@@ -1,6 +1,6 @@
 -- A call's frame written, and the one reply to it read.
-use Rattle.std.specs.Prelude.{◌≡◌, ℕ, ◌<◌, ◌≤◌, List, [], ◌++◌, length, Result, Ok, Err, Option, ◌⊎◌}
-use Rattle.std.specs.Io.KnownBytes.{Keeps, Appends, Consumes, IsAtEnd}
+use Rattle.std.specs.Prelude.{◌≡◌, ℕ, ◌<◌, ◌≤◌, List, ◌++◌, length, Result, Ok, Err, Option, ◌⊎◌}
+use Rattle.std.specs.Io.KnownBytes.{Appends, Consumes, IsAtEnd}
 use Rattle.frame_stream.specs.Frame.{framed}
 use Rattle.frame_stream.specs.Reading.{next_of}
 use Rattle.frame_stream.specs.declared.fault.Fault.{Fault}

@@ -25,3 +25,5 @@ mod sending;
 pub use asking::ask;
 pub use fault::AskFault;
 
+#[cfg(test)]
+mod tests;

@@ -29,11 +29,13 @@ pub fn receive<H: Side, R: Read>(alloc: Global, reader: &mut R) -> Result<H, Ask
         }
         let fed = feeder.feed(alloc, &piece[..count])?;
         let fault = fed.fault;
-        if let Some(reply) = fed.values.into_iter().next() {
-            return Ok(reply);
-        }
-        if fault.is_some() {
-            return Err(AskFault::Frame);
+        match fed.values.into_iter().next() {
+            Some(reply) => return Ok(reply),
+            None => {
+                if fault.is_some() {
+                    return Err(AskFault::Frame);
+                }
+            }
         }
     }
 }
