@@ -1,5 +1,5 @@
 -- A call's frame written, and the one reply to it read.
-use Rattle.std.specs.Prelude.{◌≡◌, ℕ, ◌<◌, ◌≤◌, List, ◌++◌, length, Result, Ok, Err, Option, ◌⊎◌}
+use Rattle.std.specs.Prelude.{◌≡◌, ℕ, ◌<◌, ◌≤◌, List, ◌++◌, length, Bool, true, false, Result, Ok, Err, Option, ◌⊎◌}
 use Rattle.std.specs.Io.KnownBytes.{Appends, Consumes, IsAtEnd}
 use Rattle.frame_stream.specs.Frame.{framed}
 use Rattle.frame_stream.specs.Reading.{next_of}
@@ -17,16 +17,14 @@ Known = Option (List ℕ)
 abbrev pub most_piece : ℕ
 most_piece = 4096
 
--- only a front of the frame was written, which may be all of it: then the flush failed (our profile)
+-- only a front of the bytes was written, which may be all of them: then the flush failed (our profile)
 abbrev pub WroteFront : Known → Known → List ℕ → Type 0
-WroteFront w0 w1 frame = (front : List ℕ) × (unwritten : List ℕ) × (frame ≡ front ++ unwritten) × Appends w0 w1 front
+WroteFront w0 w1 bytes = (front : List ℕ) × (unwritten : List ℕ) × (bytes ≡ front ++ unwritten) × Appends w0 w1 front
 
--- how the sending of a frame ends: it was written whole, or the connection failed (our profile)
-abbrev pub Sends : {T : Type 0} → Known → Known → List ℕ → Result T AskFault → Type 0
-Sends w0 w1 frame (Ok u) = Appends w0 w1 frame
-Sends w0 w1 frame (Err Socket) = WroteFront w0 w1 frame
-Sends w0 w1 frame (Err Frame) = ⊥
-Sends w0 w1 frame (Err OutOfMemory) = ⊥
+-- all of the bytes were written, or only a front of them
+abbrev pub IsWritten : Known → Known → List ℕ → Bool → Type 0
+IsWritten w0 w1 bytes true = Appends w0 w1 bytes
+IsWritten w0 w1 bytes false = WroteFront w0 w1 bytes
 
 -- these bytes were read, all but the last piece of which no frame was whole: nothing is read once it is known
 -- what the bytes begin with (our profile)

@@ -4,7 +4,7 @@ ghost use Rattle.host_asking.specs.Asked.{Ends};
 
 use crate::fault::AskFault;
 use crate::receiving::receive;
-use crate::sending::send;
+use crate::writing::write_flushed;
 use frame_stream::{Side, encode};
 use std::alloc::Global;
 use std::io::{Read, Write};
@@ -27,6 +27,8 @@ pub fn ask<C: Side, H: Side, R: Read, W: Write>(
         (W.contents writer.old) (W.contents writer.new) (framed (C.body call.now)) result }
 {
     let frame = encode(alloc, call)?;
-    send(writer, frame.as_slice())?;
+    if !write_flushed(writer, frame.as_slice()) {
+        return Err(AskFault::Socket);
+    }
     receive(alloc, reader)
 }

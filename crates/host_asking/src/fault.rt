@@ -1,5 +1,6 @@
 // Why a call got no reply.
 ghost use Rattle.std.specs.Prelude.{◌≡◌, Some, codes};
+ghost use Rattle.host_asking.specs.Fault.{text_of};
 ghost use Rattle.host_asking.specs.declared.fault.AskFault.TheVariants.{Socket, Frame, OutOfMemory};
 
 use std::alloc::AllocError;
@@ -18,6 +19,8 @@ pub enum AskFault {
 }
 
 impl fmt::Display for AskFault {
+    ghost output = { λ fault. Some (text_of fault) };
+
     fn fmt<W: fmt::Write>(&self, f: &mut fmt::Formatter<W>) -> fmt::Result {
         match self {
             AskFault::Socket => write!(f, "the connection failed"),

@@ -4,6 +4,7 @@
 //! | call | rule that it meets |
 //! |---|---|
 //! | [`ask`] | a reply only if the call's frame was written whole, and the bytes read begin with the reply's frame |
+//! | [`write_flushed`] | all of the bytes are written, or only a front of them |
 //!
 //! What calls and replies are is said by two sides of a protocol, of `frame_stream`. No thread and no handle is known here:
 //! the reader and the writer may be the two directions of a socket, or bytes in memory.
@@ -20,10 +21,11 @@
 mod asking;
 mod fault;
 mod receiving;
-mod sending;
+mod writing;
 
 pub use asking::ask;
 pub use fault::AskFault;
+pub use writing::write_flushed;
 
 #[cfg(test)]
 mod tests;
