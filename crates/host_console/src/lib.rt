@@ -9,7 +9,7 @@
 //! | `Keeps` | what a keeper must offer to be run from a script |
 //!
 //! The rules stand in `specs/`: `Printed` says for each line which call it is and what it prints, and `Texts` has
-//! the texts of the answers, of groups and of entities.
+//! the texts of groups and of entities. `answer_text` has those of answers.
 //!
 //! ```text
 //! attach 0 0 4        // attached 1
@@ -22,7 +22,6 @@
 //! entity 17           // entity 17 idle 0 0 200 4096 0
 //! ```
 
-mod answer;
 mod asked;
 mod content;
 mod filled;
@@ -35,7 +34,7 @@ mod submit;
 mod teller;
 mod work;
 
-pub use answer::put_answer;
+pub use answer_text::put_answer;
 pub use content::Content;
 pub use keeps::Keeps;
 pub use run::run_keeper;

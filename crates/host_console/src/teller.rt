@@ -4,10 +4,10 @@ ghost use Rattle.script_run.specs.Script.{MayHaveRun};
 ghost use Rattle.host_console.specs.Printed.{AnswersOver, Looks, Prints, asked, outcome_of, sectors_in_flight, ended, sector_text, queue_text, cursor_text, group_text, known_text};
 
 use crate::Keeps;
-use crate::answer::put_answer;
 use crate::asked::call_of;
 use crate::filled::sectors_of;
 use crate::query::{put_cursor, put_entity, put_queue, put_sector, put_vtime};
+use answer_text::put_answer;
 use base_image::Image;
 use plain_machine::{Call, Step};
 use script_line::{Ending, Line};
