@@ -1,4 +1,5 @@
 pub mod Numbers
+pub mod NumberLaws
 pub mod Step
 pub mod Keeper
 pub mod Requests

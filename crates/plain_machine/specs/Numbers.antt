@@ -1,5 +1,5 @@
 -- The numbers that a client reads (our profile).
-use Rattle.std.specs.Prelude.{ℕ}
+use Rattle.std.specs.Prelude.{ℕ, ◌==◌, List, [], ◌∷◌, Option, find}
 use Rattle.plain_machine.specs.declared.answer.Code.{Code}
 use Rattle.plain_machine.specs.declared.answer.Code.TheVariants.{BadSeat, SeatTaken, NoSession, StaleSession, NoGroup, RootGroup, BadWeight, BadPrio, TooDeep, GroupsFull, GroupInUse, BadCount, BadLength, OutOfRange, TooManyBios, NothingOwed, NothingQueued, NoTag, BadTag, NotInFlight, BadOutcome, AlreadyFrozen, NotFrozen, NotDrained, SameScheduler, NoneInService, VtimeFull, NotHeld, AlreadyHeld, ZeroCount, NothingToUndo, NothingToRedo, HistoryFull, OutOfMemory, BadWorker}
 use Rattle.plain_machine.specs.declared.answer.Cause.{Cause}
@@ -48,3 +48,24 @@ cause_number Frozen = 42
 cause_number RequestsFull = 43
 cause_number NotCompleted = 44
 cause_number NothingToTake = 45
+
+-- every code (our profile)
+abbrev pub all_codes : List Code
+all_codes =
+    BadSeat ∷ SeatTaken ∷ NoSession ∷ StaleSession ∷ NoGroup ∷ RootGroup ∷ BadWeight ∷ BadPrio ∷ TooDeep ∷
+    GroupsFull ∷ GroupInUse ∷ BadCount ∷ BadLength ∷ OutOfRange ∷ TooManyBios ∷ NothingOwed ∷ NothingQueued ∷ NoTag ∷
+    BadTag ∷ NotInFlight ∷ BadOutcome ∷ AlreadyFrozen ∷ NotFrozen ∷ NotDrained ∷ SameScheduler ∷ NoneInService ∷
+    VtimeFull ∷ NotHeld ∷ AlreadyHeld ∷ ZeroCount ∷ NothingToUndo ∷ NothingToRedo ∷ HistoryFull ∷ OutOfMemory ∷
+    BadWorker ∷ []
+
+-- the code whose number it is, or none (our profile)
+unfoldable pub code_of_number : ℕ → Option Code
+code_of_number number = find (λ code. code_number code == number) all_codes
+
+-- every cause (our profile)
+abbrev pub all_causes : List Cause
+all_causes = Held ∷ Frozen ∷ RequestsFull ∷ NotCompleted ∷ NothingToTake ∷ []
+
+-- the cause whose number it is, or none (our profile)
+unfoldable pub cause_of_number : ℕ → Option Cause
+cause_of_number number = find (λ cause. cause_number cause == number) all_causes

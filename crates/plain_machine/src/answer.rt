@@ -1,4 +1,9 @@
 // What a call is answered.
+ghost use Rattle.std.specs.Prelude.{◌≡◌, IfSome};
+ghost use Rattle.plain_machine.specs.Numbers.{code_number, code_of_number, cause_number, cause_of_number};
+ghost use Rattle.plain_machine.specs.declared.answer.Code.{Code};
+ghost use Rattle.plain_machine.specs.declared.answer.Cause.{Cause};
+
 use sector_core::{BioResult, Op, Range};
 
 /// Why a call is refused; nothing has changed then.
@@ -162,9 +167,6 @@ pub enum Answer {
 }
 
 impl Code {
-    ghost use Rattle.std.specs.Prelude.{◌≡◌};
-    ghost use Rattle.plain_machine.specs.Numbers.{code_number};
-
     /// Its number, 1 to 35.
     pub fn number(self) -> u8
         ensures { result ≡ code_number self }
@@ -207,12 +209,18 @@ impl Code {
             Code::BadWorker => 35,
         }
     }
+
+    /// The code whose number it is, or none.
+    pub fn of_number(number: u8) -> Option<Code>
+        ensures is { result ≡ code_of_number number }
+        ensures found { IfSome result (λ code. code_number code ≡ number) }
+        ensures only { (code : Code) → code_number code ≡ number → result ≡ Some code }
+    {
+        code_of(number)
+    }
 }
 
 impl Cause {
-    ghost use Rattle.std.specs.Prelude.{◌≡◌};
-    ghost use Rattle.plain_machine.specs.Numbers.{cause_number};
-
     /// Its number, 41 to 45.
     pub fn number(self) -> u8
         ensures { result ≡ cause_number self }
@@ -224,5 +232,74 @@ impl Cause {
             Cause::NotCompleted => 44,
             Cause::NothingToTake => 45,
         }
+    }
+
+    /// The cause whose number it is, or none.
+    pub fn of_number(number: u8) -> Option<Cause>
+        ensures is { result ≡ cause_of_number number }
+        ensures found { IfSome result (λ cause. cause_number cause ≡ number) }
+        ensures only { (cause : Cause) → cause_number cause ≡ number → result ≡ Some cause }
+    {
+        cause_of(number)
+    }
+}
+
+// The code whose number it is, by cases.
+#[tactic(auto, unfolding(crate::specs::Numbers::code_of_number))]
+fn code_of(number: u8) -> Option<Code>
+    ensures { result ≡ code_of_number number }
+{
+    match number {
+        1 => Some(Code::BadSeat),
+        2 => Some(Code::SeatTaken),
+        3 => Some(Code::NoSession),
+        4 => Some(Code::StaleSession),
+        5 => Some(Code::NoGroup),
+        6 => Some(Code::RootGroup),
+        7 => Some(Code::BadWeight),
+        8 => Some(Code::BadPrio),
+        9 => Some(Code::TooDeep),
+        10 => Some(Code::GroupsFull),
+        11 => Some(Code::GroupInUse),
+        12 => Some(Code::BadCount),
+        13 => Some(Code::BadLength),
+        14 => Some(Code::OutOfRange),
+        15 => Some(Code::TooManyBios),
+        16 => Some(Code::NothingOwed),
+        17 => Some(Code::NothingQueued),
+        18 => Some(Code::NoTag),
+        19 => Some(Code::BadTag),
+        20 => Some(Code::NotInFlight),
+        21 => Some(Code::BadOutcome),
+        22 => Some(Code::AlreadyFrozen),
+        23 => Some(Code::NotFrozen),
+        24 => Some(Code::NotDrained),
+        25 => Some(Code::SameScheduler),
+        26 => Some(Code::NoneInService),
+        27 => Some(Code::VtimeFull),
+        28 => Some(Code::NotHeld),
+        29 => Some(Code::AlreadyHeld),
+        30 => Some(Code::ZeroCount),
+        31 => Some(Code::NothingToUndo),
+        32 => Some(Code::NothingToRedo),
+        33 => Some(Code::HistoryFull),
+        34 => Some(Code::OutOfMemory),
+        35 => Some(Code::BadWorker),
+        0 | 36.. => None,
+    }
+}
+
+// The cause whose number it is, by cases.
+#[tactic(auto, unfolding(crate::specs::Numbers::cause_of_number))]
+fn cause_of(number: u8) -> Option<Cause>
+    ensures { result ≡ cause_of_number number }
+{
+    match number {
+        41 => Some(Cause::Held),
+        42 => Some(Cause::Frozen),
+        43 => Some(Cause::RequestsFull),
+        44 => Some(Cause::NotCompleted),
+        45 => Some(Cause::NothingToTake),
+        0..=40 | 46.. => None,
     }
 }

@@ -10,6 +10,7 @@
 //! | call | rule that it meets |
 //! |---|---|
 //! | [`Code::number`], [`Cause::number`] | the numbers that a client reads |
+//! | [`Code::of_number`], [`Cause::of_number`] | what such a number tells, and none for any other number |
 //! | [`DeviceCall::into_step`] | the step that a device's call asks for |
 //! | [`unreaped_is_owed`] | the law of the seats' running counters: the bios queued, in the dispatch list, in flight and in the outbox |
 //! | [`requests_are_whole`], [`requests_stay_whole`] | the law of requests: 1 to 32 adjacent bios, at most 256 sectors |

@@ -1,0 +1,10 @@
+pub mod Fields
+pub mod Kinds
+pub mod FieldLaws
+pub mod KindLaws
+pub mod Client
+pub mod ClientLaws
+pub mod Operator
+pub mod OperatorLaws
+pub mod Host
+pub mod HostLaws

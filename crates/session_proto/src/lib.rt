@@ -1,0 +1,63 @@
+#![tactic(auto)]
+//! The three sides of the host's protocol, in version 1: what clients send, what the operator sends, and what the host sends.
+//!
+//! Each side is a type that is a [`Side`](frame_stream::Side): `ClientCall`, `OperatorCall` and `RingReply`. `encode`, `decode`
+//! and `Feeder` of `frame_stream` make and read its frames. A body is a byte of kind and the fields behind it, nothing more. A
+//! number has its most significant byte first. Lengths count the kind, and not the four bytes of length in front.
+//!
+//! | kind | `ClientCall` | fields | length |
+//! |---|---|---|---|
+//! | 01 | Attach | group 1 byte, priority 1 byte | 3 |
+//! | 02 | Submit, a fetch | session 8, first sector 8, count of sectors 2 | 19 |
+//! | 03 | Submit, a store | session 8, first sector 8, count of sectors 2, payload 0 to 32,768 | 19 to 32,787 |
+//! | 04 | Reap | session 8 | 9 |
+//! | 05 | Leave, with Ended | none | 1 |
+//!
+//! | kind | `OperatorCall` | fields | length |
+//! |---|---|---|---|
+//! | 11 | GroupMake | parent 1, weight 2 | 4 |
+//! | 12 | GroupDrop | group 1 | 2 |
+//! | 13 | SetWeight | group 1, weight 2 | 4 |
+//! | 14, 15 | Freeze, Thaw | none | 1 |
+//! | 16 | Switch | 0 for none or 1 for bfq 1 | 2 |
+//! | 17, 18, 19 | Tick, Hold, Release | none | 1 |
+//! | 1a, 1b | Undo, Redo | steps 4 | 5 |
+//! | 1c | Stop | none | 1 |
+//!
+//! | kind | `RingReply` | fields | length |
+//! |---|---|---|---|
+//! | 81 | Attached | session 8 | 9 |
+//! | 82 | Queued | bio 8 | 9 |
+//! | 83 | Completed, read | bio 8, the bytes of 1 to 64 sectors, 512 for each | 9 and the bytes |
+//! | 84 | Completed, written | bio 8 | 9 |
+//! | 85 | Completed, error | bio 8, 1 for short or 2 for fault 1 | 10 |
+//! | 86 | Left | none | 1 |
+//! | 91 | Group | number 1 | 2 |
+//! | 92 | Done | none | 1 |
+//! | 93 | Moved | cursor 4, length of the line 4 | 9 |
+//! | 9f | Closed | none | 1 |
+//! | e0 | Refused | code 1, 1 to 35 | 2 |
+//! | e1 | NotYet | cause 1, 41 to 45 | 2 |
+//!
+//! A kind that the side does not have is `BadKind`. Another length than the kind's is `BadBody`, and so is a named field with
+//! another value. A store whose payload does not fit its count is a value: the machine refuses the call. Replies to the
+//! dispatcher and to devices have no frame.
+//!
+//! ```text
+//! encode(alloc, &ClientCall::Attach { group: 0, prio: 4 })           // Ok of 00 00 00 03 01 00 04
+//! encode(alloc, &OperatorCall::Undo { k: 2 })                        // Ok of 00 00 00 05 1a 00 00 00 02
+//! decode::<RingReply>(alloc, &[0, 0, 0, 2, 0xe0, 20])                // Ok(Answer(Refused(NotInFlight)))
+//! decode::<RingReply>(alloc, &[0, 0, 0, 2, 0xe0, 36])                // Err(Fault(BadBody))
+//! ```
+//!
+//! Another version of a side is a type of its own. Another kind is an arm in `put_body` and in `read_body`, a reader, and in
+//! `specs/` a row of the side's kinds with two lemmas: that what it spells is read again, and that nothing else is.
+
+mod client;
+mod fields;
+mod host;
+mod operator;
+
+pub use client::Client;
+pub use host::Host;
+pub use operator::Operator;
