@@ -1,13 +1,15 @@
 #!/usr/bin/env python3
-"""Proves libraries side by side, if they are missing or older than what they are made of; and builds the program.
+"""Proves libraries side by side, if they are missing or older than what they are made of; and builds a program.
 
-    tests/build.py [CRATE..]
+    tests/build.py [--program NAME] [CRATE..]
 
 Proved are those of the crates that are named and all that they stand on; with no name, all that the program stands on, and then
-the program. The toolchain lets only one run at a time work over the same library. So each library is proved in a copy of what it
-reads, and what was made is moved into the checkout. On standard error stand how long it may take, and each crate as it begins.
+the program, which is bfqhost where none is named. The toolchain lets only one run at a time work over the same library. So each
+library is proved in a copy of what it reads, and what was made is moved into the checkout. On standard error stand how long it
+may take, and each crate as it begins.
 """
 
+import argparse
 import fcntl
 import os
 import re
@@ -21,7 +23,7 @@ from pathlib import Path
 
 from checkout import CRATES, TOP, below, copy_for, crate_lines
 
-PROGRAM = "bfqhost"
+PROGRAMS = ["bfqhost", "bfqctl"]
 # What all crates took by docs/GATE.md, in minutes by the clock times processors.
 MINUTES_OF_ALL = 55
 
@@ -51,7 +53,7 @@ def made(name):
 def stale(names, lines):
     """The libraries of these crates and below them that are missing, or older than their sources or than one below, lowest first."""
     found = []
-    for name in dict.fromkeys(it for name in names for it in [*below(name, lines), name] if it != PROGRAM):
+    for name in dict.fromkeys(it for name in names for it in [*below(name, lines), name] if it not in PROGRAMS):
         newest = max([it.stat().st_mtime for it in sources(name)] + [made(it) for it in below(name, lines)])
         if not made(name) or made(name) < newest or any(it in found for it in below(name, lines)):
             found.append(name)
@@ -109,11 +111,11 @@ def prove_all(left, lines):
     return None
 
 
-def build_program(began):
-    """Proves and builds the program over its libraries, which began at this time. Gives what was said where none results."""
-    program = CRATES / PROGRAM / "out" / PROGRAM
-    tell("proving and building the program")
-    status, said = run(["rt", "run", "--jobs", str(lanes()), "--", "--help"], CRATES / PROGRAM)
+def build_program(name, began):
+    """Proves and builds a program over its libraries, which began at this time. Gives what was said where none results."""
+    program = CRATES / name / "out" / name
+    tell(f"proving and building the program {name}")
+    status, said = run(["rt", "run", "--jobs", str(lanes()), "--", "--help"], CRATES / name)
     if status or not program.exists():
         return f"{said}bfqhost: no program was built"
     os.utime(program, (began, began))
@@ -121,15 +123,19 @@ def build_program(began):
 
 
 def main():
+    words = argparse.ArgumentParser(description=__doc__, formatter_class=argparse.RawDescriptionHelpFormatter)
+    words.add_argument("--program", choices=PROGRAMS, default=PROGRAMS[0])
+    words.add_argument("crates", nargs="*", metavar="CRATE")
+    given = words.parse_args()
     with open(TOP / "crates.txt", encoding="utf-8") as lock:
         # One build at a time.
         fcntl.flock(lock, fcntl.LOCK_EX)
-        lines, named, began = crate_lines(), sys.argv[1:], time.time()
-        left = stale(named or [PROGRAM], lines)
+        lines, began = crate_lines(), time.time()
+        left = stale(given.crates or [given.program], lines)
         if left:
             minutes = MINUTES_OF_ALL * len(left) / len(lines) / lanes()
             tell(f"libraries to be proved first: {len(left)}, which may take {max(1, round(minutes))} minutes on {lanes()} processors")
-        return prove_all(left, lines) or (None if named else build_program(began))
+        return prove_all(left, lines) or (None if given.crates else build_program(given.program, began))
 
 
 if __name__ == "__main__":

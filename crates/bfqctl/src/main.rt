@@ -1,0 +1,33 @@
+#![tactic(auto)]
+//! `bfqctl`: one call of the operator, made to a host that serves, and its answer printed.
+//!
+//! | module | what it has |
+//! |---|---|
+//! | `words` | the words of the command line: `clap` reads the options, `operator_words` the call |
+//! | `help` | what `--help` prints |
+//! | `start` | from the words to the status |
+//!
+//! ```text
+//! bfqctl --socket DIR/operator undo 2
+//! ```
+//!
+//! | status | | standard output | standard error |
+//! |---|---|---|---|
+//! | 0 | the call was accepted, or the host has ended after `stop` | the answer's text | |
+//! | 1 | it was refused, it cannot be done yet, or the host has ended after another call | the answer's text | |
+//! | 2 | bad words | | `words: refused` |
+//! | 3 | the connection failed | | `socket: failed` |
+//! | 3 | what came back is no reply | | `frame: bad` |
+//! | 4 | a write to standard output failed | | |
+//! | 5 | no memory | | `memory: none` |
+
+mod help;
+mod start;
+mod words;
+
+use start::start;
+use std::process::ExitCode;
+
+fn main(rt: HostRuntime) -> ExitCode {
+    ExitCode::from(start(&rt))
+}

@@ -1,0 +1,5 @@
+// One call asked of memory, of an example of a side.
+
+mod asked;
+mod fakes;
+mod letter;
