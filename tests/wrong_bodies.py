@@ -16,7 +16,7 @@ import tempfile
 import time
 from concurrent.futures import ThreadPoolExecutor, as_completed
 
-from build import PROGRAM, lanes, stale
+from build import PROGRAMS, lanes, stale
 from checkout import CRATES, TOP, below, copy_for, crate_lines
 from twins import Crate, has_twin, read_edit
 
@@ -47,7 +47,7 @@ def trial(name, texts, lines, keeps_on):
     with contextlib.suppress(TimeoutError), tempfile.TemporaryDirectory(prefix="wrong-bodies-") as folder:
         crate = Crate(copy_for(name, lines, folder) if keeps_on() else CRATES / name, keeps_on)
         # A library was proved by the build just now.
-        if stale([name], lines) or name == PROGRAM and crate.check({})[0] != 0:
+        if stale([name], lines) or name in PROGRAMS and crate.check({})[0] != 0:
             return {}, {it: "not tried, as the crate is not proved without it" for it in texts}
         for it, text in texts.items():
             try:
