@@ -5,7 +5,9 @@ statuses come from the rules of frames, texts and command words (docs/FORMATS.md
 """
 
 import contextlib
+import functools
 import os
+import resource
 import socket
 import subprocess
 import tempfile
@@ -22,6 +24,7 @@ SECONDS = 20
 NOT_DONE = 1
 BAD_WORDS = 2
 NO_ANSWER = 3
+NO_MEMORY = 5
 
 SOCKET = b"socket: failed\n"
 FRAME = b"frame: bad\n"
@@ -221,39 +224,61 @@ class Server(threading.Thread):
         self.join(SECONDS)
 
 
-def faults_of(program, run, folder):
-    """What a run did in another way than wanted."""
+def meet(program, run, folder, limit=resource.RLIM_INFINITY):
+    """What the program writes to standard output and standard error, its status, and what the server read; within so much memory."""
     path = os.path.join(folder, "operator")
     server = Server(path, run)
     server.start()
     words = [word.replace("PATH", path) for word in run.words]
     stdout = open("/dev/full", "wb") if run.writes_to_full else subprocess.PIPE
     try:
-        ended = subprocess.run([program, *words], stdin=subprocess.DEVNULL, stdout=stdout, stderr=subprocess.PIPE, timeout=SECONDS, check=False)
-    except subprocess.TimeoutExpired:
-        return [f"no end within {SECONDS} seconds"]
+        ended = subprocess.run([program, *words], stdin=subprocess.DEVNULL, stdout=stdout, stderr=subprocess.PIPE, timeout=SECONDS,
+                               preexec_fn=lambda: resource.setrlimit(resource.RLIMIT_AS, (limit, limit)), check=False)
     finally:
         server.end()
         os.unlink(path)
         if run.writes_to_full:
             stdout.close()
-    faults, output = [], ended.stdout or b""
-    if not (output.startswith(run.stdout) if run.begins else output == run.stdout):
-        faults.append(f"standard output is {output[:80]!r} and not {run.stdout[:80]!r}")
-    if ended.stderr != run.stderr:
-        faults.append(f"standard error is {ended.stderr[:80]!r} and not {run.stderr!r}")
-    if ended.returncode != run.status:
-        faults.append(f"the status is {ended.returncode} and not {run.status}")
-    if server.read != run.asked:
-        faults.append(f"the server read {server.read!r} and not {run.asked!r}")
+    return ended.stdout or b"", ended.stderr, ended.returncode, server.read
+
+
+def faults_of(program, run, folder):
+    """What a run did in another way than wanted."""
+    stdout, stderr, status, read = meet(program, run, folder)
+    faults = []
+    if not (stdout.startswith(run.stdout) if run.begins else stdout == run.stdout):
+        faults.append(f"standard output is {stdout[:80]!r} and not {run.stdout[:80]!r}")
+    if stderr != run.stderr:
+        faults.append(f"standard error is {stderr[:80]!r} and not {run.stderr!r}")
+    if status != run.status:
+        faults.append(f"the status is {status} and not {run.status}")
+    if read != run.asked:
+        faults.append(f"the server read {read!r} and not {run.asked!r}")
     return faults
+
+
+def with_little_memory(program, folder):
+    """Under a small limit the program does not start, and under a larger one it finds no memory; then it makes its call."""
+    run, wanting = OTHERS[0], False
+    for limit in range(1 << 20, 1 << 26, 1 << 14):
+        stdout, stderr, status, read = meet(program, run, folder, limit)
+        if status == NO_MEMORY:
+            wanting = True
+            if stdout or stderr != b"memory: none\n" or read not in (None, run.asked):
+                return [f"with {limit} bytes stand {stdout!r} and {stderr!r}, and the server read {read!r}"]
+        elif status == DONE:
+            return [] if wanting and stdout == run.stdout else [f"with {limit} bytes stands {stdout!r}; met before: {wanting}"]
+        elif wanting:
+            return [f"with {limit} bytes the status is {status}"]
+    return ["the program never makes its call"]
 
 
 def operator_runs(program):
     """The name of each run with what was wrong with it."""
     with tempfile.TemporaryDirectory() as folder:
-        for run in [*COMMANDS, *ANSWERS, *WORDS, *OTHERS]:
+        runs = [(run.name, functools.partial(faults_of, program, run, folder)) for run in [*COMMANDS, *ANSWERS, *WORDS, *OTHERS]]
+        for name, faults in [*runs, ("little memory", functools.partial(with_little_memory, program, folder))]:
             try:
-                yield f"bfqctl: {run.name}", faults_of(program, run, folder)
-            except OSError as fault:
-                yield f"bfqctl: {run.name}", [str(fault)]
+                yield f"bfqctl: {name}", faults()
+            except (OSError, subprocess.SubprocessError) as fault:
+                yield f"bfqctl: {name}", [str(fault)]

@@ -1,7 +1,6 @@
 // From the words of the command line to the status.
-ghost use Rattle.std.specs.Prelude.{◌≡◌, ◌×◌};
+ghost use Rattle.std.specs.Prelude.{◌≡◌};
 ghost use Rattle.operator_asking.specs.Ending.{status_of};
-ghost use Rattle.operator_asking.specs.declared.ending.CallEnd.{CallEnd};
 
 use crate::help::help_text;
 use crate::words::{Request, request_of};
@@ -63,7 +62,13 @@ fn run(rt: &(impl Net + AllocGlobal + Print), path: &str, call: OperatorCall) ->
         Err(error) if error.kind() == ErrorKind::OutOfMemory => return CallEnd::OutOfMemory,
         Err(_) => return CallEnd::Socket,
     };
-    run_call(rt.alloc(), &mut &stream, &mut &stream, &mut io::writer(rt), call)
+    run_call(
+        rt.alloc(),
+        &mut &stream,
+        &mut &stream,
+        &mut io::writer(rt),
+        call,
+    )
 }
 
 // The status of an end. What no answer's text tells stands on standard error.

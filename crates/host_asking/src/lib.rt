@@ -26,6 +26,3 @@ mod writing;
 pub use asking::ask;
 pub use fault::AskFault;
 pub use writing::write_flushed;
-
-#[cfg(test)]
-mod tests;

@@ -10,13 +10,20 @@ use Rattle.host_asking.specs.declared.fault.AskFault.{AskFault}
 use Rattle.host_asking.specs.declared.fault.AskFault.TheVariants as fault
 use Rattle.session_proto.specs.Operator.{operator_body}
 use Rattle.session_proto.specs.Host.{host_body, HostFits, host_at}
+use Rattle.session_proto.specs.declared.host.Host.{Host}
 use Rattle.operator_asking.specs.Ending.{end_of}
 use Rattle.operator_asking.specs.declared.ending.CallEnd.{CallEnd}
 use Rattle.operator_asking.specs.declared.ending.CallEnd.TheVariants.{Done, Refused, Socket, Frame, WriteFault, OutOfMemory}
 
+-- a reply as the host's side of the protocol has it
+abbrev pub of_host : Result RingReply AskFault → Result Host AskFault
+of_host (Ok reply) = Ok (record { 0 = reply })
+of_host (Err f) = Err f
+
 -- the call is asked in the operator's frames and answered in the host's (our format)
 abbrev pub Asks : Known → Known → Known → Known → OperatorCall → Result RingReply AskFault → Type 0
-Asks r0 r1 w0 w1 call outcome = Ends host_body HostFits host_at 32787 r0 r1 w0 w1 (framed (operator_body call)) outcome
+Asks r0 r1 w0 w1 call outcome =
+    Ends (λ (h : Host). host_body h.0) (λ (h : Host). HostFits h.0) host_at 32787 r0 r1 w0 w1 (framed (operator_body call)) (of_host outcome)
 
 -- the line that is printed for a reply (our format)
 abbrev pub line_of : RingReply → List ℕ

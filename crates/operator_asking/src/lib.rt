@@ -26,6 +26,3 @@ pub use asking::ask_host;
 pub use ending::{CallEnd, status};
 pub use host_asking::AskFault;
 pub use running::run_call;
-
-#[cfg(test)]
-mod tests;

@@ -4,7 +4,6 @@ use answer_text::put_ring_reply;
 use host_calls::OperatorCall;
 use operator_asking::{AskFault, CallEnd, ask_host, run_call, status};
 use std::alloc::Global;
-use std::io::ErrorKind;
 use std::test::Fail;
 
 // Undo 2, and Moved 3 of 5.
@@ -15,13 +14,12 @@ const MOVED: &[u8] = &[0, 0, 0, 9, 0x93, 0, 0, 0, 3, 0, 0, 0, 5];
 const CALL: OperatorCall = OperatorCall::Undo { k: 2 };
 
 // Gives the bytes one by one; the read `fails_at`, counted from 1, fails.
-fn reader(bytes: &[u8], fails_at: u64) -> Pieces<'_> {
+fn reader(bytes: &[u8], fails_at: usize) -> Pieces<'_> {
     Pieces {
         bytes,
         step: 1,
         calls: 0,
         fails_at,
-        kind: ErrorKind::Interrupted,
     }
 }
 
@@ -32,8 +30,7 @@ fn writer(alloc: Global, room: usize) -> Narrow {
         step: 2,
         room,
         is_silent: false,
-        flushes: 0,
-        flush_fails_at: 0,
+        is_stuck: false,
         flushed: 0,
     }
 }
@@ -55,7 +52,7 @@ fn undo_is_answered(rt: HostRuntime) -> Result<(), Fail> {
 }
 
 // The fault of the call where a read or a write fails, or none where it is answered.
-fn fault(alloc: Global, bytes: &[u8], fails_at: u64, room: usize) -> Option<AskFault> {
+fn fault(alloc: Global, bytes: &[u8], fails_at: usize, room: usize) -> Option<AskFault> {
     let mut from = reader(bytes, fails_at);
     ask_host(alloc, &mut from, &mut writer(alloc, room), CALL).err()
 }
@@ -64,14 +61,26 @@ fn fault(alloc: Global, bytes: &[u8], fails_at: u64, room: usize) -> Option<AskF
 fn fails_at_each_byte(rt: HostRuntime) {
     let alloc = rt.alloc();
     for room in 0..9usize {
-        assert_eq!(rt; fault(alloc, MOVED, 0, room), Some(AskFault::Socket), "room for {room}");
+        assert_eq!(rt;
+            fault(alloc, MOVED, 0, room),
+            Some(AskFault::Socket),
+            "room for {room}"
+        );
     }
-    for at in 1..14u64 {
-        assert_eq!(rt; fault(alloc, MOVED, at, 9), Some(AskFault::Socket), "read {at}");
+    for at in 1..14usize {
+        assert_eq!(rt;
+            fault(alloc, MOVED, at, 9),
+            Some(AskFault::Socket),
+            "read {at}"
+        );
     }
     for at in 0..13usize {
         let (front, _) = MOVED.split_at(at);
-        assert_eq!(rt; fault(alloc, front, 0, 9), Some(AskFault::Frame), "an end after {at}");
+        assert_eq!(rt;
+            fault(alloc, front, 0, 9),
+            Some(AskFault::Frame),
+            "an end after {at}"
+        );
     }
     assert_eq!(rt; fault(alloc, MOVED, 0, 9), None);
 }
@@ -79,7 +88,13 @@ fn fails_at_each_byte(rt: HostRuntime) {
 // How the run of a call ends, and what it printed into so much room.
 fn run(alloc: Global, bytes: &[u8], call: OperatorCall, room: usize) -> (CallEnd, Vec<u8>) {
     let mut output = writer(alloc, room);
-    let end = run_call(alloc, &mut reader(bytes, 0), &mut writer(alloc, 9), &mut output, call);
+    let end = run_call(
+        alloc,
+        &mut reader(bytes, 0),
+        &mut writer(alloc, 9),
+        &mut output,
+        call,
+    );
     (end, output.taken)
 }
 
@@ -87,14 +102,62 @@ fn run(alloc: Global, bytes: &[u8], call: OperatorCall, room: usize) -> (CallEnd
 fn ends_by_what_was_answered(rt: HostRuntime) {
     for (bytes, call, end, code, text) in [
         (MOVED, CALL, CallEnd::Done, 0, b"moved 3 5\n".as_slice()),
-        ([0, 0, 0, 2, 0xe0, 20].as_slice(), CALL, CallEnd::Refused, 1, b"refused 20\n".as_slice()),
-        ([0, 0, 0, 2, 0xe1, 41].as_slice(), CALL, CallEnd::Refused, 1, b"notyet 41\n".as_slice()),
-        ([0, 0, 0, 1, 0x9f].as_slice(), CALL, CallEnd::Refused, 1, b"closed\n".as_slice()),
-        ([0, 0, 0, 1, 0x9f].as_slice(), OperatorCall::Stop, CallEnd::Done, 0, b"closed\n".as_slice()),
-        ([0, 0, 0, 1, 0x92].as_slice(), OperatorCall::Stop, CallEnd::Done, 0, b"done\n".as_slice()),
-        ([0, 0, 0, 2, 0xe0, 34].as_slice(), OperatorCall::Stop, CallEnd::Refused, 1, b"refused 34\n".as_slice()),
-        ([0, 0, 0, 1, 0x14].as_slice(), CALL, CallEnd::Frame, 3, b"".as_slice()),
-        ([0, 0, 0].as_slice(), CALL, CallEnd::Frame, 3, b"".as_slice()),
+        (
+            [0, 0, 0, 2, 0xe0, 20].as_slice(),
+            CALL,
+            CallEnd::Refused,
+            1,
+            b"refused 20\n".as_slice(),
+        ),
+        (
+            [0, 0, 0, 2, 0xe1, 41].as_slice(),
+            CALL,
+            CallEnd::Refused,
+            1,
+            b"notyet 41\n".as_slice(),
+        ),
+        (
+            [0, 0, 0, 1, 0x9f].as_slice(),
+            CALL,
+            CallEnd::Refused,
+            1,
+            b"closed\n".as_slice(),
+        ),
+        (
+            [0, 0, 0, 1, 0x9f].as_slice(),
+            OperatorCall::Stop,
+            CallEnd::Done,
+            0,
+            b"closed\n".as_slice(),
+        ),
+        (
+            [0, 0, 0, 1, 0x92].as_slice(),
+            OperatorCall::Stop,
+            CallEnd::Done,
+            0,
+            b"done\n".as_slice(),
+        ),
+        (
+            [0, 0, 0, 2, 0xe0, 34].as_slice(),
+            OperatorCall::Stop,
+            CallEnd::Refused,
+            1,
+            b"refused 34\n".as_slice(),
+        ),
+        (
+            [0, 0, 0, 1, 0x14].as_slice(),
+            CALL,
+            CallEnd::Frame,
+            3,
+            b"".as_slice(),
+        ),
+        (
+            [0, 0, 0].as_slice(),
+            CALL,
+            CallEnd::Frame,
+            3,
+            b"".as_slice(),
+        ),
     ] {
         let (ended, printed) = run(rt.alloc(), bytes, call, 4096);
         assert_eq!(rt; ended, end, "{bytes:?}");

@@ -1,9 +1,8 @@
-// Calls asked over memory.
+// Calls asked over memory, of an example of a side.
 
-use super::fakes::{Narrow, Pieces};
-use super::letter::Letter;
-use crate::asking::ask;
-use crate::fault::AskFault;
+use crate::fakes::{Narrow, Pieces};
+use crate::letter::Letter;
+use host_asking::{AskFault, ask};
 use std::alloc::Global;
 use std::test::Fail;
 
