@@ -4,7 +4,7 @@ ghost use Rattle.std.specs.Option.{option_copied};
 ghost use Rattle.change_record.specs.Tables.{empty_tables, empty_service};
 ghost use Rattle.std.specs.FinMap as map;
 ghost use Rattle.overlay.specs.Blocks.{exchanged};
-ghost use Rattle.change_record.specs.Exchange.{after, left_by, AddsBlock, FitsAt, FitsIn, tree_of, with_member, with_vtime};
+ghost use Rattle.change_record.specs.Exchange.{IsOfRequests, IsOfScheduler, after, left_by, AddsBlock, FitsAt, FitsIn, tree_of, with_member, with_vtime};
 
 use crate::{Change, InService, Making, Outbox, Seat};
 use arrayvec::ArrayVec;
@@ -249,6 +249,34 @@ impl Parts {
     {
         match change {
             Change::Sector { sector, block } => exchange_block(&mut self.overlay, *sector, block)?,
+            Change::RequestSlot { .. }
+            | Change::BioSlot { .. }
+            | Change::Tag { .. }
+            | Change::QueueLink { .. }
+            | Change::OutboxWhole { .. }
+            | Change::SeatEntry { .. }
+            | Change::Requeued { .. } => self.turn_of_requests(change),
+            Change::Mode { .. }
+            | Change::Head { .. }
+            | Change::TreeMember { .. }
+            | Change::Vtime { .. }
+            | Change::GroupEntry { .. }
+            | Change::Pending { .. }
+            | Change::Budget { .. }
+            | Change::Serving { .. } => self.turn_of_scheduler(change),
+        }
+        self.turns = self.turns.wrapping_add(1);
+        Ok(())
+    }
+
+    // Turns a change of where requests, their bios and sessions stand. It takes no memory.
+    fn turn_of_requests(&mut self, change: &mut Change)
+        requires { IsOfRequests change.old }
+        ensures tables { self.new.tables ≡ after self.old.tables change.old }
+        ensures left { change.new ≡ left_by self.old.tables change.old }
+        ensures turns { self.new.turns ≡ self.old.turns }
+    {
+        match change {
             Change::RequestSlot { slot, request } => {
                 let given = request.take();
                 *request = self.pool.exchange_request(*slot, given);
@@ -262,6 +290,26 @@ impl Parts {
             Change::OutboxWhole { seat, outbox } => swap_at(&mut self.outboxes, *seat, outbox),
             Change::SeatEntry { seat, entry } => swap_at(&mut self.seats, *seat, entry),
             Change::Requeued { slot, link } => exchange_link(&mut self.requeued, *slot, link),
+            Change::Sector { .. }
+            | Change::Mode { .. }
+            | Change::Head { .. }
+            | Change::TreeMember { .. }
+            | Change::Vtime { .. }
+            | Change::GroupEntry { .. }
+            | Change::Pending { .. }
+            | Change::Budget { .. }
+            | Change::Serving { .. } => {}
+        }
+    }
+
+    // Turns a change of what the scheduler knows. It takes no memory.
+    fn turn_of_scheduler(&mut self, change: &mut Change)
+        requires { IsOfScheduler change.old }
+        ensures tables { self.new.tables ≡ after self.old.tables change.old }
+        ensures left { change.new ≡ left_by self.old.tables change.old }
+        ensures turns { self.new.turns ≡ self.old.turns }
+    {
+        match change {
             Change::Mode {
                 scheduler,
                 frozen,
@@ -284,9 +332,15 @@ impl Parts {
             Change::Pending { entity, weight } => swap_at(&mut self.weights, *entity, weight),
             Change::Budget { entity, budget } => swap_at(&mut self.budgets, *entity, budget),
             Change::Serving { slot } => mem::swap(&mut self.slot, slot),
+            Change::Sector { .. }
+            | Change::RequestSlot { .. }
+            | Change::BioSlot { .. }
+            | Change::Tag { .. }
+            | Change::QueueLink { .. }
+            | Change::OutboxWhole { .. }
+            | Change::SeatEntry { .. }
+            | Change::Requeued { .. } => {}
         }
-        self.turns = self.turns.wrapping_add(1);
-        Ok(())
     }
 }
 
