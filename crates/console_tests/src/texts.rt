@@ -1,7 +1,9 @@
 // The printed texts, at a keeper that counts its calls.
 use crate::full::Full;
+use answer_text::put_ring_reply;
 use base_image::ZeroImage;
 use bytes::Bytes;
+use host_calls::RingReply;
 use host_console::{Teller, put_answer, run_keeper};
 use plain_machine::{Answer, Cause, Code, Reply, Work};
 use script_run::ScriptEnd;
@@ -92,6 +94,25 @@ fn answers(rt: HostRuntime) -> Result<(), Fail> {
         (Answer::NotYet(Cause::NotCompleted), "> notyet 44"),
     ] {
         let out = text_after(rt.alloc(), &answer)?;
+        assert_eq!(rt; out.as_slice(), text.as_bytes(), "{text}");
+    }
+    Ok(())
+}
+
+// What a seat is answered, after what stands there.
+#[test]
+fn replies(rt: HostRuntime) -> Result<(), Fail> {
+    let attached = accepted(Reply::Attached { session: 1 });
+    for (reply, text) in [
+        (RingReply::Answer(attached), "> attached 1"),
+        (
+            RingReply::Answer(Answer::Refused(Code::BadSeat)),
+            "> refused 1",
+        ),
+        (RingReply::Closed, "> closed"),
+    ] {
+        let mut out = b"> ".to_vec(rt.alloc())?;
+        put_ring_reply(&reply, &mut out)?;
         assert_eq!(rt; out.as_slice(), text.as_bytes(), "{text}");
     }
     Ok(())

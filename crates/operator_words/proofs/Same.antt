@@ -1,6 +1,5 @@
 -- Two calls that have the same words are equal.
 use Rattle.std.proofs.Common.{◌≡◌, ℕ, ◌+◌, ◌*◌, List, [], ◌∷◌, refl, ap, arith}
-use Rattle.std.specs.Fmt.{decimal}
 use Rattle.sector_core.specs.declared.config.Scheduler.{Scheduler}
 use Rattle.sector_core.specs.declared.config.Scheduler.TheVariants.{Plain, Bfq}
 use Rattle.host_calls.specs.declared.operator.OperatorCall.{OperatorCall}

@@ -7,7 +7,8 @@ use super::fault::WordFault;
 use super::named::{group_drop, group_make, redo, set_weight, switch, undo};
 use host_calls::OperatorCall;
 
-/// The call that has these words: its name, and then what it is given. It takes no memory.
+/// The call that has these words: its name, and then what it is given. It takes no memory, so the only fault is
+/// [`WordFault::Usage`].
 pub fn words_to_call(words: &[&str]) -> Result<OperatorCall, WordFault>
     ensures found { IfOk result (λ call. Fits call × (map (λ word. word.now) words.now ≡ words_of call)) }
     ensures only { (call : OperatorCall) → Fits call → map (λ word. word.now) words.now ≡ words_of call
@@ -21,6 +22,7 @@ pub fn words_to_call(words: &[&str]) -> Result<OperatorCall, WordFault>
     }
 }
 
+// The call that has these words. Each call has one to three.
 fn call_of(words: &[&str]) -> Option<OperatorCall>
     ensures { Reads (map (λ word. word.now) words.now) result }
 {
@@ -32,6 +34,7 @@ fn call_of(words: &[&str]) -> Option<OperatorCall>
     }
 }
 
+// The call that is a name alone.
 fn with_none(name: &[u8]) -> Option<OperatorCall>
     ensures { Reads (name.now ∷ []) result }
 {
@@ -52,6 +55,7 @@ fn with_none(name: &[u8]) -> Option<OperatorCall>
     }
 }
 
+// The call that is a name and one word.
 fn with_one(name: &[u8], first: &[u8]) -> Option<OperatorCall>
     ensures { Reads (name.now ∷ first.now ∷ []) result }
 {
@@ -68,6 +72,7 @@ fn with_one(name: &[u8], first: &[u8]) -> Option<OperatorCall>
     }
 }
 
+// The call that is a name and two words.
 fn with_two(name: &[u8], first: &[u8], second: &[u8]) -> Option<OperatorCall>
     ensures { Reads (name.now ∷ first.now ∷ second.now ∷ []) result }
 {
