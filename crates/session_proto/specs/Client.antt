@@ -37,6 +37,7 @@ ClientFits (Submit session Store range payload) = SpanFits session range × (len
 ClientFits (Reap session) = session < 2 ^ 64
 ClientFits (Leave why) = why ≡ Ended
 
+-- an Attach: a byte of group and one of priority (our format)
 unfoldable pub attach_at : List ℕ → Result ClientCall Fault
 attach_at fields = do
   group ← number_at w8 fields
@@ -51,17 +52,19 @@ span_at fields = do
   count ← number_at w16 start.1
   Ok (session.0, record { start = start.0; count = count.0 }, count.1)
 
+-- a fetch: no payload follows (our format)
 unfoldable pub fetch_at : List ℕ → Result ClientCall Fault
 fetch_at fields = do
   span ← span_at fields
   ended (Submit span.0 Fetch span.1 []) span.2
 
--- all that follows is the payload (our format)
+-- a store: all that follows is the payload, of at most 64 sectors (our format)
 unfoldable pub store_at : List ℕ → Result ClientCall Fault
 store_at fields = do
   span ← span_at fields
   if nat_le (length span.2) 32768 then Ok (Submit span.0 Store span.1 span.2) else Err BadBody
 
+-- a Reap: the session's name (our format)
 unfoldable pub reap_at : List ℕ → Result ClientCall Fault
 reap_at fields = do
   session ← number_at w64 fields

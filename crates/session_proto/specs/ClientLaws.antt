@@ -1,5 +1,5 @@
 -- The laws of a client's side.
-use Rattle.std.proofs.Common.{◌≡◌, ℕ, ◌+◌, ◌^◌, ◌<◌, ◌≤◌, List, [], ◌∷◌, ◌++◌, length, Result, Ok, Err, refl, sym, ap, subst, ◌∙◌, append_assoc, cond, leb, arith}
+use Rattle.std.proofs.Common.{◌≡◌, ℕ, ◌^◌, ◌<◌, ◌≤◌, List, [], ◌∷◌, ◌++◌, length, Ok, Err, refl, sym, ap, subst, ◌∙◌, append_assoc, cond, leb, arith}
 use Rattle.std.specs.Int.{w8, w16, w64}
 use Rattle.std.proofs.lemmas.Bool.{leb-true, le-leb}
 use Rattle.std.proofs.lemmas.List.{append-nil, length-append}
@@ -9,13 +9,12 @@ use Rattle.plain_machine.specs.declared.step.Why.TheVariants.{Ended}
 use Rattle.host_calls.specs.declared.client.ClientCall.{ClientCall}
 use Rattle.host_calls.specs.declared.client.ClientCall.TheVariants.{Attach, Submit, Reap, Leave}
 use Rattle.frame_stream.specs.Frame.{IsBytes}
-use Rattle.frame_stream.specs.declared.fault.Fault.{Fault}
 use Rattle.frame_stream.specs.declared.fault.Fault.TheVariants.{BadBody}
 use Rattle.session_proto.specs.declared.client.Client.{Client}
 use Rattle.session_proto.specs.Kinds.{read_by}
 use Rattle.session_proto.specs.Fields.{◌>>=◌, big_endian, number_at, ended}
-use Rattle.session_proto.specs.FieldLaws.{wide8, wide16, wide64, bind_ok, test_ok, done, ok_value, number_is, number_again, last_again, ended_is, ended_again}
-use Rattle.session_proto.specs.KindLaws.{Spells, read_spells, none_spells, one_spells, one_again, two_spells, two_again}
+use Rattle.session_proto.specs.FieldLaws.{wide8, wide16, wide64, bind_ok, test_ok, done, ok_value, number_is, number_again, ended_is, ended_again}
+use Rattle.session_proto.specs.KindLaws.{Spells, ◌&◌, side_spells, none_spells, one_spells, one_again, two_spells, two_again}
 use Rattle.session_proto.specs.Client.{client_body, SpanFits, ClientFits, client_at, client_kinds, span_bytes, span_at, attach_at, fetch_at, store_at, reap_at}
 
 -- ---- a submit's session and sectors
@@ -44,6 +43,17 @@ record IsSpan (fields : List ℕ) (session : ℕ) (range : Range) (rest : List �
   pub does_fit : SpanFits session range
   pub parts : fields ≡ span_bytes session range ++ rest
 
+span_parts : (fields : List ℕ) (session start count : ℕ) (a b rest : List ℕ)
+    → fields ≡ big_endian w64 session ++ a → a ≡ big_endian w64 start ++ b → b ≡ big_endian w16 count ++ rest
+    → fields ≡ span_bytes session (record { start = start; count = count }) ++ rest
+unfolding span_bytes
+span_parts fields session start count a b rest first second third =
+    let session_bytes = big_endian w64 session in
+    let start_bytes = big_endian w64 start in
+    let count_bytes = big_endian w16 count in
+    first ∙ ap (λ (y : List ℕ). session_bytes ++ y) (second ∙ ap (λ (y : List ℕ). start_bytes ++ y) third)
+    ∙ sym (append_assoc session_bytes start_bytes (count_bytes ++ rest)) ∙ sym (append_assoc (session_bytes ++ start_bytes) count_bytes rest)
+
 span_is : (fields : List ℕ) (x : ℕ × Range × List ℕ) → IsBytes fields → span_at fields ≡ Ok x → IsSpan fields x.0 x.1 x.2
 unfolding span_bytes span_at
 span_is fields x are e =
@@ -53,9 +63,9 @@ span_is fields x are e =
     let t = number_is w64 (2 ^ 64) wide64 a.0.1 b.0 s.are b.1 in
     let d = bind_ok (number_at w16 b.0.1) (λ c. Ok (a.0.0, record { start = b.0.0; count = c.0 }, c.1)) x b.2 in
     let c = number_is w16 (2 ^ 16) wide16 b.0.1 d.0 t.are d.1 in
-    let whole : fields ≡ ((big_endian w64 a.0.0 ++ big_endian w64 b.0.0) ++ big_endian w16 d.0.0) ++ d.0.1 =
-    rw (append_assoc, append_assoc) (s.parts ∙ ap (λ (y : List ℕ). big_endian w64 a.0.0 ++ y) (t.parts ∙ ap (λ (y : List ℕ). big_endian w64 b.0.0 ++ y) c.parts)) in
-    subst (λ (y : ℕ × Range × List ℕ). IsSpan fields y.0 y.1 y.2) (ok_value _ _ d.2) (record { does_fit = (s.below, t.below, c.below); parts = whole })
+    let parts = span_parts fields a.0.0 b.0.0 d.0.0 a.0.1 b.0.1 d.0.1 s.parts t.parts c.parts in
+    let same = ok_value (a.0.0, record { start = b.0.0; count = d.0.0 }, d.0.1) x d.2 in
+    subst (λ (y : ℕ × Range × List ℕ). IsSpan fields y.0 y.1 y.2) same (record { does_fit = (s.below, t.below, c.below); parts = parts })
 
 -- ---- kinds
 
@@ -78,7 +88,7 @@ store_spells fields v are e =
     let b = bind_ok (span_at fields) (λ s. cond (leb (length s.2) 32768) (Ok (Submit s.0 Store s.1 s.2)) (Err BadBody)) v e in
     let s = span_is fields b.0 are b.1 in
     let t = test_ok (leb (length b.0.2) 32768) BadBody (Submit b.0.0 Store b.0.1 b.0.2) v b.2 in
-    subst (λ x. ClientFits x × (0x03 ∷ fields ≡ client_body x)) t.1 ((s.does_fit, leb-true _ _ t.0), ap (λ (x : List ℕ). 0x03 ∷ x) s.parts)
+    subst (λ x. ClientFits x × (0x03 ∷ fields ≡ client_body x)) t.1 ((s.does_fit, leb-true (length b.0.2) 32768 t.0), ap (λ (x : List ℕ). 0x03 ∷ x) s.parts)
 
 reap_spells : Spells client_body ClientFits 0x04 reap_at
 unfolding reap_at
@@ -90,9 +100,9 @@ leave_spells = none_spells client_body ClientFits 0x05 (Leave Ended) refl refl
 pub client_spelled : (bytes : List ℕ) (v : Client) → IsBytes bytes → length bytes ≤ 32787 → client_at bytes ≡ Ok v → ClientFits v.0 × (bytes ≡ client_body v.0)
 unfolding client_at
 client_spelled bytes v are few e =
-    let b = bind_ok (read_by client_kinds bytes) (λ call. Ok (record { 0 = call })) v e in
-    let found = read_spells client_body ClientFits client_kinds (attach_spells, (fetch_spells, (store_spells, (reap_spells, (leave_spells, tt))))) bytes b.0 are b.1 in
-    subst (λ (w : Client). ClientFits w.0 × (bytes ≡ client_body w.0)) (ok_value _ _ b.2) found
+    side_spells client_body ClientFits client_kinds
+    (attach_spells & fetch_spells & store_spells & reap_spells & leave_spells & tt)
+    (λ call. record { 0 = call }) (λ v. v.0) (λ call. refl) bytes v are e
 
 -- ---- read again
 

@@ -68,6 +68,7 @@ ReplyNumbersFit Done = Unit {0}
 ReplyNumbersFit (Moved cursor steps) = (cursor < 2 ^ 32) × (steps < 2 ^ 32)
 ReplyNumbersFit (Taken work) = Unit {0}
 
+-- so it is with the reply of an accepted call, and no other answer has a number of any size
 abbrev pub NumbersFit : RingReply → Type 0
 NumbersFit (Answer answer) = IfAccepted ReplyNumbersFit answer
 NumbersFit Closed = Unit {0}
@@ -76,15 +77,17 @@ NumbersFit Closed = Unit {0}
 abbrev pub HostFits : RingReply → Type 0
 HostFits reply = HasFrame reply × NumbersFit reply
 
--- what the fields say of an accepted call
+-- the answer that a call is accepted
 abbrev pub accepted : Reply → RingReply
 accepted reply = Answer (Accepted reply)
 
+-- an Attached: the session's name (our format)
 unfoldable pub attached_at : List ℕ → Result RingReply Fault
 attached_at fields = do
   session ← number_at w64 fields
   ended (accepted (Attached session.0)) session.1
 
+-- a Queued: the bio's name (our format)
 unfoldable pub queued_at : List ℕ → Result RingReply Fault
 queued_at fields = do
   bio ← number_at w64 fields
@@ -94,17 +97,19 @@ queued_at fields = do
 unfoldable pub is_sectors : List ℕ → Bool
 is_sectors bytes = nat_lt 0 (length bytes) && nat_le (length bytes) 32768 && length bytes % 512 == 0
 
--- all that follows are the bytes that were read
+-- a Completed, read: the bio's name, and all that follows are the bytes that were read (our format)
 unfoldable pub read_at : List ℕ → Result RingReply Fault
 read_at fields = do
   bio ← number_at w64 fields
   if is_sectors bio.1 then Ok (accepted (Completed bio.0 (Read bio.1))) else Err BadBody
 
+-- a Completed, written: the bio's name (our format)
 unfoldable pub written_at : List ℕ → Result RingReply Fault
 written_at fields = do
   bio ← number_at w64 fields
   ended (accepted (Completed bio.0 Written)) bio.1
 
+-- a Completed, error: the bio's name, and how the device failed in a byte (our format)
 unfoldable pub error_at : List ℕ → Result RingReply Fault
 error_at fields = do
   bio ← number_at w64 fields
@@ -112,23 +117,27 @@ error_at fields = do
   kind ← named (fail_of_number number.0)
   ended (accepted (Completed bio.0 (IoError kind))) number.1
 
+-- a Group: its number in a byte (our format)
 unfoldable pub group_at : List ℕ → Result RingReply Fault
 group_at fields = do
   number ← number_at w8 fields
   ended (accepted (Group number.0)) number.1
 
+-- a Moved: four bytes of cursor and four of the length of the line (our format)
 unfoldable pub moved_at : List ℕ → Result RingReply Fault
 moved_at fields = do
   cursor ← number_at w32 fields
   steps ← number_at w32 cursor.1
   ended (accepted (Moved cursor.0 steps.0)) steps.1
 
+-- a Refused: the code's number in a byte (our format)
 unfoldable pub refused_at : List ℕ → Result RingReply Fault
 refused_at fields = do
   number ← number_at w8 fields
   code ← named (code_of_number number.0)
   ended (Answer (Refused code)) number.1
 
+-- a NotYet: the cause's number in a byte (our format)
 unfoldable pub not_yet_at : List ℕ → Result RingReply Fault
 not_yet_at fields = do
   number ← number_at w8 fields

@@ -1,10 +1,9 @@
 -- The laws of the host's side.
-use Rattle.std.proofs.Common.{◌≡◌, ℕ, ◌+◌, ◌*◌, ◌/◌, ◌%◌, ◌^◌, ◌<◌, ◌≤◌, Bool, true, false, List, [], ◌∷◌, ◌++◌, length, Option, Some, None, Result, Ok, Err, refl, sym, ap, subst, ◌∙◌, cond, eqb, ltb, leb, arith}
+use Rattle.std.proofs.Common.{◌≡◌, ℕ, ◌/◌, ◌%◌, ◌^◌, ◌<◌, ◌≤◌, Bool, true, false, List, [], ◌∷◌, ◌++◌, length, Some, Ok, Err, refl, sym, ap, subst, ◌∙◌, cond, eqb, ltb, leb, arith}
 use Rattle.std.specs.Prelude.{◌&&◌}
 use Rattle.std.specs.Int.{w8, w32, w64}
 use Rattle.std.proofs.lemmas.Bool.{eqb-true, eq-eqb, ltb-true, lt-ltb, leb-true, le-leb}
 use Rattle.std.proofs.lemmas.List.{append-nil, length-append}
-use Rattle.sector_core.specs.declared.bio.BioResult.{BioResult}
 use Rattle.sector_core.specs.declared.bio.BioResult.TheVariants.{Read, Written, IoError}
 use Rattle.sector_core.specs.declared.bio.FailKind.{FailKind}
 use Rattle.sector_core.specs.declared.bio.FailKind.TheVariants.{Short, Fault as Faulty}
@@ -14,20 +13,18 @@ use Rattle.plain_machine.specs.declared.answer.Code.{Code}
 use Rattle.plain_machine.specs.declared.answer.Code.TheVariants.{BadSeat}
 use Rattle.plain_machine.specs.declared.answer.Cause.{Cause}
 use Rattle.plain_machine.specs.declared.answer.Cause.TheVariants.{Held}
-use Rattle.plain_machine.specs.declared.answer.Reply.{Reply}
 use Rattle.plain_machine.specs.declared.answer.Reply.TheVariants.{Attached, Queued, Completed, Left, Issued, Finished, Requeued, Group, Done, Moved, Taken}
 use Rattle.plain_machine.specs.declared.answer.Answer.TheVariants.{Accepted, Refused, NotYet}
 use Rattle.host_calls.specs.Frames.{ResultHasFrame}
 use Rattle.host_calls.specs.declared.ring.RingReply.{RingReply}
 use Rattle.host_calls.specs.declared.ring.RingReply.TheVariants.{Answer, Closed}
 use Rattle.frame_stream.specs.Frame.{IsBytes}
-use Rattle.frame_stream.specs.declared.fault.Fault.{Fault}
 use Rattle.frame_stream.specs.declared.fault.Fault.TheVariants.{BadBody}
 use Rattle.session_proto.specs.declared.host.Host.{Host}
 use Rattle.session_proto.specs.Kinds.{read_by}
 use Rattle.session_proto.specs.Fields.{◌>>=◌, big_endian, number_at, ended, named}
-use Rattle.session_proto.specs.FieldLaws.{wide8, wide32, wide64, bind_ok, test_ok, ok_value, number_is, number_again, last_again, ended_is, ended_again, named_is, named_of_two}
-use Rattle.session_proto.specs.KindLaws.{Spells, read_spells, none_spells, one_spells, one_again, two_spells, two_again, named_spells, named_again}
+use Rattle.session_proto.specs.FieldLaws.{wide8, wide32, wide64, bind_ok, test_ok, number_is, number_again, last_again, ended_is, ended_again, named_is, named_of_two}
+use Rattle.session_proto.specs.KindLaws.{Spells, ◌&◌, side_spells, none_spells, one_spells, one_again, two_spells, two_again, named_spells, named_again}
 use Rattle.session_proto.specs.Host.{host_body, HostFits, host_kinds, host_at, accepted, is_sectors, fail_number, fail_of_number, attached_at, queued_at, read_at, written_at, error_at, group_at, moved_at, refused_at, not_yet_at}
 
 -- ---- numbers that name
@@ -65,9 +62,9 @@ sectors_is bytes e =
     let n = length bytes in
     let outer = both_true (ltb 0 n && leb n 32768) (eqb (n % 512) 0) e in
     let inner = both_true (ltb 0 n) (leb n 32768) outer.0 in
-    let some : 0 < n = ltb-true _ _ inner.0 in
-    let few : n ≤ 32768 = leb-true _ _ inner.1 in
-    let even : n % 512 ≡ 0 = eqb-true _ _ outer.1 in
+    let some : 0 < n = ltb-true 0 n inner.0 in
+    let few : n ≤ 32768 = leb-true n 32768 inner.1 in
+    let even : n % 512 ≡ 0 = eqb-true (n % 512) 0 outer.1 in
     (n / 512, omega (arith, some, even), omega (arith, few, even), omega (arith, even))
 
 is_sectors-true : (bytes : List ℕ) → ResultHasFrame (Read bytes) → is_sectors bytes ≡ true
@@ -148,12 +145,10 @@ bare kind v does is = none_spells host_body HostFits kind v does is
 pub host_spelled : (bytes : List ℕ) (v : Host) → IsBytes bytes → length bytes ≤ 32787 → host_at bytes ≡ Ok v → HostFits v.0 × (bytes ≡ host_body v.0)
 unfolding host_at
 host_spelled bytes v are few e =
-    let b = bind_ok (read_by host_kinds bytes) (λ reply. Ok (record { 0 = reply })) v e in
-    let found = read_spells host_body HostFits host_kinds (
-      attached_spells, (queued_spells, (read_kind_spells, (written_spells, (error_spells, (bare 0x86 (accepted Left) (tt, tt) refl, (group_spells,
-      (bare 0x92 (accepted Done) (tt, tt) refl, (moved_spells, (bare 0x9f Closed (tt, tt) refl, (refused_spells, (not_yet_spells, tt)))))))))))
-    ) bytes b.0 are b.1 in
-    subst (λ (w : Host). HostFits w.0 × (bytes ≡ host_body w.0)) (ok_value _ _ b.2) found
+    side_spells host_body HostFits host_kinds
+    (attached_spells & queued_spells & read_kind_spells & written_spells & error_spells & bare 0x86 (accepted Left) (tt, tt) refl
+    & group_spells & bare 0x92 (accepted Done) (tt, tt) refl & moved_spells & bare 0x9f Closed (tt, tt) refl & refused_spells & not_yet_spells & tt)
+    (λ reply. record { 0 = reply }) (λ v. v.0) (λ reply. refl) bytes v are e
 
 -- ---- read again
 
@@ -178,7 +173,7 @@ unfolding error_at
 error_again bio kind lt =
     let k = fail_number kind in
     rw (number_again w64 (2 ^ 64) wide64 bio (big_endian w8 k) lt, last_again w8 (2 ^ 8) wide8 k (fail_number-below kind), fail_of_number-number kind)
-      (ended_again (an_error bio kind))
+    (ended_again (an_error bio kind))
 
 group_again : (number : ℕ) → number < 2 ^ 8 → group_at (big_endian w8 number) ≡ Ok (accepted (Group number))
 unfolding group_at

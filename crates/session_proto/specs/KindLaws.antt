@@ -1,5 +1,5 @@
 -- Kinds of the common forms: their values are read again, and nothing else is read.
-use Rattle.std.proofs.Common.{◌≡◌, ℕ, ◌^◌, ◌<◌, Bool, true, false, cond, eqb, ◌⊎◌, inl, inr, List, [], ◌∷◌, ◌++◌, Option, Some, None, Result, Ok, Err, refl, sym, ap, subst, ◌∙◌, append_assoc}
+use Rattle.std.proofs.Common.{◌≡◌, ℕ, ◌^◌, ◌<◌, Bool, true, false, cond, eqb, ◌⊎◌, inl, inr, List, [], ◌∷◌, ◌++◌, Option, Some, Result, Ok, Err, refl, sym, ap, subst, ◌∙◌}
 use Rattle.std.specs.Int.{Width, w8}
 use Rattle.std.proofs.lemmas.Bool.{eqb-true, ne_eqb}
 use Rattle.std.proofs.lemmas.List.{append-nil}
@@ -7,7 +7,7 @@ use Rattle.frame_stream.specs.Frame.{IsBytes}
 use Rattle.frame_stream.specs.declared.fault.Fault.{Fault}
 use Rattle.frame_stream.specs.declared.fault.Fault.TheVariants.{BadKind}
 use Rattle.session_proto.specs.Fields.{◌>>=◌, big_endian, number_at, ended, named}
-use Rattle.session_proto.specs.FieldLaws.{IsWide, wide8, IsBytes-rest, bind_ok, number_is, number_again, last_again, ended_is, ended_again, named_is}
+use Rattle.session_proto.specs.FieldLaws.{IsWide, wide8, IsBytes-rest, bind_ok, ok_value, number_is, number_again, last_again, ended_is, ended_again, named_is}
 use Rattle.session_proto.specs.Kinds.{said_by, read_by}
 
 -- ---- the table of kinds
@@ -20,6 +20,11 @@ Spells {T} body fits kind at = (fields : List ℕ) (v : T) → IsBytes fields �
 abbrev pub AllSpell : {T : Type 0} → (T → List ℕ) → (T → Type 0) → List (ℕ × (List ℕ → Result T Fault)) → Type 0
 AllSpell body fits [] = Unit {0}
 AllSpell body fits (k ∷ ks) = Spells body fits k.0 k.1 × AllSpell body fits ks
+
+-- this kind, and the others of the table
+infixr 10 ◌&◌
+abbrev pub ◌&◌ : {A B : Type 0} → A → B → A × B
+a & b = (a, b)
 
 chosen : {T : Type 0} (b : Bool) (r s : Result T Fault) (v : T) → cond b r s ≡ Ok v → ((b ≡ true) × (r ≡ Ok v)) ⊎ (s ≡ Ok v)
 chosen true r s v e = inl (refl, e)
@@ -41,6 +46,16 @@ pub read_spells : {T : Type 0} (body : T → List ℕ) (fits : T → Type 0) (ks
     → (bytes : List ℕ) (v : T) → IsBytes bytes → read_by ks bytes ≡ Ok v → fits v × (bytes ≡ body v)
 read_spells body fits ks all [] v are e = absurd cc
 read_spells body fits ks all (kind ∷ fields) v are e = said_spells body fits ks all kind fields v (IsBytes-rest kind fields are) e
+
+-- so it is for a side that is a struct around such a value
+pub side_spells : {X T : Type 0} (body : X → List ℕ) (fits : X → Type 0) (ks : List (ℕ × (List ℕ → Result X Fault))) → AllSpell body fits ks
+    → (wrap : X → T) (inner : T → X) → ((x : X) → inner (wrap x) ≡ x)
+    → (bytes : List ℕ) (v : T) → IsBytes bytes → (read_by ks bytes >>= λ x. Ok (wrap x)) ≡ Ok v → fits (inner v) × (bytes ≡ body (inner v))
+side_spells body fits ks all wrap inner is bytes v are e =
+    let b = bind_ok (read_by ks bytes) (λ x. Ok (wrap x)) v e in
+    let found = read_spells body fits ks all bytes b.0 are b.1 in
+    let same : b.0 ≡ inner v = sym (is b.0) ∙ ap inner (ok_value (wrap b.0) v b.2) in
+    subst (λ x. fits x × (bytes ≡ body x)) same found
 
 -- the kind is none of the table's
 abbrev pub IsNone : {T : Type 0} → List (ℕ × (List ℕ → Result T Fault)) → ℕ → Type 0

@@ -49,34 +49,40 @@ OperatorFits (Undo k) = k < 2 ^ 32
 OperatorFits (Redo k) = k < 2 ^ 32
 OperatorFits Stop = Unit {0}
 
+-- a GroupMake: a byte of parent and two of weight (our format)
 unfoldable pub group_make_at : List ℕ → Result OperatorCall Fault
 group_make_at fields = do
   parent ← number_at w8 fields
   weight ← number_at w16 parent.1
   ended (GroupMake parent.0 weight.0) weight.1
 
+-- a GroupDrop: a byte of group (our format)
 unfoldable pub group_drop_at : List ℕ → Result OperatorCall Fault
 group_drop_at fields = do
   group ← number_at w8 fields
   ended (GroupDrop group.0) group.1
 
+-- a SetWeight: a byte of group and two of weight (our format)
 unfoldable pub set_weight_at : List ℕ → Result OperatorCall Fault
 set_weight_at fields = do
   group ← number_at w8 fields
   weight ← number_at w16 group.1
   ended (SetWeight group.0 weight.0) weight.1
 
+-- a Switch: the scheduler's number in a byte (our format)
 unfoldable pub switch_at : List ℕ → Result OperatorCall Fault
 switch_at fields = do
   number ← number_at w8 fields
   scheduler ← named (scheduler_of_number number.0)
   ended (Switch scheduler) number.1
 
+-- an Undo: four bytes of steps (our format)
 unfoldable pub undo_at : List ℕ → Result OperatorCall Fault
 undo_at fields = do
   k ← number_at w32 fields
   ended (Undo k.0) k.1
 
+-- a Redo: four bytes of steps (our format)
 unfoldable pub redo_at : List ℕ → Result OperatorCall Fault
 redo_at fields = do
   k ← number_at w32 fields

@@ -1,7 +1,6 @@
 -- The laws of the operator's side.
-use Rattle.std.proofs.Common.{◌≡◌, ℕ, ◌+◌, ◌^◌, ◌<◌, ◌≤◌, Bool, true, false, List, [], ◌∷◌, ◌++◌, length, Option, Some, None, Result, Ok, Err, refl, cond, eqb, sym, subst, arith}
+use Rattle.std.proofs.Common.{◌≡◌, ℕ, ◌^◌, ◌<◌, ◌≤◌, List, [], ◌∷◌, ◌++◌, length, Some, Ok, refl, arith}
 use Rattle.std.specs.Int.{w8, w16, w32}
-use Rattle.std.proofs.lemmas.Bool.{eqb-true}
 use Rattle.std.proofs.lemmas.List.{length-append}
 use Rattle.sector_core.specs.declared.config.Scheduler.{Scheduler}
 use Rattle.sector_core.specs.declared.config.Scheduler.TheVariants.{Plain, Bfq}
@@ -10,9 +9,9 @@ use Rattle.host_calls.specs.declared.operator.OperatorCall.TheVariants.{GroupMak
 use Rattle.frame_stream.specs.Frame.{IsBytes}
 use Rattle.session_proto.specs.declared.operator.Operator.{Operator}
 use Rattle.session_proto.specs.Kinds.{read_by}
-use Rattle.session_proto.specs.Fields.{◌>>=◌, big_endian, ended}
-use Rattle.session_proto.specs.FieldLaws.{bind_ok, ok_value, wide8, wide16, wide32, named_of_two, ended_again}
-use Rattle.session_proto.specs.KindLaws.{Spells, read_spells, none_spells, one_spells, one_again, two_spells, two_again, named_spells, named_again}
+use Rattle.session_proto.specs.Fields.{big_endian, ended}
+use Rattle.session_proto.specs.FieldLaws.{wide8, wide16, wide32, named_of_two, ended_again}
+use Rattle.session_proto.specs.KindLaws.{Spells, ◌&◌, side_spells, none_spells, one_spells, one_again, two_spells, two_again, named_spells, named_again}
 use Rattle.session_proto.specs.Operator.{scheduler_number, scheduler_of_number, operator_body, OperatorFits, operator_kinds, operator_at, group_make_at, group_drop_at, set_weight_at, switch_at, undo_at, redo_at}
 
 -- ---- kinds
@@ -63,12 +62,10 @@ pub operator_spelled : (bytes : List ℕ) (v : Operator) → IsBytes bytes → l
     → OperatorFits v.0 × (bytes ≡ operator_body v.0)
 unfolding operator_at
 operator_spelled bytes v are few e =
-    let b = bind_ok (read_by operator_kinds bytes) (λ call. Ok (record { 0 = call })) v e in
-    let found = read_spells operator_body OperatorFits operator_kinds (
-      group_make_spells, (group_drop_spells, (set_weight_spells, (bare 0x14 Freeze tt refl, (bare 0x15 Thaw tt refl, (switch_spells,
-      (bare 0x17 Tick tt refl, (bare 0x18 Hold tt refl, (bare 0x19 Release tt refl, (undo_spells, (redo_spells, (bare 0x1c Stop tt refl, tt)))))))))))
-    ) bytes b.0 are b.1 in
-    subst (λ (w : Operator). OperatorFits w.0 × (bytes ≡ operator_body w.0)) (ok_value _ _ b.2) found
+    side_spells operator_body OperatorFits operator_kinds
+    (group_make_spells & group_drop_spells & set_weight_spells & bare 0x14 Freeze tt refl & bare 0x15 Thaw tt refl & switch_spells
+    & bare 0x17 Tick tt refl & bare 0x18 Hold tt refl & bare 0x19 Release tt refl & undo_spells & redo_spells & bare 0x1c Stop tt refl & tt)
+    (λ call. record { 0 = call }) (λ v. v.0) (λ call. refl) bytes v are e
 
 -- ---- read again
 

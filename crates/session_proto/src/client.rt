@@ -18,7 +18,10 @@ use std::alloc::{AllocError, Global};
 // The bytes of 64 sectors.
 const MOST_PAYLOAD: usize = 32_768;
 
-/// The side of clients: what a client sends in version 1.
+/// The side of clients in version 1: a call that a client sends.
+///
+/// A fetch with a payload has no frame, nor has a payload of more than 64 sectors, a count of sectors above 65,535, or a
+/// Leave for another cause than that the client has ended.
 #[derive(Debug, Drop)]
 pub struct Client(pub ClientCall);
 
@@ -110,6 +113,8 @@ fn put_span(out: &mut Vec<u8>, session: u64, range: Range) -> Result<(), AllocEr
     put_u64(out, range.start)?;
     put_u16(out, range.count as u16)
 }
+
+// The readers of kinds: each reads its kind's fields, to the end of the body.
 
 #[tactic(auto, unfolding(crate::specs::Client::attach_at))]
 fn attach_of(fields: &[u8]) -> Result<ClientCall, ReadError>

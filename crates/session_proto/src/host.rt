@@ -20,7 +20,9 @@ use std::alloc::{AllocError, Global};
 // The bytes of 64 sectors.
 const MOST_READ: usize = 32_768;
 
-/// The side of the host: what it sends in version 1, to clients and to the operator.
+/// The side of the host in version 1: what it sends to a client or to the operator.
+///
+/// A reply to the dispatcher or to a device has no frame, nor has a read whose bytes are not those of 1 to 64 sectors.
 #[derive(Debug, Drop)]
 pub struct Host(pub RingReply);
 
@@ -165,6 +167,8 @@ fn fail_of(number: u8) -> Option<FailKind>
         _ => None,
     }
 }
+
+// The readers of kinds: each reads its kind's fields, to the end of the body.
 
 #[tactic(auto, unfolding(crate::specs::Host::attached_at))]
 fn attached_of(fields: &[u8]) -> Result<RingReply, ReadError>

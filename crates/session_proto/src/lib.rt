@@ -1,9 +1,18 @@
 #![tactic(auto)]
 //! The three sides of the host's protocol, in version 1: what clients send, what the operator sends, and what the host sends.
 //!
-//! Each side is a type that is a [`Side`](frame_stream::Side): `ClientCall`, `OperatorCall` and `RingReply`. `encode`, `decode`
-//! and `Feeder` of `frame_stream` make and read its frames. A body is a byte of kind and the fields behind it, nothing more. A
-//! number has its most significant byte first. Lengths count the kind, and not the four bytes of length in front.
+//! | type or law | rule that it meets |
+//! |---|---|
+//! | [`Client`] | a `ClientCall` is sent as the bytes of its kind, and these are read as it alone |
+//! | [`Operator`] | so it is with an `OperatorCall` |
+//! | [`Host`] | so it is with a `RingReply` that has a frame |
+//! | [`sides_are_apart`] | no two sides have a kind in common |
+//!
+//! Each type is a [`Side`](frame_stream::Side): `encode`, `decode` and `Feeder` of `frame_stream` make and read its frames. Each
+//! is a struct around its value. Another version of a side is a type of its own, around the same values.
+//!
+//! A body is a byte of kind and the fields behind it, nothing more. A number has its most significant byte first. Sizes of
+//! fields are in bytes. Lengths are those of the body: they count the kind, and not the four bytes of length in front.
 //!
 //! | kind | `ClientCall` | fields | length |
 //! |---|---|---|---|
@@ -44,20 +53,23 @@
 //! dispatcher and to devices have no frame.
 //!
 //! ```text
-//! encode(alloc, &ClientCall::Attach { group: 0, prio: 4 })           // Ok of 00 00 00 03 01 00 04
-//! encode(alloc, &OperatorCall::Undo { k: 2 })                        // Ok of 00 00 00 05 1a 00 00 00 02
-//! decode::<RingReply>(alloc, &[0, 0, 0, 2, 0xe0, 20])                // Ok(Answer(Refused(NotInFlight)))
-//! decode::<RingReply>(alloc, &[0, 0, 0, 2, 0xe0, 36])                // Err(Fault(BadBody))
+//! encode(alloc, &Client(ClientCall::Attach { group: 0, prio: 4 }))   // Ok of 00 00 00 03 01 00 04
+//! encode(alloc, &Operator(OperatorCall::Undo { k: 2 }))              // Ok of 00 00 00 05 1a 00 00 00 02
+//! decode::<Host>(alloc, &[0, 0, 0, 2, 0xe0, 20])                     // Ok(Host(Answer(Refused(NotInFlight))))
+//! decode::<Host>(alloc, &[0, 0, 0, 2, 0xe0, 36])                     // Err(Fault(BadBody))
+//! decode::<Host>(alloc, &[0, 0, 0, 1, 5])                            // Err(Fault(BadKind))
 //! ```
 //!
-//! Another version of a side is a type of its own. Another kind is an arm in `put_body` and in `read_body`, a reader, and in
-//! `specs/` a row of the side's kinds with two lemmas: that what it spells is read again, and that nothing else is.
+//! A further kind is an arm in `put_body`, an arm and a reader, and in `specs/` a row of the side's kinds with two lemmas: that
+//! what it spells is read again, and that nothing else is read so.
 
 mod client;
 mod fields;
 mod host;
+mod laws;
 mod operator;
 
 pub use client::Client;
 pub use host::Host;
+pub use laws::sides_are_apart;
 pub use operator::Operator;

@@ -14,7 +14,7 @@ use host_calls::OperatorCall;
 use sector_core::Scheduler;
 use std::alloc::{AllocError, Global};
 
-/// The side of the operator: what it sends in version 1.
+/// The side of the operator in version 1: a call that it sends. Each has a frame.
 #[derive(Clone, Copy, Debug, PartialEq, Eq)]
 pub struct Operator(pub OperatorCall);
 
@@ -128,6 +128,8 @@ fn scheduler_of(number: u8) -> Option<Scheduler>
         _ => None,
     }
 }
+
+// The readers of kinds: each reads its kind's fields, to the end of the body.
 
 #[tactic(auto, unfolding(crate::specs::Operator::group_make_at))]
 fn group_make_of(fields: &[u8]) -> Result<OperatorCall, ReadError>
