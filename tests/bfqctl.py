@@ -44,11 +44,13 @@ class Run:
     words: list
     # What the server must read, and nothing more; None where it must meet nobody.
     asked: Optional[bytes] = None
-    # What the server then sends, in so many writes, before it closes.
+    # What the server then sends, in so many writes.
     answer: list = field(default_factory=list)
     stdout: bytes = b""
     stderr: bytes = b""
     status: int = DONE
+    # The server then ends what it sends. Otherwise it waits for the program's end, which may wait for nothing more.
+    ends: bool = False
     # The server closes the connection without a read.
     hangs_up: bool = False
     # Standard output is only asked to begin with its text.
@@ -127,7 +129,8 @@ ANSWERS = [
     bad("cause 46", "00000002 e1 2e"),
     bad("a fault before a reply", "00000001 70 00000001 92"),
     bad("a fault byte by byte", "00", "00", "00", "00"),
-] + [undo(f"an end after {at} bytes of a frame", [MOVED[:at]] if at else [], b"", FRAME, NO_ANSWER) for at in range(len(MOVED))]
+] + [Run(f"an end after {at} bytes of a frame", ["--socket", "PATH", "undo", "2"], UNDO, [MOVED[:at]] if at else [], b"", FRAME,
+         NO_ANSWER, ends=True) for at in range(len(MOVED))]
 
 
 def refused(name, *words):
@@ -211,8 +214,9 @@ class Server(threading.Thread):
             # A pause, so that the program mostly reads the pieces one by one.
             time.sleep(0.002 if at else 0)
             connection.sendall(piece)
-        # Nothing more may come. The program reads to the end of what was sent, where it waits for more.
-        connection.shutdown(socket.SHUT_WR)
+        if self.run_of.ends:
+            connection.shutdown(socket.SHUT_WR)
+        # Nothing more may come.
         while piece := connection.recv(4096):
             self.read += piece
 

@@ -1,5 +1,6 @@
 // From the words of the command line to the status.
 ghost use Rattle.std.specs.Prelude.{◌≡◌};
+ghost use Rattle.bfqctl.specs.Status.{IsStatus};
 ghost use Rattle.operator_asking.specs.Ending.{status_of};
 
 use crate::help::help_text;
@@ -16,7 +17,9 @@ use std::rt::Env;
 const REFUSED: u8 = 2;
 
 /// Does what the words ask for, and gives the status.
-pub fn start(rt: &(impl Env + Net + AllocGlobal + Print + Eprint)) -> u8 {
+pub fn start(rt: &(impl Env + Net + AllocGlobal + Print + Eprint)) -> u8
+    ensures { IsStatus result }
+{
     match asked(rt) {
         Ok(Request::Help) => help(rt),
         Ok(Request::Call { socket, call }) => tell(rt, run(rt, socket.as_str(), call)),
@@ -42,7 +45,9 @@ fn asked(rt: &(impl Env + AllocGlobal)) -> Result<Request, WordFault> {
     request_of(rt.alloc(), words.as_slice())
 }
 
-fn help(rt: &(impl Print + Eprint)) -> u8 {
+fn help(rt: &impl Print) -> u8
+    ensures { IsStatus result }
+{
     match write_help(rt) {
         Ok(()) => status(CallEnd::Done),
         Err(_) => status(CallEnd::WriteFault),

@@ -11,7 +11,7 @@
 //!
 //! Three things can go wrong, and [`AskFault`] names them. At `Socket` the connection failed, and the call may have been
 //! made or not. At `Frame` the call was sent, and what came back is no reply. At `OutOfMemory` either nothing was sent, or
-//! the call was, and what came back was not read to its end.
+//! the call was, and there was no memory for what came back.
 //!
 //! ```text
 //! // Of two sides whose values are one byte, each in a frame 00 00 00 01 BYTE; what came is 00 00 00 01 07:

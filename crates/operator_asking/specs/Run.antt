@@ -20,10 +20,11 @@ abbrev pub of_host : Result RingReply AskFault → Result Host AskFault
 of_host (Ok reply) = Ok (record { 0 = reply })
 of_host (Err f) = Err f
 
--- the call is asked in the operator's frames and answered in the host's (our format)
+-- the call is asked in the operator's frames and answered in the host's, whose bodies have at most 32,787 bytes (our format)
 abbrev pub Asks : Known → Known → Known → Known → OperatorCall → Result RingReply AskFault → Type 0
 Asks r0 r1 w0 w1 call outcome =
-    Ends (λ (h : Host). host_body h.0) (λ (h : Host). HostFits h.0) host_at 32787 r0 r1 w0 w1 (framed (operator_body call)) (of_host outcome)
+    Ends (λ (h : Host). host_body h.0) (λ (h : Host). HostFits h.0) host_at 32787 r0 r1 w0 w1
+    (framed (operator_body call)) (of_host outcome)
 
 -- the line that is printed for a reply (our format)
 abbrev pub line_of : RingReply → List ℕ

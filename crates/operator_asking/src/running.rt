@@ -7,8 +7,9 @@ use crate::ending::{CallEnd, end_at};
 use answer_text::put_ring_reply;
 use host_asking::write_flushed;
 use host_calls::{OperatorCall, RingReply};
+use sector_core::OutOfMemory;
 use std::alloc::Global;
-use std::io::{self, Read, Write};
+use std::io::{Read, Write};
 
 /// Asks the call, and prints the text of its reply as one line to the output, which is flushed. Without a reply nothing is printed.
 pub fn run_call<R: Read, W: Write, O: Write>(
@@ -35,8 +36,8 @@ pub fn run_call<R: Read, W: Write, O: Write>(
     end_at(call, &reply)
 }
 
-// The line that is printed for a reply. It fails only for want of memory.
-fn line(alloc: Global, reply: &RingReply) -> io::Result<Vec<u8>>
+// The line that is printed for a reply.
+fn line(alloc: Global, reply: &RingReply) -> Result<Vec<u8>, OutOfMemory>
     ensures { IfOk result (λ line. line.items ≡ line_of reply.now) }
 {
     let mut out = Vec::new(alloc);
