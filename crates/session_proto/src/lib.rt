@@ -16,7 +16,7 @@
 //!
 //! | kind | `ClientCall` | fields | length |
 //! |---|---|---|---|
-//! | 01 | Attach | group 1 byte, priority 1 byte | 3 |
+//! | 01 | Attach | group 1, priority 1 | 3 |
 //! | 02 | Submit, a fetch | session 8, first sector 8, count of sectors 2 | 19 |
 //! | 03 | Submit, a store | session 8, first sector 8, count of sectors 2, payload 0 to 32,768 | 19 to 32,787 |
 //! | 04 | Reap | session 8 | 9 |
@@ -28,7 +28,7 @@
 //! | 12 | GroupDrop | group 1 | 2 |
 //! | 13 | SetWeight | group 1, weight 2 | 4 |
 //! | 14, 15 | Freeze, Thaw | none | 1 |
-//! | 16 | Switch | 0 for none or 1 for bfq 1 | 2 |
+//! | 16 | Switch | scheduler 1: 0 for none, 1 for bfq | 2 |
 //! | 17, 18, 19 | Tick, Hold, Release | none | 1 |
 //! | 1a, 1b | Undo, Redo | steps 4 | 5 |
 //! | 1c | Stop | none | 1 |
@@ -37,18 +37,18 @@
 //! |---|---|---|---|
 //! | 81 | Attached | session 8 | 9 |
 //! | 82 | Queued | bio 8 | 9 |
-//! | 83 | Completed, read | bio 8, the bytes of 1 to 64 sectors, 512 for each | 9 and the bytes |
+//! | 83 | Completed, read | bio 8, the bytes of 1 to 64 sectors, 512 for each | 521 to 32,777 |
 //! | 84 | Completed, written | bio 8 | 9 |
-//! | 85 | Completed, error | bio 8, 1 for short or 2 for fault 1 | 10 |
+//! | 85 | Completed, error | bio 8, failure 1: 1 for short, 2 for fault | 10 |
 //! | 86 | Left | none | 1 |
 //! | 91 | Group | number 1 | 2 |
 //! | 92 | Done | none | 1 |
 //! | 93 | Moved | cursor 4, length of the line 4 | 9 |
 //! | 9f | Closed | none | 1 |
-//! | e0 | Refused | code 1, 1 to 35 | 2 |
-//! | e1 | NotYet | cause 1, 41 to 45 | 2 |
+//! | e0 | Refused | code 1: 1 to 35 | 2 |
+//! | e1 | NotYet | cause 1: 41 to 45 | 2 |
 //!
-//! A kind that the side does not have is `BadKind`. Another length than the kind's is `BadBody`, and so is a named field with
+//! No byte and a kind that the side does not have are `BadKind`. Another length than the kind's is `BadBody`, and so is a named field with
 //! another value. A store whose payload does not fit its count is a value: the machine refuses the call. Replies to the
 //! dispatcher and to devices have no frame.
 //!
@@ -60,8 +60,8 @@
 //! decode::<Host>(alloc, &[0, 0, 0, 1, 5])                            // Err(Fault(BadKind))
 //! ```
 //!
-//! A further kind is an arm in `put_body`, an arm and a reader, and in `specs/` a row of the side's kinds with two lemmas: that
-//! what it spells is read again, and that nothing else is read so.
+//! A further kind is an arm in `put_body`, an arm beside those that read with a reader for its fields, and in `specs/` a row of
+//! the side's kinds with two lemmas: that what it spells is read again, and that nothing else is.
 
 mod client;
 mod fields;
