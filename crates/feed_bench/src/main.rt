@@ -3,7 +3,7 @@
 //!
 //! The words are the size of a piece in bytes, 1 or more, and how many times. The stream is 32 KiB of the operator's shortest
 //! frames, which have five bytes, so a piece of 32,768 bytes is all of it. What is printed is how many values came in all.
-//! Bad words are taken as one time in pieces of 4,096 bytes.
+//! Words that are no numbers are passed over; with none it is one time in pieces of 4,096 bytes.
 //!
 //! ```text
 //! feed_bench 4096 2       // 13106
