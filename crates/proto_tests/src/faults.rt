@@ -1,6 +1,6 @@
 // Bytes that are no frame of a side.
 use super::told::{bytes_of, then_sevens};
-use frame_stream::{Fault, ReadError, Side, decode};
+use frame_stream::{Fault, Feeder, ReadError, Side, decode};
 use session_proto::{Client, Host, Operator};
 use std::alloc::Global;
 use std::test::Fail;
@@ -12,6 +12,12 @@ fn fault_of<S: Side>(alloc: Global, bytes: &[u8]) -> Result<Option<Fault>, Fail>
         Err(ReadError::Fault(fault)) => Ok(Some(fault)),
         Err(ReadError::OutOfMemory) => Err(Fail::from("memory for a frame")),
     }
+}
+
+// The fault of a stream that so far has these bytes.
+fn fault_so_far<S: Side>(alloc: Global, bytes: &[u8]) -> Result<Option<Fault>, Fail> {
+    let mut feeder = Feeder::<S>::new(alloc);
+    Ok(feeder.feed(alloc, bytes)?.fault)
 }
 
 const SHORT: Option<Fault> = Some(Fault::BadLengthField);
@@ -66,6 +72,7 @@ fn of_the_operator(rt: HostRuntime) -> Result<(), Fail> {
         ("00000001 10", KIND),
         ("00000001 1d", KIND),
         ("00000001 92", KIND),
+        ("00000002 07 02", KIND),
         ("00000003 11 00 00", BODY),
         ("00000005 11 00 0064 00", BODY),
         ("00000001 12", BODY),
@@ -102,6 +109,7 @@ fn of_the_host(rt: HostRuntime) -> Result<(), Fail> {
         ("00000001 05", KIND),
         ("00000001 14", KIND),
         ("00000001 87", KIND),
+        ("00000002 07 02", KIND),
         ("00000001 e2", KIND),
         ("00000008 81 00000000000000", BODY),
         ("0000000a 81 0000000000000000 00", BODY),
@@ -150,6 +158,29 @@ fn of_long_reads(rt: HostRuntime) -> Result<(), Fail> {
     ] {
         let bytes = then_sevens(alloc, front, size)?;
         assert_eq!(rt; fault_of::<Host>(alloc, &bytes)?, BODY, "{front}");
+    }
+    Ok(())
+}
+
+// A length is judged as soon as its four bytes are there: 0, and the first above that of a store of 64 sectors.
+#[test]
+fn of_a_length(rt: HostRuntime) -> Result<(), Fail> {
+    let alloc = rt.alloc();
+    for (length, fault) in [
+        ("000000", None),
+        ("00000000", SHORT),
+        ("00000001", None),
+        ("00008013", None),
+        ("00008014", SHORT),
+        ("ffffffff", SHORT),
+    ] {
+        let bytes = bytes_of(alloc, length)?;
+        let found = [
+            fault_so_far::<Client>(alloc, &bytes)?,
+            fault_so_far::<Operator>(alloc, &bytes)?,
+            fault_so_far::<Host>(alloc, &bytes)?,
+        ];
+        assert_eq!(rt; found, [fault; 3], "{length}");
     }
     Ok(())
 }

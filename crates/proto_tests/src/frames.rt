@@ -226,10 +226,10 @@ fn read(alloc: Global, bio: u64, count: usize) -> Result<Host, Fail>
 #[test]
 fn reads(rt: HostRuntime) -> Result<(), Fail> {
     let alloc = rt.alloc();
-    let least = then_sevens(alloc, "00000209 83 0000000000000005", 512)?;
+    let least = then_sevens(alloc, "00000209 83 0000000000000000", 512)?;
     let most = then_sevens(alloc, "00008009 83 ffffffffffffffff", 32_768)?;
     let framed = [
-        is_frame(alloc, &read(alloc, 5, 1)?, &least)?,
+        is_frame(alloc, &read(alloc, 0, 1)?, &least)?,
         is_frame(alloc, &read(alloc, u64::MAX, 64)?, &most)?,
     ];
     assert_eq!(rt; framed, [true; 2]);
@@ -287,8 +287,8 @@ fn replies_to_clients(rt: HostRuntime) -> Result<(), Fail> {
         is_framed(alloc, &written(u64::MAX), "00000009 84 ffffffffffffffff")?,
         is_framed(
             alloc,
-            &failed(6, FailKind::Short),
-            "0000000a 85 0000000000000006 01",
+            &failed(0, FailKind::Short),
+            "0000000a 85 0000000000000000 01",
         )?,
         is_framed(
             alloc,
