@@ -42,7 +42,10 @@ fn operator(keeper: &mut Keeper, alloc: Global, call: OperatorCall) -> u64 {
 }
 
 fn store(alloc: Global, session: u64) -> Result<ClientCall, Fail> {
-    let payload = Bytes::from_vec(vec![in alloc; 65u8; 1024]?)?;
+    store_of(session, Bytes::from_vec(vec![in alloc; 65u8; 1024]?)?)
+}
+
+fn store_of(session: u64, payload: Bytes) -> Result<ClientCall, Fail> {
     Ok(ClientCall::Submit {
         session,
         op: Op::Store,
@@ -73,6 +76,8 @@ fn client_stores(rt: HostRuntime) -> Result<(), Fail> {
     let attach = ClientCall::Attach { group: 0, prio: 4 };
     assert_eq!(rt; client(&mut keeper, alloc, 0, attach), 1);
     assert_eq!(rt; client(&mut keeper, alloc, 0, store(alloc, 2)?), 104);
+    let short = store_of(1, Bytes::from_static(&[65; 1023]))?;
+    assert_eq!(rt; client(&mut keeper, alloc, 0, short), 113);
     assert_eq!(rt; client(&mut keeper, alloc, 0, store(alloc, 1)?), 2);
     let reap = ClientCall::Reap { session: 1 };
     assert_eq!(rt; client(&mut keeper, alloc, 0, reap), 244);
