@@ -1,39 +1,18 @@
 // Calls asked over memory, of an example of a side.
 
-use crate::fakes::{Narrow, Pieces};
 use crate::letter::Letter;
+use failing_io::{Narrow, Pieces};
 use host_asking::{AskFault, ask};
-use std::alloc::Global;
 use std::test::Fail;
 
 // What is written for the call 5.
 const CALL: &[u8] = &[0, 0, 0, 1, 5];
 
-fn narrow(alloc: Global, room: usize) -> Narrow {
-    Narrow {
-        taken: Vec::new(alloc),
-        step: 2,
-        room,
-        is_silent: false,
-        is_stuck: false,
-        flushed: 0,
-    }
-}
-
-fn pieces(bytes: &[u8], step: usize) -> Pieces<'_> {
-    Pieces {
-        bytes,
-        step,
-        calls: 0,
-        fails_at: 0,
-    }
-}
-
 #[test]
 fn example_of_the_page(rt: HostRuntime) {
     let alloc = rt.alloc();
     let mut reader = [0, 0, 0, 1, 7].as_slice();
-    let mut writer = narrow(alloc, 5);
+    let mut writer = Narrow::new(alloc, 5);
     let answer: Result<Letter, AskFault> = ask(alloc, &mut reader, &mut writer, &Letter(5));
     assert_eq!(rt; answer, Ok(Letter(7)));
     assert_eq!(rt; writer.taken.as_slice(), CALL);
@@ -53,8 +32,8 @@ fn first_frame_is_the_reply(rt: HostRuntime) -> Result<(), Fail> {
         ([].as_slice(), Err(AskFault::Frame)),
     ] {
         for step in 1..11 {
-            let mut reader = pieces(come, step);
-            let mut writer = narrow(alloc, 5);
+            let mut reader = Pieces::of(come, step);
+            let mut writer = Narrow::new(alloc, 5);
             let got: Result<Letter, AskFault> = ask(alloc, &mut reader, &mut writer, &Letter(5));
             assert_eq!(rt; got, answer, "{come:?} by {step}");
         }
@@ -66,8 +45,8 @@ fn first_frame_is_the_reply(rt: HostRuntime) -> Result<(), Fail> {
 #[test]
 fn reads_no_further(rt: HostRuntime) {
     let alloc = rt.alloc();
-    let mut reader = pieces(&[0, 0, 0, 1, 7, 0, 0, 0, 1, 8], 1);
-    let mut writer = narrow(alloc, 5);
+    let mut reader = Pieces::of(&[0, 0, 0, 1, 7, 0, 0, 0, 1, 8], 1);
+    let mut writer = Narrow::new(alloc, 5);
     let got: Result<Letter, AskFault> = ask(alloc, &mut reader, &mut writer, &Letter(5));
     assert_eq!(rt; got, Ok(Letter(7)));
     assert_eq!(rt; reader.calls, 5);
@@ -78,21 +57,21 @@ fn fails_at_each_byte(rt: HostRuntime) {
     let alloc = rt.alloc();
     for at in 0..5usize {
         for is_silent in [false, true] {
-            let mut reader = pieces(&[0, 0, 0, 1, 7], 1);
-            let mut writer = narrow(alloc, at);
+            let mut reader = Pieces::of(&[0, 0, 0, 1, 7], 1);
+            let mut writer = Narrow::new(alloc, at);
             writer.is_silent = is_silent;
             let got: Result<Letter, AskFault> = ask(alloc, &mut reader, &mut writer, &Letter(5));
             assert_eq!(rt; got, Err(AskFault::Socket), "room for {at}");
             assert_eq!(rt; reader.calls, 0, "room for {at}");
         }
-        let mut reader = pieces(&[0, 0, 0, 1, 7], 1);
+        let mut reader = Pieces::of(&[0, 0, 0, 1, 7], 1);
         reader.fails_at = at + 1;
-        let mut writer = narrow(alloc, 5);
+        let mut writer = Narrow::new(alloc, 5);
         let got: Result<Letter, AskFault> = ask(alloc, &mut reader, &mut writer, &Letter(5));
         assert_eq!(rt; got, Err(AskFault::Socket), "read {at}");
         let (front, _) = [0, 0, 0, 1, 7].split_at(at);
-        let mut ended = pieces(front, 1);
-        let mut writer = narrow(alloc, 5);
+        let mut ended = Pieces::of(front, 1);
+        let mut writer = Narrow::new(alloc, 5);
         let got: Result<Letter, AskFault> = ask(alloc, &mut ended, &mut writer, &Letter(5));
         assert_eq!(rt; got, Err(AskFault::Frame), "ended after {at}");
     }
@@ -101,8 +80,8 @@ fn fails_at_each_byte(rt: HostRuntime) {
 #[test]
 fn flush_that_fails(rt: HostRuntime) {
     let alloc = rt.alloc();
-    let mut reader = pieces(&[0, 0, 0, 1, 7], 5);
-    let mut writer = narrow(alloc, 5);
+    let mut reader = Pieces::of(&[0, 0, 0, 1, 7], 5);
+    let mut writer = Narrow::new(alloc, 5);
     writer.is_stuck = true;
     let got: Result<Letter, AskFault> = ask(alloc, &mut reader, &mut writer, &Letter(5));
     assert_eq!(rt; got, Err(AskFault::Socket));

@@ -6,11 +6,9 @@
 //! | `letters` | `host_asking`, at an example of a side whose values are one byte |
 //! | `operator` | `operator_asking`: calls of the operator, and what is printed for their answers |
 //!
-//! Readers and writers are over memory, and fail where a test wants it. `tests/bfqctl.py` at the top of the repository runs
+//! Readers and writers are those of `failing_io`, over memory. `tests/bfqctl.py` at the top of the repository runs
 //! the operator's program over sockets.
 
-#[cfg(test)]
-mod fakes;
 #[cfg(test)]
 mod letter;
 #[cfg(test)]

@@ -1,6 +1,6 @@
 // Calls of the operator, asked over memory. The bytes are those of the frames in docs/FORMATS.md.
-use crate::fakes::{Narrow, Pieces};
 use answer_text::put_ring_reply;
+use failing_io::{Narrow, Pieces};
 use host_calls::OperatorCall;
 use operator_asking::{AskFault, CallEnd, ask_host, run_call, status};
 use std::alloc::Global;
@@ -23,23 +23,11 @@ fn reader(bytes: &[u8], fails_at: usize) -> Pieces<'_> {
     }
 }
 
-// Takes the bytes two by two.
-fn writer(alloc: Global, room: usize) -> Narrow {
-    Narrow {
-        taken: Vec::new(alloc),
-        step: 2,
-        room,
-        is_silent: false,
-        is_stuck: false,
-        flushed: 0,
-    }
-}
-
 #[test]
 fn undo_is_answered(rt: HostRuntime) -> Result<(), Fail> {
     let alloc = rt.alloc();
     let mut from = reader(MOVED, 0);
-    let mut to = writer(alloc, 4096);
+    let mut to = Narrow::new(alloc, 4096);
     let mut text = Vec::new(alloc);
     match ask_host(alloc, &mut from, &mut to, CALL) {
         Ok(reply) => put_ring_reply(&reply, &mut text)?,
@@ -54,7 +42,7 @@ fn undo_is_answered(rt: HostRuntime) -> Result<(), Fail> {
 // The fault of the call where a read or a write fails, or none where it is answered.
 fn fault(alloc: Global, bytes: &[u8], fails_at: usize, room: usize) -> Option<AskFault> {
     let mut from = reader(bytes, fails_at);
-    ask_host(alloc, &mut from, &mut writer(alloc, room), CALL).err()
+    ask_host(alloc, &mut from, &mut Narrow::new(alloc, room), CALL).err()
 }
 
 #[test]
@@ -87,11 +75,11 @@ fn fails_at_each_byte(rt: HostRuntime) {
 
 // How the run of a call ends, and what it printed into so much room.
 fn run(alloc: Global, bytes: &[u8], call: OperatorCall, room: usize) -> (CallEnd, Vec<u8>) {
-    let mut output = writer(alloc, room);
+    let mut output = Narrow::new(alloc, room);
     let end = run_call(
         alloc,
         &mut reader(bytes, 0),
-        &mut writer(alloc, 9),
+        &mut Narrow::new(alloc, 9),
         &mut output,
         call,
     );

@@ -1,44 +1,38 @@
-// A reader and a writer over memory that fail where a test wants it.
+// A writer that fails.
 ghost use Rattle.std.specs.Prelude.{Some};
 
-use std::io::{self, ErrorKind, Read, Write};
-
-/// Gives at most `step` bytes a call, and fails at the call `fails_at`, counted from 1.
-#[derive(Drop)]
-pub struct Pieces<'a> {
-    pub bytes: &'a [u8],
-    pub step: usize,
-    pub calls: usize,
-    pub fails_at: usize,
-}
-
-impl Read for Pieces<'_> {
-    ghost remaining = { λ r. Some r.bytes.now };
-
-    fn read(&mut self, buf: &mut [u8]) -> io::Result<usize> {
-        self.calls = self.calls.wrapping_add(1);
-        if self.calls == self.fails_at {
-            return Err(ErrorKind::Interrupted.into());
-        }
-        let n = self.step.max(1).min(buf.len()).min(self.bytes.len());
-        let (front, rest) = self.bytes.split_at(n);
-        buf[..n].copy_from_slice(front);
-        self.bytes = rest;
-        Ok(n)
-    }
-}
+use std::alloc::Global;
+use std::io::{self, ErrorKind, Write};
 
 /// Takes at most `step` bytes a call, `room` in all, and then fails, or takes nothing if it `is_silent`.
 #[derive(Drop)]
 pub struct Narrow {
+    /// The bytes that it took.
     pub taken: Vec<u8>,
+    /// The greatest number of bytes that it takes at a call. With 0 it takes one.
     pub step: usize,
+    /// How many bytes it takes in all.
     pub room: usize,
+    /// Whether it takes nothing, and does not fail, once it has no more room.
     pub is_silent: bool,
     /// Whether a flush fails.
     pub is_stuck: bool,
     /// How many bytes were taken before the last flush that did not fail.
     pub flushed: usize,
+}
+
+impl Narrow {
+    /// A writer that takes two bytes a call, and fails once it has taken so many.
+    pub fn new(alloc: Global, room: usize) -> Narrow {
+        Narrow {
+            taken: Vec::new(alloc),
+            step: 2,
+            room,
+            is_silent: false,
+            is_stuck: false,
+            flushed: 0,
+        }
+    }
 }
 
 impl Write for Narrow {

@@ -1,0 +1,18 @@
+#![tactic(auto)]
+//! Tests of client sessions over bytes, and nothing else.
+//!
+//! | tests | what they compare |
+//! |---|---|
+//! | `rows` | what comes of a session's bytes over a keeper: what is written, how it ends, and its Leave |
+//! | `cut` | one session's bytes in pieces of each length, with a read that fails before each of them, and a write after each |
+//!
+//! Tested are `session_serve` and `session_solo`. `heard` has a keeper that notes what it is asked, and `run` a session over it.
+
+#[cfg(test)]
+mod cut;
+#[cfg(test)]
+mod heard;
+#[cfg(test)]
+mod rows;
+#[cfg(test)]
+mod run;

@@ -1,0 +1,126 @@
+// A session over a reader and a writer.
+ghost use Rattle.std.specs.Prelude.{◌≡◌, ℕ, ◌*◌, ◌<◌, ◌≤◌, ◌^◌, List, [], length, None, IfOk};
+ghost use Rattle.session_proto.specs.declared.client.Client.{Client};
+ghost use Rattle.session_serve.specs.Asked.{Known};
+ghost use Rattle.session_serve.specs.Served.{HasServed, IsServed};
+ghost use Rattle.session_serve.specs.SoFar.{ReadSoFar, Reads};
+
+use crate::answering::{Counts, answer_all};
+use crate::asks::Asks;
+use crate::end::{EndCause, SessionEnd};
+use frame_stream::{Fed, Feeder};
+use host_calls::ClientCall;
+use session_proto::Client;
+use std::alloc::Global;
+use std::io::{Read, Write};
+
+// A read takes at most this many bytes, so that few calls wait at a time.
+const PIECE_BYTES: usize = 4096;
+
+// Reads a piece and takes it apart. Gives its calls and its fault, or why the session ends there.
+fn read_calls<R: Read>(
+    alloc: Global,
+    reader: &mut R,
+    piece: &mut [u8],
+    feeder: &mut Feeder<Client>,
+) -> Result<Fed<Client>, EndCause>
+    requires some { 0 < length piece.old }
+    requires few { length piece.old ≤ 4096 }
+    requires sound { feeder.old.fault ≡ None }
+    ensures reads { (start : Known) (limit : ℕ) (calls : List Client) → length calls < limit
+        → ReadSoFar limit start (R.remaining reader.old) feeder.old calls
+        → Reads limit start (R.remaining reader.new) feeder.new calls result }
+    ensures fault { IfOk result (λ fed. fed.fault ≡ feeder.new.fault) }
+    ensures short { IfOk result (λ fed. fed.fault ≡ None → length feeder.new.bytes < 32791) }
+    ensures grows { IfOk result (λ fed. fed.values.items ≡ [] → fed.fault ≡ None
+        → length feeder.old.bytes < length feeder.new.bytes) }
+    ensures length { length piece.new ≡ length piece.old }
+{
+    let Ok(count) = reader.read(piece) else {
+        return Err(EndCause::ReadFault);
+    };
+    if count == 0 {
+        if feeder.is_between() {
+            return Err(EndCause::Ended);
+        }
+        return Err(EndCause::BadFrame);
+    }
+    match feeder.feed(alloc, &piece[..count]) {
+        Ok(fed) => Ok(fed),
+        Err(_) => Err(EndCause::OutOfMemory),
+    }
+}
+
+// The frames of a session, until it ends for a cause.
+fn serve_frames<R: Read, W: Write, A: Asks>(
+    alloc: Global,
+    reader: &mut R,
+    writer: &mut W,
+    asker: &mut A,
+    frame_limit: u32,
+    counts: &mut Counts,
+) -> EndCause
+    requires unasked { counts.old.calls ≡ 0 }
+    requires unwritten { counts.old.written ≡ 0 }
+    ensures served { HasServed A.asks frame_limit (R.remaining reader.old) (R.remaining reader.new) (W.contents writer.old)
+        (W.contents writer.new) asker.old asker.new result counts.new.calls counts.new.written }
+    ensures within { counts.new.calls ≤ frame_limit }
+    ensures small { counts.new.written ≤ counts.new.calls * 32791 }
+{
+    let mut feeder = Feeder::<Client>::new(alloc);
+    let mut piece = [0u8; PIECE_BYTES];
+    let mut is_bad = false;
+    'pieces: loop {
+        // The limit comes first: at it not even a fault that has come is looked at.
+        if counts.calls == frame_limit {
+            return EndCause::FrameLimit;
+        }
+        if is_bad {
+            return EndCause::BadFrame;
+        }
+        let fed = match read_calls(alloc, reader, &mut piece, &mut feeder) {
+            Ok(fed) => fed,
+            Err(cause) => return cause,
+        };
+        is_bad = fed.fault.is_some();
+        if let Some(cause) = answer_all(alloc, writer, asker, frame_limit, fed.values, counts) {
+            return cause;
+        }
+    }
+}
+
+/// Serves a client's session: reads its frames, asks their calls one after the other, and writes each answer's frame before the
+/// next call is asked. What is left of the input when the session ends is not read.
+///
+/// At most `frame_limit` frames are answered. When the session has ended the asker is asked one Leave with its cause, whose
+/// answer is kept and not written; none is made where the asker's host has ended, or memory was wanting. Where no session sits
+/// at the seat, as after a Leave of the client's own, that Leave is refused (3). It may be refused for want of memory or a full
+/// history too, or have to wait on a held host: then the session stands.
+pub fn serve<R: Read, W: Write, A: Asks>(
+    alloc: Global,
+    reader: &mut R,
+    writer: &mut W,
+    asker: &mut A,
+    frame_limit: u32,
+) -> SessionEnd
+    ensures served { IsServed A.asks frame_limit (R.remaining reader.old) (R.remaining reader.new) (W.contents writer.old)
+        (W.contents writer.new) asker.old asker.new result }
+    ensures within { result.calls ≤ frame_limit }
+    ensures small { result.written < 2 ^ 48 }
+{
+    let mut counts = Counts {
+        calls: 0,
+        written: 0,
+    };
+    let why = serve_frames(alloc, reader, writer, asker, frame_limit, &mut counts);
+    let left = match why.leave() {
+        Some(why) => asker.ask(alloc, ClientCall::Leave { why }).ok(),
+        None => None,
+    };
+    SessionEnd {
+        why,
+        calls: counts.calls,
+        written: counts.written,
+        left,
+    }
+}

@@ -1,0 +1,30 @@
+// A keeper that is asked on this thread.
+ghost use Rattle.session_solo.specs.Solo.{AsksKeeper};
+ghost use Rattle.session_solo.specs.SoloLaws.{solo_frames};
+
+use history::Keeper;
+use host_calls::{ClientCall, Closed};
+use plain_machine::Answer;
+use reply_laws::clients_are_answered;
+use session_serve::Asks;
+use std::alloc::Global;
+
+/// A keeper, asked on this thread. Each call is made at seat 0. It never finds the host ended.
+#[derive(Drop)]
+pub struct Solo(pub Keeper);
+
+// The seat of its one client.
+const SEAT: u8 = 0;
+
+impl Asks for Solo {
+    ghost asks = { λ a call result b. AsksKeeper a.0.state call result b.0.state };
+
+    fn ask(&mut self, alloc: Global, call: ClientCall) -> Result<Answer, Closed> {
+        // A keeper is the replay of its journal, and there each answer to a client has a frame. Neither call does anything.
+        self.0.journal_len();
+        clients_are_answered();
+        Ok(self.0.call(alloc, &call.of_seat(SEAT)))
+    }
+
+    ghost have_frames = { solo_frames };
+}
