@@ -1,8 +1,6 @@
 // One session, cut and broken at each of its bytes.
-use crate::run::{LIMIT, opened, told, whole};
-use failing_io::{Narrow, Pieces};
-use plain_machine::Why;
-use session_serve::{EndCause, serve};
+use crate::run::{Outcome, Setup, front, plain, session};
+use session_serve::EndCause;
 use std::test::Fail;
 
 // Attach in the root, of priority 4; a fetch of sectors 4 and 5 by session 1; its Reap; and its Leave.
@@ -21,78 +19,81 @@ const ANSWERS: &[u8] = &[
     0, 0, 0, 1, 0x86,
 ];
 
-// Where each call's frame ends, and where its answer's frame does.
-const ENDS: [(usize, usize); 4] = [(7, 13), (30, 26), (43, 32), (48, 37)];
-
-// How many bytes of answers belong to the calls whose frames are whole in so many bytes.
-fn answered(bytes: usize) -> usize {
-    let mut written = 0;
-    for (end, out) in ENDS {
-        if end <= bytes {
-            written = out;
-        }
+// How many calls are whole in so many bytes, and how many bytes of answers belong to them.
+fn answered(bytes: usize) -> (u32, usize) {
+    match bytes {
+        0..=6 => (0, 0),
+        7..=29 => (1, 13),
+        30..=42 => (2, 26),
+        43..=47 => (3, 32),
+        _ => (4, 37),
     }
-    written
 }
 
-// The session leaves by itself; so its own Leave at the end is refused (3).
+// What each session has in common: so many calls, so many bytes written, and one Leave with its cause. If the client has left by
+// itself, or has not attached, that Leave is refused (3).
+fn common(came: &Outcome, why: EndCause, calls: u32, written: usize) -> bool {
+    let is_seated = calls > 0 && calls < 4;
+    came.why == why
+        && came.calls == calls
+        && came.written == written as u64
+        && came.left == if is_seated { 0 } else { 3 }
+        && came.asked == calls.wrapping_add(1)
+        && came.cause == why.leave()
+}
+
+// The session leaves by itself, and so there are two Leaves.
 #[test]
 fn pieces_of_each_length(rt: HostRuntime) -> Result<(), Fail> {
-    let alloc = rt.alloc();
     for step in 1..49usize {
-        let mut asker = opened(alloc)?;
-        let mut reader = Pieces::of(CALLS, step);
-        let mut writer = Narrow::new(alloc, 4096);
-        let end = serve(alloc, &mut reader, &mut writer, &mut asker, LIMIT);
-        assert_eq!(rt; writer.taken.as_slice(), ANSWERS, "by {step}");
-        assert_eq!(rt; end.why, EndCause::Ended, "by {step}");
-        assert_eq!(rt; end.calls, 4, "by {step}");
-        assert_eq!(rt; end.written, 37, "by {step}");
-        assert_eq!(rt; told(&end.left), 3, "by {step}");
-        assert_eq!(rt; asker.leaves, 2, "by {step}");
+        let setup = Setup { step, ..plain() };
+        let (came, out) = session(rt.alloc(), CALLS, &setup)?;
+        assert_eq!(rt; out.as_slice(), ANSWERS);
+        assert!(rt; common(&came, EndCause::Ended, 4, 37), "{came:?}");
+        assert_eq!(rt; came.leaves, 2);
     }
     Ok(())
 }
 
 #[test]
 fn read_fails_before_each_byte(rt: HostRuntime) -> Result<(), Fail> {
-    let alloc = rt.alloc();
     for at in 0..49usize {
-        let mut asker = opened(alloc)?;
-        let mut reader = Pieces::of(CALLS, 1);
-        reader.fails_at = at + 1;
-        let mut writer = Narrow::new(alloc, 4096);
-        let end = serve(alloc, &mut reader, &mut writer, &mut asker, LIMIT);
-        let (front, _) = ANSWERS.split_at(answered(at));
-        assert_eq!(rt; end.why, EndCause::ReadFault, "before {at}");
-        assert_eq!(rt; writer.taken.as_slice(), front, "before {at}");
-        assert_eq!(rt; end.written, front.len() as u64, "before {at}");
-        assert_eq!(rt; asker.why, Some(Why::ReadFault), "before {at}");
-        // Before the Attach and after the Leave no session sits there.
-        let left = if (7..48).contains(&at) { 0 } else { 3 };
-        assert_eq!(rt; told(&end.left), left, "before {at}");
-        assert_eq!(rt; asker.asked, end.calls + 1, "before {at}");
+        let setup = Setup {
+            fails_at: at + 1,
+            ..plain()
+        };
+        let (came, out) = session(rt.alloc(), CALLS, &setup)?;
+        let (calls, written) = answered(at);
+        assert_eq!(rt; out.as_slice(), front(ANSWERS, written));
+        assert!(rt;
+            common(&came, EndCause::ReadFault, calls, written),
+            "{came:?}"
+        );
     }
     Ok(())
 }
 
+// A call whose answer can't be written was asked all the same.
 #[test]
 fn write_fails_after_each_byte(rt: HostRuntime) -> Result<(), Fail> {
-    let alloc = rt.alloc();
     for room in 0..37usize {
-        let mut asker = opened(alloc)?;
-        let mut reader = Pieces::of(CALLS, 48);
-        let mut writer = Narrow::new(alloc, room);
-        let end = serve(alloc, &mut reader, &mut writer, &mut asker, LIMIT);
-        let (front, _) = ANSWERS.split_at(room);
-        assert_eq!(rt; end.why, EndCause::WriteFault, "room for {room}");
-        assert_eq!(rt; writer.taken.as_slice(), front, "room for {room}");
-        assert_eq!(rt; end.written, room as u64, "room for {room}");
-        assert_eq!(rt; asker.why, Some(Why::WriteFault), "room for {room}");
-        // The client's own Leave is made before its answer is written.
-        let left = if room < 32 { 0 } else { 3 };
-        assert_eq!(rt; told(&end.left), left, "room for {room}");
-        assert_eq!(rt; asker.asked, end.calls + 1, "room for {room}");
+        let setup = Setup {
+            room,
+            step: 48,
+            ..plain()
+        };
+        let (came, out) = session(rt.alloc(), CALLS, &setup)?;
+        let calls = match room {
+            0..=12 => 1,
+            13..=25 => 2,
+            26..=31 => 3,
+            _ => 4,
+        };
+        assert_eq!(rt; out.as_slice(), front(ANSWERS, room));
+        assert!(rt;
+            common(&came, EndCause::WriteFault, calls, room),
+            "{came:?}"
+        );
     }
     Ok(())
 }
@@ -100,21 +101,15 @@ fn write_fails_after_each_byte(rt: HostRuntime) -> Result<(), Fail> {
 // The end of the input after each byte: Ended between two frames, BadFrame inside one.
 #[test]
 fn ends_after_each_byte(rt: HostRuntime) -> Result<(), Fail> {
-    let alloc = rt.alloc();
     for at in 0..49usize {
-        let mut asker = opened(alloc)?;
-        let (bytes, _) = CALLS.split_at(at);
-        let (end, out) = whole(alloc, bytes, &mut asker);
-        let why = if [0, 7, 30, 43, 48].contains(&at) {
-            EndCause::Ended
-        } else {
-            EndCause::BadFrame
+        let (came, out) = session(rt.alloc(), front(CALLS, at), &plain())?;
+        let why = match at {
+            0 | 7 | 30 | 43 | 48 => EndCause::Ended,
+            _ => EndCause::BadFrame,
         };
-        let (front, _) = ANSWERS.split_at(answered(at));
-        assert_eq!(rt; end.why, why, "after {at}");
-        assert_eq!(rt; out.as_slice(), front, "after {at}");
-        assert_eq!(rt; asker.why, why.leave(), "after {at}");
-        assert_eq!(rt; asker.asked, end.calls + 1, "after {at}");
+        let (calls, written) = answered(at);
+        assert_eq!(rt; out.as_slice(), front(ANSWERS, written));
+        assert!(rt; common(&came, why, calls, written), "{came:?}");
     }
     Ok(())
 }

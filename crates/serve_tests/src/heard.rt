@@ -9,8 +9,7 @@ use session_serve::Asks;
 use session_solo::Solo;
 use std::alloc::Global;
 
-/// Asks a keeper, and notes the Leaves that the session makes of its own: those with another cause than a client can tell, and
-/// the last.
+/// Asks a keeper, and notes what it is asked.
 #[derive(Drop)]
 pub struct Heard {
     pub solo: Solo,
@@ -24,13 +23,14 @@ pub struct Heard {
 }
 
 impl Heard {
-    pub fn of(keeper: Keeper) -> Heard {
+    /// Of a keeper; the call of this number finds the host ended.
+    pub fn of(keeper: Keeper, closes_at: u32) -> Heard {
         Heard {
             solo: Solo(keeper),
             asked: 0,
             leaves: 0,
             why: None,
-            closes_at: 0,
+            closes_at,
         }
     }
 }

@@ -1,20 +1,22 @@
 // Sessions of a few bytes, and what comes of each.
-use crate::heard::Heard;
-use crate::run::{ATTACH, ATTACHED, LIMIT, opened, told, whole};
-use failing_io::{Narrow, Pieces};
-use plain_machine::{Call, Why};
-use session_serve::{EndCause, serve};
+use crate::run::{LIMIT, Setup, plain, session};
+use plain_machine::Why;
+use session_serve::EndCause;
 use std::test::Fail;
 
-// The frame of an Attach, and then a length of 0.
+// The frame of an Attach in the root, of priority 4, and a length of 0 behind it; and the frame of Attached 1.
+const ATTACH: &[u8] = &[0, 0, 0, 3, 1, 0, 4];
+
 const ATTACH_AND_FAULT: &[u8] = &[0, 0, 0, 3, 1, 0, 4, 0, 0, 0, 0];
 
-// Each row: what comes, how many frames may be answered; why it ends, how many calls were asked, what is written, the answer of
-// the Leave, and how many calls the keeper accepted.
+const ATTACHED: &[u8] = &[0, 0, 0, 9, 0x81, 0, 0, 0, 0, 0, 0, 0, 1];
+
+// Each row: what comes, and how many frames may be answered; why it ends, how many calls were asked, what is written, the answer of
+// the Leave, and how many calls the keeper accepted. The bytes come one by one, and in greater pieces.
 #[test]
 fn what_comes_of_bytes(rt: HostRuntime) -> Result<(), Fail> {
-    let alloc = rt.alloc();
     let none = [].as_slice();
+    // Of the bad ones: a length above the greatest, a kind of the operator, a body too short, and a frame that breaks off.
     for (bytes, limit, why, calls, out, left, accepted) in [
         (ATTACH, LIMIT, EndCause::Ended, 1, ATTACHED, 0, 2),
         (
@@ -27,9 +29,8 @@ fn what_comes_of_bytes(rt: HostRuntime) -> Result<(), Fail> {
             2,
         ),
         (none, LIMIT, EndCause::Ended, 0, none, 3, 0),
-        // A length above the greatest, a kind of the operator, a body that is too short, and a frame that breaks off.
         (
-            [0, 0, 0x80, 0x14].as_slice(),
+            [0, 0, 128, 20].as_slice(),
             LIMIT,
             EndCause::BadFrame,
             0,
@@ -38,7 +39,7 @@ fn what_comes_of_bytes(rt: HostRuntime) -> Result<(), Fail> {
             0,
         ),
         (
-            [0, 0, 0, 1, 0x14].as_slice(),
+            [0, 0, 0, 1, 20].as_slice(),
             LIMIT,
             EndCause::BadFrame,
             0,
@@ -64,120 +65,121 @@ fn what_comes_of_bytes(rt: HostRuntime) -> Result<(), Fail> {
             3,
             0,
         ),
-        // At the limit not even a fault is looked at.
         (ATTACH, 1, EndCause::FrameLimit, 1, ATTACHED, 0, 2),
         (ATTACH_AND_FAULT, 1, EndCause::FrameLimit, 1, ATTACHED, 0, 2),
         (ATTACH, 0, EndCause::FrameLimit, 0, none, 3, 0),
     ] {
         for step in [1, 4, 7, 8, 4096] {
-            let mut asker = opened(alloc)?;
-            let mut reader = Pieces::of(bytes, step);
-            let mut writer = Narrow::new(alloc, 4096);
-            let end = serve(alloc, &mut reader, &mut writer, &mut asker, limit);
-            assert_eq!(rt; end.why, why, "{bytes:?} by {step}");
-            assert_eq!(rt; end.calls, calls, "{bytes:?} by {step}");
-            assert_eq!(rt; writer.taken.as_slice(), out, "{bytes:?} by {step}");
-            assert_eq!(rt; end.written, out.len() as u64, "{bytes:?} by {step}");
-            assert_eq!(rt; told(&end.left), left, "{bytes:?} by {step}");
-            assert_eq!(rt; asker.why, why.leave(), "{bytes:?} by {step}");
-            assert_eq!(rt; asker.leaves, 1, "{bytes:?} by {step}");
-            assert_eq!(rt; asker.solo.0.journal_len(), accepted, "{bytes:?} by {step}");
+            let setup = Setup {
+                step,
+                limit,
+                ..plain()
+            };
+            let (came, written) = session(rt.alloc(), bytes, &setup)?;
+            assert_eq!(rt; written.as_slice(), out);
+            assert_eq!(rt; came.written, out.len() as u64);
+            assert_eq!(rt;
+                (came.why, came.calls, came.left, came.accepted),
+                (why, calls, left, accepted)
+            );
+            assert_eq!(rt;
+                (came.leaves, came.cause, came.asked),
+                (1, why.leave(), calls + 1)
+            );
         }
     }
     Ok(())
 }
 
-// Nothing is read where no frame may be answered, and no byte more once as many were.
+// Nothing is read where no frame may be answered, and no byte more once as many were; nor once a fault has come.
 #[test]
 fn reads_no_further(rt: HostRuntime) -> Result<(), Fail> {
-    let alloc = rt.alloc();
     for (limit, reads) in [(0, 0), (1, 7), (2, 11)] {
-        let mut asker = opened(alloc)?;
-        let mut reader = Pieces::of(ATTACH_AND_FAULT, 1);
-        let end = serve(
-            alloc,
-            &mut reader,
-            &mut Narrow::new(alloc, 4096),
-            &mut asker,
-            limit,
-        );
-        assert_eq!(rt; reader.calls, reads, "{limit}");
-        assert_eq!(rt; end.calls, limit.min(1), "{limit}");
+        let setup = Setup { limit, ..plain() };
+        let (came, _) = session(rt.alloc(), &[0, 0, 0, 3, 1, 0, 4, 0, 0, 0, 0, 0, 0], &setup)?;
+        assert_eq!(rt; came.reads, reads);
     }
     Ok(())
 }
 
-// A write that fails, and one that takes nothing: the session is gone, whatever the client got to know.
+// Each row: how much the writer takes, and whether it then takes nothing. The session is gone, whatever its client got to know.
 #[test]
 fn writes_that_fail(rt: HostRuntime) -> Result<(), Fail> {
-    let alloc = rt.alloc();
-    for (room, is_silent) in [(3, false), (0, false), (0, true), (12, true)] {
-        let mut asker = opened(alloc)?;
-        let mut writer = Narrow::new(alloc, room);
-        writer.is_silent = is_silent;
-        let mut reader = Pieces::of(ATTACH, 1);
-        let end = serve(alloc, &mut reader, &mut writer, &mut asker, LIMIT);
-        let (front, _) = ATTACHED.split_at(room);
-        assert_eq!(rt; end.why, EndCause::WriteFault);
-        assert_eq!(rt; writer.taken.as_slice(), front);
-        assert_eq!(rt; end.written, room as u64);
-        assert_eq!(rt; told(&end.left), 0);
-        assert_eq!(rt; asker.why, Some(Why::WriteFault));
-        assert_eq!(rt; asker.leaves, 1);
-        assert_eq!(rt; asker.solo.0.journal_len(), 2);
-    }
-    Ok(())
-}
-
-// Where the host has ended there is no answer and no Leave, but for the one that finds it ended.
-#[test]
-fn host_has_ended(rt: HostRuntime) -> Result<(), Fail> {
-    let alloc = rt.alloc();
-    for (closes_at, why, calls, out, leaves) in [
-        (1, EndCause::Closed, 1, [].as_slice(), 0),
-        (2, EndCause::Ended, 1, ATTACHED, 1),
+    for (room, is_silent, out) in [
+        (3, false, [0, 0, 0].as_slice()),
+        (0, false, [].as_slice()),
+        (0, true, [].as_slice()),
+        (3, true, [0, 0, 0].as_slice()),
     ] {
-        let mut asker = opened(alloc)?;
-        asker.closes_at = closes_at;
-        let (end, written) = whole(alloc, ATTACH, &mut asker);
-        assert_eq!(rt; end.why, why);
-        assert_eq!(rt; end.calls, calls);
+        let setup = Setup {
+            room,
+            is_silent,
+            ..plain()
+        };
+        let (came, written) = session(rt.alloc(), ATTACH, &setup)?;
         assert_eq!(rt; written.as_slice(), out);
-        assert_eq!(rt; asker.leaves, leaves);
-        assert_eq!(rt; told(&end.left), 99);
+        assert_eq!(rt; came.written, out.len() as u64);
+        assert_eq!(rt;
+            (came.why, came.calls, came.left, came.accepted),
+            (EndCause::WriteFault, 1, 0, 2)
+        );
+        assert_eq!(rt;
+            (came.leaves, came.cause, came.asked),
+            (1, Some(Why::WriteFault), 2)
+        );
     }
     Ok(())
 }
 
-// On a held host the Leave has to wait: it stands in the end, and the session stands.
+// Each row: whether a session sits at the seat, whether the host is held, and the call that finds it ended; what is written, why
+// the session ends, the answer of the Leave, the Leaves asked and the calls accepted. Refused 2 is SeatTaken, NotYet 41 Held. On a
+// held host the Leave has to wait, and the session stands.
 #[test]
-fn held_host(rt: HostRuntime) -> Result<(), Fail> {
-    let alloc = rt.alloc();
-    let mut asker = opened(alloc)?;
-    // 00 00 00 02 e1 29 is NotYet 41.
-    asker.solo.0.call(alloc, &Call::Hold);
-    let (end, out) = whole(alloc, ATTACH, &mut asker);
-    assert_eq!(rt; out.as_slice(), [0, 0, 0, 2, 0xe1, 41].as_slice());
-    assert_eq!(rt; end.why, EndCause::Ended);
-    assert_eq!(rt; told(&end.left), 41);
-    assert_eq!(rt; asker.solo.0.journal_len(), 1);
-    Ok(())
-}
-
-// A session that ended while the host was held sits there still: the next one's Attach is refused (2).
-#[test]
-fn seat_stays_taken(rt: HostRuntime) -> Result<(), Fail> {
-    let alloc = rt.alloc();
-    let mut asker = opened(alloc)?;
-    let attach = history::ClientCall::Attach { group: 0, prio: 4 };
-    asker.solo.0.call(alloc, &attach.of_seat(0));
-    asker.solo.0.call(alloc, &Call::Hold);
-    let mut held = Heard::of(asker.solo.0);
-    let (end, _) = whole(alloc, &[], &mut held);
-    assert_eq!(rt; told(&end.left), 41);
-    held.solo.0.call(alloc, &Call::Release);
-    let (end, out) = whole(alloc, ATTACH, &mut held);
-    assert_eq!(rt; out.as_slice(), [0, 0, 0, 2, 0xe0, 2].as_slice());
-    assert_eq!(rt; told(&end.left), 0);
+fn seats_and_hosts(rt: HostRuntime) -> Result<(), Fail> {
+    for (is_seated, is_held, closes_at, out, why, left, leaves, accepted) in [
+        (
+            true,
+            false,
+            0,
+            [0, 0, 0, 2, 0xe0, 2].as_slice(),
+            EndCause::Ended,
+            0,
+            1,
+            2,
+        ),
+        (
+            true,
+            true,
+            0,
+            [0, 0, 0, 2, 0xe1, 41].as_slice(),
+            EndCause::Ended,
+            41,
+            1,
+            2,
+        ),
+        (
+            false,
+            true,
+            0,
+            [0, 0, 0, 2, 0xe1, 41].as_slice(),
+            EndCause::Ended,
+            41,
+            1,
+            1,
+        ),
+        (false, false, 1, [].as_slice(), EndCause::Closed, 99, 0, 0),
+        (false, false, 2, ATTACHED, EndCause::Ended, 99, 1, 1),
+    ] {
+        let setup = Setup {
+            is_seated,
+            is_held,
+            closes_at,
+            ..plain()
+        };
+        let (came, written) = session(rt.alloc(), ATTACH, &setup)?;
+        assert_eq!(rt; written.as_slice(), out);
+        assert_eq!(rt; (came.why, came.calls, came.left), (why, 1, left));
+        assert_eq!(rt; (came.leaves, came.accepted), (leaves, accepted));
+    }
     Ok(())
 }

@@ -1,37 +1,89 @@
-// A session over a keeper.
+// A session over a keeper, and what came of it.
 use crate::heard::Heard;
 use failing_io::{Narrow, Pieces};
 use history::Keeper;
-use plain_machine::{Answer, Reply};
+use host_calls::ClientCall;
+use plain_machine::{Answer, Call, Reply, Why};
 use sector_core::{Config, ConfigDraft};
-use session_serve::{SessionEnd, serve};
+use session_serve::{EndCause, SessionEnd, serve};
 use std::alloc::Global;
 use std::test::Fail;
 
-/// The frame of an Attach in the root, of priority 4.
-pub const ATTACH: &[u8] = &[0, 0, 0, 3, 1, 0, 4];
-
-/// The frame of Attached 1.
-pub const ATTACHED: &[u8] = &[0, 0, 0, 9, 0x81, 0, 0, 0, 0, 0, 0, 0, 1];
-
-/// What a client may ask in all.
+/// How many frames a session may have, where a test does not want fewer.
 pub const LIMIT: u32 = 1_048_576;
 
-/// A keeper of 1,024 sectors before its first call.
-pub fn opened(alloc: Global) -> Result<Heard, Fail> {
+/// How a session's reader, writer and host are.
+#[derive(Clone, Copy, Debug, PartialEq, Eq)]
+pub struct Setup {
+    /// How many bytes a read gives at most, and the read that fails, or 0 for none.
+    pub step: usize,
+    pub fails_at: usize,
+    /// How many bytes the writer takes in all, and whether it then takes nothing and does not fail.
+    pub room: usize,
+    pub is_silent: bool,
+    pub limit: u32,
+    /// Whether a session sits at the seat already, whether the host is held, and the call that finds it ended, or 0 for none.
+    pub is_seated: bool,
+    pub is_held: bool,
+    pub closes_at: u32,
+}
+
+/// What a session came to.
+#[derive(Clone, Copy, Debug, PartialEq, Eq)]
+pub struct Outcome {
+    pub why: EndCause,
+    pub calls: u32,
+    pub written: u64,
+    /// What the Leave at its end was answered, as `told` tells it.
+    pub left: u8,
+    /// How many Leaves were asked, and the cause of the last.
+    pub leaves: u32,
+    pub cause: Option<Why>,
+    /// How many calls were asked, and how many the keeper accepted.
+    pub asked: u32,
+    pub accepted: usize,
+    /// How many reads were made.
+    pub reads: usize,
+}
+
+/// Byte by byte, with all the room there is.
+pub fn plain() -> Setup {
+    Setup {
+        step: 1,
+        fails_at: 0,
+        room: 4096,
+        is_silent: false,
+        limit: LIMIT,
+        is_seated: false,
+        is_held: false,
+        closes_at: 0,
+    }
+}
+
+/// The first bytes, so many of them.
+pub fn front(bytes: &[u8], count: usize) -> &[u8] {
+    match bytes.get(..count) {
+        Some(front) => front,
+        None => bytes,
+    }
+}
+
+// A keeper of 1,024 sectors.
+fn opened(alloc: Global, setup: &Setup) -> Result<Heard, Fail> {
     let config = Config::check(ConfigDraft::default())?;
-    Ok(Heard::of(Keeper::new(alloc, config, 1024)?))
+    let mut keeper = Keeper::new(alloc, config, 1024)?;
+    if setup.is_seated {
+        let attach = ClientCall::Attach { group: 0, prio: 4 };
+        keeper.call(alloc, &attach.of_seat(0));
+    }
+    if setup.is_held {
+        keeper.call(alloc, &Call::Hold);
+    }
+    Ok(Heard::of(keeper, setup.closes_at))
 }
 
-/// The session of these bytes, one byte a read, with a writer that takes all.
-pub fn whole(alloc: Global, bytes: &[u8], asker: &mut Heard) -> (SessionEnd, Vec<u8>) {
-    let mut writer = Narrow::new(alloc, 65_536);
-    let end = serve(alloc, &mut Pieces::of(bytes, 1), &mut writer, asker, LIMIT);
-    (end, writer.taken)
-}
-
-/// What a Leave was answered: 0 if it was accepted, its number if it was refused or has to wait, and 99 if it was not answered.
-pub fn told(left: &Option<Answer>) -> u8 {
+// 0 if the Leave was accepted, its number if it was refused or has to wait, and 99 if it was not answered.
+fn told(left: &Option<Answer>) -> u8 {
     match left {
         Some(Answer::Accepted(Reply::Left)) => 0,
         Some(Answer::Accepted(_)) => 98,
@@ -39,4 +91,29 @@ pub fn told(left: &Option<Answer>) -> u8 {
         Some(Answer::NotYet(cause)) => cause.number(),
         None => 99,
     }
+}
+
+fn outcome_of(end: &SessionEnd, asker: &Heard, reads: usize) -> Outcome {
+    Outcome {
+        why: end.why,
+        calls: end.calls,
+        written: end.written,
+        left: told(&end.left),
+        leaves: asker.leaves,
+        cause: asker.why,
+        asked: asker.asked,
+        accepted: asker.solo.0.journal_len(),
+        reads,
+    }
+}
+
+/// What comes of a session of these bytes, and what was written.
+pub fn session(alloc: Global, bytes: &[u8], setup: &Setup) -> Result<(Outcome, Vec<u8>), Fail> {
+    let mut asker = opened(alloc, setup)?;
+    let mut reader = Pieces::of(bytes, setup.step);
+    reader.fails_at = setup.fails_at;
+    let mut writer = Narrow::new(alloc, setup.room);
+    writer.is_silent = setup.is_silent;
+    let end = serve(alloc, &mut reader, &mut writer, &mut asker, setup.limit);
+    Ok((outcome_of(&end, &asker, reader.calls), writer.taken))
 }

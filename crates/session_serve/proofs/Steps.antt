@@ -1,5 +1,5 @@
 -- What each step of a session makes of what is known so far.
-use Rattle.std.proofs.Common.{◌≡◌, ℕ, false, is_some, ◌+◌, ◌<◌, ◌≤◌, List, [], ◌∷◌, ◌++◌, length, take, drop, Result, Ok, Err, Option, Some, None, refl, sym, ap, ◌∙◌, subst, append_assoc, append-nil, take-append-drop, length-append, length-drop, length-take-le, take_all, arith, inl, inr}
+use Rattle.std.proofs.Common.{◌≡◌, ℕ, true, false, is_some, ◌+◌, ◌<◌, ◌≤◌, List, [], ◌∷◌, ◌++◌, length, take, drop, Result, Ok, Err, Option, Some, None, refl, sym, ap, ◌∙◌, subst, append_assoc, append-nil, take-append-drop, length-append, length-drop, length-take-le, take_all, arith, inl, inr}
 use Rattle.std.specs.Io.KnownBytes.{Appends, Consumes, Keeps, IsAtEnd}
 use Rattle.std.proofs.lemmas.List.Concat.{flat_map-append}
 use Rattle.plain_machine.specs.declared.answer.Answer.{Answer}
@@ -130,6 +130,10 @@ same_calls asks limit start now held waiting others calls written e past =
 pub may_read : {A : Type 0} (asks : Asking A) (limit : ℕ) (start now : Standing A) (held : Held) (calls written : ℕ)
     → (past : SoFar asks limit start now held [] calls written) → calls < limit → length (past.asked ++ []) < limit
 may_read asks limit start now held calls written past under = omega (arith, under, past.counted, length-append past.asked [])
+
+pub some_of : {T : Type 0} (o : Option T) → is_some o ≡ true → (x : T) × (o ≡ Some x)
+some_of None e = absurd cc
+some_of (Some x) e = (x, refl)
 
 pub none_of : {T : Type 0} (o : Option T) → is_some o ≡ false → o ≡ None
 none_of None e = refl
@@ -307,9 +311,9 @@ meets_limit asks limit start now held waiting calls written same past =
 
 -- all was asked, and there is a fault behind it
 pub meets_fault : {A : Type 0} (asks : Asking A) (limit : ℕ) (start now : Standing A) (held : Held) (calls written : ℕ) (fault : Fault)
-    → held.fault ≡ Some fault → SoFar asks limit start now held [] calls written
+    → held.fault ≡ Some fault → calls < limit → SoFar asks limit start now held [] calls written
     → HasServed asks limit start.input now.input start.output now.output start.asker now.asker BadFrame calls written
-meets_fault asks limit start now held calls written fault bad past =
+meets_fault asks limit start now held calls written fault bad under past =
     record {
       asked = past.asked;
       unasked = [];
@@ -324,7 +328,7 @@ meets_fault asks limit start now held calls written fault bad past =
       appends = past.appends;
       wrote = refl;
       totalled = past.totalled;
-      ends = (refl, inl (fault, bad));
+      ends = (refl, under, inl (fault, bad));
       misses = inl refl;
     }
 
@@ -347,9 +351,9 @@ reads_on asks limit start input input2 w1 a1 held next calls written fed past re
 -- or the session ends there
 pub reads_no_more : {A : Type 0} (asks : Asking A) (limit : ℕ) (start : Standing A) (input input2 w1 : Known) (a1 : A) (held next : Held) (calls written : ℕ)
     → (cause : EndCause) (past : SoFar asks limit start (record { input = input; output = w1; asker = a1 }) held [] calls written)
-    → Reads limit start.input input2 next (past.asked ++ []) (Err cause)
+    → calls < limit → Reads limit start.input input2 next (past.asked ++ []) (Err cause)
     → HasServed asks limit start.input input2 start.output w1 start.asker a1 cause calls written
-reads_no_more asks limit start input input2 w1 a1 held next calls written Ended past reads =
+reads_no_more asks limit start input input2 w1 a1 held next calls written Ended past under reads =
     record {
       asked = past.asked;
       unasked = [];
@@ -364,10 +368,10 @@ reads_no_more asks limit start input input2 w1 a1 held next calls written Ended 
       appends = past.appends;
       wrote = refl;
       totalled = past.totalled;
-      ends = (refl, reads.4.0, reads.4.1, reads.4.2);
+      ends = (refl, under, reads.4.0, reads.4.1, reads.4.2);
       misses = inl reads.4.3;
     }
-reads_no_more asks limit start input input2 w1 a1 held next calls written ReadFault past reads =
+reads_no_more asks limit start input input2 w1 a1 held next calls written ReadFault past under reads =
     record {
       asked = past.asked;
       unasked = [];
@@ -382,11 +386,11 @@ reads_no_more asks limit start input input2 w1 a1 held next calls written ReadFa
       appends = past.appends;
       wrote = refl;
       totalled = past.totalled;
-      ends = (refl, reads.4.0);
+      ends = (refl, under, reads.4.0);
       misses = inl reads.4.1;
     }
-reads_no_more asks limit start input input2 w1 a1 held next calls written WriteFault past reads = absurd reads.4
-reads_no_more asks limit start input input2 w1 a1 held next calls written BadFrame past reads =
+reads_no_more asks limit start input input2 w1 a1 held next calls written WriteFault past under reads = absurd reads.4
+reads_no_more asks limit start input input2 w1 a1 held next calls written BadFrame past under reads =
     record {
       asked = past.asked;
       unasked = [];
@@ -401,12 +405,12 @@ reads_no_more asks limit start input input2 w1 a1 held next calls written BadFra
       appends = past.appends;
       wrote = refl;
       totalled = past.totalled;
-      ends = (refl, inr (reads.4.1, reads.4.0, reads.4.2));
+      ends = (refl, under, inr (reads.4.1, reads.4.0, reads.4.2));
       misses = inl reads.4.3;
     }
-reads_no_more asks limit start input input2 w1 a1 held next calls written FrameLimit past reads = absurd reads.4
-reads_no_more asks limit start input input2 w1 a1 held next calls written Closed past reads = absurd reads.4
-reads_no_more asks limit start input input2 w1 a1 held next calls written OutOfMemory past reads =
+reads_no_more asks limit start input input2 w1 a1 held next calls written FrameLimit past under reads = absurd reads.4
+reads_no_more asks limit start input input2 w1 a1 held next calls written Closed past under reads = absurd reads.4
+reads_no_more asks limit start input input2 w1 a1 held next calls written OutOfMemory past under reads =
     record {
       asked = past.asked;
       unasked = [];

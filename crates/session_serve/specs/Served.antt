@@ -96,12 +96,12 @@ abbrev pub IsBad : Option Fault → List ℕ → Known → Type 0
 IsBad fault rest left = ((f : Fault) × (fault ≡ Some f)) ⊎ ((fault ≡ None) × (0 < length rest) × IsAtEnd left)
 
 -- which cause may come where these calls are left unasked, this is the rest, with its fault, and this is left of the input;
--- so many calls were asked, of at most so many (our profile)
+-- so many calls were asked, of at most so many: at the limit no other is looked for (our profile)
 abbrev pub MayEnd : EndCause → List Client → List ℕ → Option Fault → Known → ℕ → ℕ → Type 0
-MayEnd Ended unasked rest fault left calls limit = (unasked ≡ []) × (rest ≡ []) × (fault ≡ None) × IsAtEnd left
-MayEnd ReadFault unasked rest fault left calls limit = (unasked ≡ []) × (fault ≡ None)
+MayEnd Ended unasked rest fault left calls limit = (unasked ≡ []) × (calls < limit) × (rest ≡ []) × (fault ≡ None) × IsAtEnd left
+MayEnd ReadFault unasked rest fault left calls limit = (unasked ≡ []) × (calls < limit) × (fault ≡ None)
 MayEnd WriteFault unasked rest fault left calls limit = 0 < calls
-MayEnd BadFrame unasked rest fault left calls limit = (unasked ≡ []) × IsBad fault rest left
+MayEnd BadFrame unasked rest fault left calls limit = (unasked ≡ []) × (calls < limit) × IsBad fault rest left
 MayEnd FrameLimit unasked rest fault left calls limit = calls ≡ limit
 MayEnd Closed unasked rest fault left calls limit = 0 < calls
 MayEnd OutOfMemory unasked rest fault left calls limit = Unit {0}

@@ -1,6 +1,6 @@
 use Rattle.std.proofs.Common.{◌≡◌, ◌<◌, ◌∙◌, ◌++◌, [], sym, ap, refl, length, arith, is_some}
 use Rattle.frame_stream.specs.Stream.{Held}
-use Rattle.session_serve.proofs.Steps.{begun, may_read, reads_on, reads_no_more, none_of}
+use Rattle.session_serve.proofs.Steps.{begun, may_read, reads_on, reads_no_more, meets_fault, none_of, some_of}
 use Rattle.session_serve.proofs.serving.serve_frames.Goals as goal
 
 pub pieces-init : goal.pieces-init
@@ -18,7 +18,7 @@ pub returns-in-Err-clause-served : goal.returns-in-Err-clause-served
 returns-in-Err-clause-served g c =
     let past = c.pieces.invariant.5 in
     let under : c.pieces.counts.calls < c.args.frame_limit = omega (arith, c.pieces.invariant.2, c.if-counts-frame_limit.false) in
-    reads_no_more g.A.Asks.asks _ _ _ _ _ _ _ c.pieces.feeder _ _ c.in-Err.cause past
+    reads_no_more g.A.Asks.asks _ _ _ _ _ _ _ c.pieces.feeder _ _ c.in-Err.cause past under
     (c.in-Err.ensures.reads _ _ (past.asked ++ []) (may_read g.A.Asks.asks _ _ _ _ _ _ past under) past.comes)
 
 pub returns-in-Some-clause-served : goal.returns-in-Some-clause-served
@@ -42,3 +42,10 @@ pieces-preserved g c =
           (reads_on g.A.Asks.asks _ _ _ _ _ _ _ _ _ _ c.in-Ok.fed past
           (c.in-Ok.ensures.reads _ _ (past.asked ++ []) (may_read g.A.Asks.asks _ _ _ _ _ _ past under) past.comes)),
     )
+
+pub returns-then-is_bad-clause-served : goal.returns-then-is_bad-clause-served
+returns-then-is_bad-clause-served g c =
+    let past = c.pieces.invariant.5 in
+    let under : c.pieces.counts.calls < c.args.frame_limit = omega (arith, c.pieces.invariant.2, c.if-counts-frame_limit.false) in
+    let bad = some_of c.pieces.feeder.fault (sym c.pieces.invariant.0 ∙ c.if-is_bad.true) in
+    meets_fault g.A.Asks.asks _ _ _ c.pieces.feeder _ _ bad.0 bad.1 under past
