@@ -106,10 +106,20 @@ def driven(program):
         yield f"examples/drive.py prints {stdout!r} and {stderr!r}, with status {ran.returncode}"
 
 
+def served():
+    """The bytes of the guide's session over bytes are those that a test runs."""
+    rows = re.findall(r"(?m)^\| `([0-9a-f ]+)` \|[^|]*\| `([0-9a-f ]+)` \|", read("docs", "GUIDE.md"))
+    test = re.sub("//.*", "", read("crates", "serve_tests", "src", "cut.rt"))
+    for name, column in (("CALLS", 0), ("ANSWERS", 1)):
+        run = re.search(rf"const {name}: &\[u8\] = &\[(.*?)\];", test, re.DOTALL)[1]
+        if bytes.fromhex("".join(row[column] for row in rows)) != bytes(int(it, 0) for it in re.findall(r"\w+", run)):
+            yield f"docs/GUIDE.md has other bytes than {name} of the test"
+
+
 def documents(program):
     """The name of each look, and what was wrong with the documents."""
     looks = {"refusals and causes": refusals(program), "README.md": sessions(program, "README.md"),
-             "docs/GUIDE.md": sessions(program, "docs", "GUIDE.md"), "examples/drive.py": driven(program)}
+             "docs/GUIDE.md": sessions(program, "docs", "GUIDE.md"), "examples/drive.py": driven(program), "a client's bytes": served()}
     for name, look in looks.items():
         faults = []
         try:
