@@ -4,7 +4,8 @@ ghost use Rattle.std.specs.Prelude.{Some};
 use std::alloc::Global;
 use std::io::{self, ErrorKind, Write};
 
-/// Takes at most `step` bytes a call, `room` in all, and then fails, or takes nothing if it `is_silent`.
+/// Takes at most `step` bytes a call, `room` in all, and then fails, or takes nothing if it `is_silent`. So it does at the call
+/// `fails_at` too, and after that call it takes again.
 #[derive(Drop)]
 pub struct Narrow {
     /// The bytes that it took.
@@ -13,8 +14,12 @@ pub struct Narrow {
     pub step: usize,
     /// How many bytes it takes in all.
     pub room: usize,
-    /// Whether it takes nothing, and does not fail, once it has no more room.
+    /// Whether it takes nothing in place of failing.
     pub is_silent: bool,
+    /// How many calls were made.
+    pub calls: usize,
+    /// The call that fails, counted from 1, or 0 for none.
+    pub fails_at: usize,
     /// Whether a flush fails.
     pub is_stuck: bool,
     /// How many bytes were taken before the last flush that did not fail.
@@ -29,6 +34,8 @@ impl Narrow {
             step: 2,
             room,
             is_silent: false,
+            calls: 0,
+            fails_at: 0,
             is_stuck: false,
             flushed: 0,
         }
@@ -39,8 +46,9 @@ impl Write for Narrow {
     ghost contents = { λ w. Some w.taken.items };
 
     fn write(&mut self, buf: &[u8]) -> io::Result<usize> {
+        self.calls = self.calls.wrapping_add(1);
         let left = self.room.saturating_sub(self.taken.len());
-        if left == 0 {
+        if left == 0 || self.calls == self.fails_at {
             if self.is_silent {
                 return Ok(0);
             }

@@ -4,7 +4,8 @@
 //! | tests | what they compare |
 //! |---|---|
 //! | `rows` | what comes of a session's bytes over a keeper: what is written, how it ends, and its Leave |
-//! | `cut` | one session's bytes in pieces of each length, with a read that fails before each of them, and a write after each |
+//! | `cut` | one session in pieces of each length; with a read that fails before each byte, a write that fails after each, one write that fails, an end after each byte, and each limit |
+//! | `long` | the keeper asked by itself, and the longest call and the longest answer |
 //!
 //! Tested are `session_serve` and `session_solo`. `heard` has a keeper that notes what it is asked, and `run` a session over it.
 
@@ -12,6 +13,8 @@
 mod cut;
 #[cfg(test)]
 mod heard;
+#[cfg(test)]
+mod long;
 #[cfg(test)]
 mod rows;
 #[cfg(test)]

@@ -4,35 +4,38 @@ use plain_machine::Why;
 use session_serve::EndCause;
 use std::test::Fail;
 
-// The frame of an Attach in the root, of priority 4, and a length of 0 behind it; and the frame of Attached 1.
+// The frame of an Attach in the root, of priority 4.
 const ATTACH: &[u8] = &[0, 0, 0, 3, 1, 0, 4];
 
+// The same, and a length of 0 behind it.
 const ATTACH_AND_FAULT: &[u8] = &[0, 0, 0, 3, 1, 0, 4, 0, 0, 0, 0];
 
+// The frame of Attached 1.
 const ATTACHED: &[u8] = &[0, 0, 0, 9, 0x81, 0, 0, 0, 0, 0, 0, 0, 1];
 
-// Each row: what comes, and how many frames may be answered; why it ends, how many calls were asked, what is written, the answer of
-// the Leave, and how many calls the keeper accepted. The bytes come one by one, and in greater pieces.
+// Each row: what comes, and how many frames may be answered; why it ends, and what its Leave tells; how many calls were asked, what
+// is written, the answer of the Leave, and how many calls the keeper accepted. The bytes come one by one, and in greater pieces.
+// Of the bad ones: a length above the greatest, a kind of the operator, a body too short, and frames that break off.
 #[test]
 fn what_comes_of_bytes(rt: HostRuntime) -> Result<(), Fail> {
     let none = [].as_slice();
-    // Of the bad ones: a length above the greatest, a kind of the operator, a body too short, and a frame that breaks off.
-    for (bytes, limit, why, calls, out, left, accepted) in [
-        (ATTACH, LIMIT, EndCause::Ended, 1, ATTACHED, 0, 2),
+    let (ended, bad, limited) = (EndCause::Ended, EndCause::BadFrame, EndCause::FrameLimit);
+    for (bytes, limit, (why, tells), calls, out, left, accepted) in [
+        (ATTACH, LIMIT, (ended, Why::Ended), 1, ATTACHED, 0, 2),
         (
             ATTACH_AND_FAULT,
             LIMIT,
-            EndCause::BadFrame,
+            (bad, Why::BadFrame),
             1,
             ATTACHED,
             0,
             2,
         ),
-        (none, LIMIT, EndCause::Ended, 0, none, 3, 0),
+        (none, LIMIT, (ended, Why::Ended), 0, none, 3, 0),
         (
             [0, 0, 128, 20].as_slice(),
             LIMIT,
-            EndCause::BadFrame,
+            (bad, Why::BadFrame),
             0,
             none,
             3,
@@ -41,7 +44,7 @@ fn what_comes_of_bytes(rt: HostRuntime) -> Result<(), Fail> {
         (
             [0, 0, 0, 1, 20].as_slice(),
             LIMIT,
-            EndCause::BadFrame,
+            (bad, Why::BadFrame),
             0,
             none,
             3,
@@ -50,7 +53,7 @@ fn what_comes_of_bytes(rt: HostRuntime) -> Result<(), Fail> {
         (
             [0, 0, 0, 2, 5, 0].as_slice(),
             LIMIT,
-            EndCause::BadFrame,
+            (bad, Why::BadFrame),
             0,
             none,
             3,
@@ -59,15 +62,41 @@ fn what_comes_of_bytes(rt: HostRuntime) -> Result<(), Fail> {
         (
             [0, 0, 0].as_slice(),
             LIMIT,
-            EndCause::BadFrame,
+            (bad, Why::BadFrame),
             0,
             none,
             3,
             0,
         ),
-        (ATTACH, 1, EndCause::FrameLimit, 1, ATTACHED, 0, 2),
-        (ATTACH_AND_FAULT, 1, EndCause::FrameLimit, 1, ATTACHED, 0, 2),
-        (ATTACH, 0, EndCause::FrameLimit, 0, none, 3, 0),
+        (
+            [0, 0, 2].as_slice(),
+            LIMIT,
+            (bad, Why::BadFrame),
+            0,
+            none,
+            3,
+            0,
+        ),
+        (
+            [0, 0, 128].as_slice(),
+            LIMIT,
+            (bad, Why::BadFrame),
+            0,
+            none,
+            3,
+            0,
+        ),
+        (ATTACH, 1, (limited, Why::FrameLimit), 1, ATTACHED, 0, 2),
+        (
+            ATTACH_AND_FAULT,
+            1,
+            (limited, Why::FrameLimit),
+            1,
+            ATTACHED,
+            0,
+            2,
+        ),
+        (ATTACH, 0, (limited, Why::FrameLimit), 0, none, 3, 0),
     ] {
         for step in [1, 4, 7, 8, 4096] {
             let setup = Setup {
@@ -84,7 +113,7 @@ fn what_comes_of_bytes(rt: HostRuntime) -> Result<(), Fail> {
             );
             assert_eq!(rt;
                 (came.leaves, came.cause, came.asked),
-                (1, why.leave(), calls + 1)
+                (1, Some(tells), calls + 1)
             );
         }
     }
@@ -94,8 +123,20 @@ fn what_comes_of_bytes(rt: HostRuntime) -> Result<(), Fail> {
 // Nothing is read where no frame may be answered, and no byte more once as many were; nor once a fault has come.
 #[test]
 fn reads_no_further(rt: HostRuntime) -> Result<(), Fail> {
-    for (limit, reads) in [(0, 0), (1, 7), (2, 11)] {
-        let setup = Setup { limit, ..plain() };
+    for (limit, step, reads) in [
+        (0, 1, 0),
+        (1, 1, 7),
+        (2, 1, 11),
+        (1, 7, 1),
+        (2, 7, 2),
+        (2, 11, 1),
+        (1, 13, 1),
+    ] {
+        let setup = Setup {
+            limit,
+            step,
+            ..plain()
+        };
         let (came, _) = session(rt.alloc(), &[0, 0, 0, 3, 1, 0, 4, 0, 0, 0, 0, 0, 0], &setup)?;
         assert_eq!(rt; came.reads, reads);
     }
@@ -131,15 +172,16 @@ fn writes_that_fail(rt: HostRuntime) -> Result<(), Fail> {
     Ok(())
 }
 
-// Each row: whether a session sits at the seat, whether the host is held, and the call that finds it ended; what is written, why
-// the session ends, the answer of the Leave, the Leaves asked and the calls accepted. Refused 2 is SeatTaken, NotYet 41 Held. On a
-// held host the Leave has to wait, and the session stands.
+// Each row: whether a session sits at the seat, whether the host is held, how many calls its history holds, and the call that finds
+// it ended; what is written, why the session ends, the answer of the Leave, the Leaves asked and the calls accepted. Refused 2 is
+// SeatTaken, 33 HistoryFull, NotYet 41 Held: where the Leave is not accepted the session stands.
 #[test]
 fn seats_and_hosts(rt: HostRuntime) -> Result<(), Fail> {
-    for (is_seated, is_held, closes_at, out, why, left, leaves, accepted) in [
+    for (is_seated, is_held, history, closes_at, out, why, left, leaves, accepted) in [
         (
             true,
             false,
+            9,
             0,
             [0, 0, 0, 2, 0xe0, 2].as_slice(),
             EndCause::Ended,
@@ -150,6 +192,7 @@ fn seats_and_hosts(rt: HostRuntime) -> Result<(), Fail> {
         (
             true,
             true,
+            9,
             0,
             [0, 0, 0, 2, 0xe1, 41].as_slice(),
             EndCause::Ended,
@@ -160,6 +203,7 @@ fn seats_and_hosts(rt: HostRuntime) -> Result<(), Fail> {
         (
             false,
             true,
+            9,
             0,
             [0, 0, 0, 2, 0xe1, 41].as_slice(),
             EndCause::Ended,
@@ -167,12 +211,24 @@ fn seats_and_hosts(rt: HostRuntime) -> Result<(), Fail> {
             1,
             1,
         ),
-        (false, false, 1, [].as_slice(), EndCause::Closed, 99, 0, 0),
-        (false, false, 2, ATTACHED, EndCause::Ended, 99, 1, 1),
+        (false, false, 1, 0, ATTACHED, EndCause::Ended, 33, 1, 1),
+        (
+            false,
+            false,
+            9,
+            1,
+            [].as_slice(),
+            EndCause::Closed,
+            99,
+            0,
+            0,
+        ),
+        (false, false, 9, 2, ATTACHED, EndCause::Ended, 99, 1, 1),
     ] {
         let setup = Setup {
             is_seated,
             is_held,
+            history,
             closes_at,
             ..plain()
         };
@@ -180,6 +236,7 @@ fn seats_and_hosts(rt: HostRuntime) -> Result<(), Fail> {
         assert_eq!(rt; written.as_slice(), out);
         assert_eq!(rt; (came.why, came.calls, came.left), (why, 1, left));
         assert_eq!(rt; (came.leaves, came.accepted), (leaves, accepted));
+        assert_eq!(rt; (came.written, came.asked), (out.len() as u64, leaves + 1));
     }
     Ok(())
 }

@@ -18,10 +18,13 @@ pub struct Setup {
     /// How many bytes a read gives at most, and the read that fails, or 0 for none.
     pub step: usize,
     pub fails_at: usize,
-    /// How many bytes the writer takes in all, and whether it then takes nothing and does not fail.
+    /// How many bytes the writer takes in all, the write that fails, or 0 for none, and whether it takes nothing in place of failing.
     pub room: usize,
+    pub write_fails_at: usize,
     pub is_silent: bool,
+    /// How many frames the session may have, and how many calls the history holds.
     pub limit: u32,
+    pub history: u64,
     /// Whether a session sits at the seat already, whether the host is held, and the call that finds it ended, or 0 for none.
     pub is_seated: bool,
     pub is_held: bool,
@@ -51,9 +54,11 @@ pub fn plain() -> Setup {
     Setup {
         step: 1,
         fails_at: 0,
-        room: 4096,
+        room: 65_536,
+        write_fails_at: 0,
         is_silent: false,
         limit: LIMIT,
+        history: 65_536,
         is_seated: false,
         is_held: false,
         closes_at: 0,
@@ -70,7 +75,11 @@ pub fn front(bytes: &[u8], count: usize) -> &[u8] {
 
 // A keeper of 1,024 sectors.
 fn opened(alloc: Global, setup: &Setup) -> Result<Heard, Fail> {
-    let config = Config::check(ConfigDraft::default())?;
+    let draft = ConfigDraft {
+        history_max: setup.history,
+        ..ConfigDraft::default()
+    };
+    let config = Config::check(draft)?;
     let mut keeper = Keeper::new(alloc, config, 1024)?;
     if setup.is_seated {
         let attach = ClientCall::Attach { group: 0, prio: 4 };
@@ -114,6 +123,7 @@ pub fn session(alloc: Global, bytes: &[u8], setup: &Setup) -> Result<(Outcome, V
     reader.fails_at = setup.fails_at;
     let mut writer = Narrow::new(alloc, setup.room);
     writer.is_silent = setup.is_silent;
+    writer.fails_at = setup.write_fails_at;
     let end = serve(alloc, &mut reader, &mut writer, &mut asker, setup.limit);
     Ok((outcome_of(&end, &asker, reader.calls), writer.taken))
 }

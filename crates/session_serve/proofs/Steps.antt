@@ -28,7 +28,7 @@ sound_stream held bytes calls sound come =
 
 -- a piece that is read now is read under the limit, and at no fault
 piece_under : (limit : ℕ) (held : Held) (bytes piece : List ℕ) (calls : List Client) → held.fault ≡ None → HaveCome held bytes calls
-    → length calls < limit → length piece ≤ 4096 → ReadsUnder limit (bytes ++ piece)
+    → length calls < limit → length piece ≤ 4096 → ReadsUnder limit (length calls) (bytes ++ piece)
 piece_under limit held bytes piece calls sound come under few =
     inr (record {
       before = bytes;
@@ -39,42 +39,59 @@ piece_under limit held bytes piece calls sound come under few =
       rest = held.bytes;
       stream = sound_stream held bytes calls sound come;
       under = under;
+      none_waits = omega arith;
+    })
+
+-- with more calls asked
+more_asked : (limit n m : ℕ) (bytes : List ℕ) → n ≤ m → ReadsUnder limit n bytes → ReadsUnder limit m bytes
+more_asked limit n m bytes le (inl none) = inl none
+more_asked limit n m bytes le (inr last) =
+    inr (record {
+      before = last.before;
+      piece = last.piece;
+      pieces = last.pieces;
+      few = last.few;
+      earlier = last.earlier;
+      rest = last.rest;
+      stream = last.stream;
+      under = last.under;
+      none_waits = omega (arith, le, last.none_waits);
     })
 
 -- nothing more was read
 nothing_more : (limit : ℕ) (r0 r1 r2 : Known) (held : Held) (calls : List Client) → held.fault ≡ None → Consumes r1 r2 []
-    → ReadSoFar limit r0 r1 held calls → HasRead limit r0 r2 calls held.bytes None []
+    → ReadSoFar limit (length calls) r0 r1 held calls → HasRead limit (length calls) r0 r2 calls held.bytes None []
 nothing_more limit r0 r1 r2 held calls sound read past =
     let same : past.bytes ++ [] ≡ past.bytes = append-nil past.bytes in
     record {
       bytes = past.bytes;
       stream = sound_stream held past.bytes calls sound past.come;
       read = Consumes-more r0 r1 r2 past.bytes [] past.read read;
-      under = subst (ReadsUnder limit) (sym same) past.under;
+      under = subst (ReadsUnder limit (length calls)) (sym same) past.under;
     }
 
 -- a read failed
 pub read_fails : (limit : ℕ) (r0 r1 r2 : Known) (held : Held) (calls : List Client) → held.fault ≡ None → Keeps r1 r2
-    → ReadSoFar limit r0 r1 held calls → Reads limit r0 r2 held calls (Err ReadFault)
+    → ReadSoFar limit (length calls) r0 r1 held calls → Reads limit r0 r2 held calls (Err ReadFault)
 read_fails limit r0 r1 r2 held calls sound kept past =
     (held.bytes, None, [], nothing_more limit r0 r1 r2 held calls sound (Consumes-kept r1 r1 r2 [] (Consumes-none r1) kept) past, (refl, refl))
 
 -- the input is at its end, between two frames
 pub input_ends : (limit : ℕ) (r0 r1 r2 : Known) (held : Held) (calls : List Client) → held.fault ≡ None → Consumes r1 r2 [] → IsAtEnd r2
-    → held.bytes ≡ [] → ReadSoFar limit r0 r1 held calls → Reads limit r0 r2 held calls (Err Ended)
+    → held.bytes ≡ [] → ReadSoFar limit (length calls) r0 r1 held calls → Reads limit r0 r2 held calls (Err Ended)
 input_ends limit r0 r1 r2 held calls sound read end none past =
     (held.bytes, None, [], nothing_more limit r0 r1 r2 held calls sound read past, (none, refl, end, refl))
 
 -- or inside one
 pub input_breaks : (limit : ℕ) (r0 r1 r2 : Known) (held : Held) (calls : List Client) → held.fault ≡ None → Consumes r1 r2 [] → IsAtEnd r2
-    → 0 < length held.bytes → ReadSoFar limit r0 r1 held calls → Reads limit r0 r2 held calls (Err BadFrame)
+    → 0 < length held.bytes → ReadSoFar limit (length calls) r0 r1 held calls → Reads limit r0 r2 held calls (Err BadFrame)
 input_breaks limit r0 r1 r2 held calls sound read end some past =
     (held.bytes, None, [], nothing_more limit r0 r1 r2 held calls sound read past, (some, refl, end, refl))
 
 -- a piece came, and there was no memory for it
 pub piece_unfed : (limit : ℕ) (r0 r1 r2 : Known) (held : Held) (calls : List Client) (piece : List ℕ) → held.fault ≡ None
     → Consumes r1 r2 piece → 0 < length piece → length piece ≤ 4096 → length calls < limit
-    → ReadSoFar limit r0 r1 held calls → Reads limit r0 r2 held calls (Err OutOfMemory)
+    → ReadSoFar limit (length calls) r0 r1 held calls → Reads limit r0 r2 held calls (Err OutOfMemory)
 piece_unfed limit r0 r1 r2 held calls piece sound read some few under past = (
   held.bytes,
   None,
@@ -92,7 +109,7 @@ piece_unfed limit r0 r1 r2 held calls piece sound read some few under past = (
 pub piece_fed : (limit : ℕ) (r0 r1 r2 : Known) (held next : Held) (calls : List Client) (piece : List ℕ) (fed : Fed Client) → held.fault ≡ None
     → Consumes r1 r2 piece → length piece ≤ 4096 → length calls < limit
     → ((bytes : List ℕ) (before : List Client) → HaveCome held bytes before → HaveCome next (bytes ++ piece) (before ++ fed.values.items))
-    → ReadSoFar limit r0 r1 held calls → Reads limit r0 r2 next calls (Ok fed)
+    → ReadSoFar limit (length calls) r0 r1 held calls → Reads limit r0 r2 next calls (Ok fed)
 piece_fed limit r0 r1 r2 held next calls piece fed sound read few under comes past =
     record {
       bytes = past.bytes ++ piece;
@@ -131,6 +148,13 @@ pub may_read : {A : Type 0} (asks : Asking A) (limit : ℕ) (start now : Standin
     → (past : SoFar asks limit start now held [] calls written) → calls < limit → length (past.asked ++ []) < limit
 may_read asks limit start now held calls written past under = omega (arith, under, past.counted, length-append past.asked [])
 
+-- and all calls that came were asked
+pub all_come : {A : Type 0} (asks : Asking A) (limit : ℕ) (start now : Standing A) (held : Held) (calls written : ℕ)
+    → (past : SoFar asks limit start now held [] calls written)
+    → ReadSoFar limit (length (past.asked ++ [])) start.input now.input held (past.asked ++ [])
+all_come asks limit start now held calls written past =
+    subst (λ (n : ℕ). ReadSoFar limit n start.input now.input held (past.asked ++ [])) (ap length (sym (append-nil past.asked))) past.comes
+
 pub some_of : {T : Type 0} (o : Option T) → is_some o ≡ true → (x : T) × (o ≡ Some x)
 some_of None e = absurd cc
 some_of (Some x) e = (x, refl)
@@ -153,25 +177,31 @@ frames_more answers answer =
     flat_map-append (λ r. framed (answer_body r)) answers (answer ∷ []) ∙ ap (λ (x : List ℕ). frames_of answers ++ x) (append-nil (frame_of answer))
 
 -- what has come is what was read
-was_read : (limit : ℕ) (r0 r1 : Known) (held : Held) (calls : List Client) (past : ReadSoFar limit r0 r1 held calls)
-    → HasRead limit r0 r1 calls (held.bytes ++ past.come.unheld) held.fault []
-was_read limit r0 r1 held calls past =
+was_read : (limit asked : ℕ) (r0 r1 : Known) (held : Held) (calls : List Client) (past : ReadSoFar limit asked r0 r1 held calls)
+    → HasRead limit asked r0 r1 calls (held.bytes ++ past.come.unheld) held.fault []
+was_read limit asked r0 r1 held calls past =
     let same : past.bytes ≡ past.bytes ++ [] = sym (append-nil past.bytes) in
     record {
       bytes = past.bytes;
       stream = past.come.reads;
       read = subst (Consumes r0 r1) same past.read;
-      under = subst (ReadsUnder limit) same past.under;
+      under = subst (ReadsUnder limit asked) same past.under;
     }
-
--- the first call that waits is asked
-first_asked : (limit : ℕ) (r0 r1 : Known) (held : Held) (asked waiting : List Client) (call : Client)
-    → ReadSoFar limit r0 r1 held (asked ++ call ∷ waiting) → ReadSoFar limit r0 r1 held ((asked ++ call ∷ []) ++ waiting)
-first_asked limit r0 r1 held asked waiting call past =
-    subst (ReadSoFar limit r0 r1 held) (sym (append_assoc asked (call ∷ []) waiting)) past
 
 one_longer : {T : Type 0} (xs : List T) (x : T) → length (xs ++ x ∷ []) ≡ length xs + 1
 one_longer xs x = length-append xs (x ∷ [])
+
+-- the first call that waits is asked
+first_asked : (limit : ℕ) (r0 r1 : Known) (held : Held) (asked waiting : List Client) (call : Client)
+    → ReadSoFar limit (length asked) r0 r1 held (asked ++ call ∷ waiting)
+    → ReadSoFar limit (length (asked ++ call ∷ [])) r0 r1 held ((asked ++ call ∷ []) ++ waiting)
+first_asked limit r0 r1 held asked waiting call past =
+    record {
+      bytes = past.bytes;
+      come = subst (HaveCome held past.bytes) (sym (append_assoc asked (call ∷ []) waiting)) past.come;
+      read = past.read;
+      under = more_asked limit (length asked) (length (asked ++ call ∷ [])) past.bytes (omega (arith, one_longer asked call)) past.under;
+    }
 
 -- a call was answered, and the answer's frame written whole
 pub goes_on : {A : Type 0} (asks : Asking A) (limit : ℕ) (start : Standing A) (input w1 w2 : Known) (a1 a2 : A) (held : Held)
@@ -214,7 +244,7 @@ finds_closed asks limit start input w1 a1 a2 held call waiting calls written clo
       rest = held.bytes ++ comes.come.unheld;
       fault = held.fault;
       unfed = [];
-      input = was_read limit start.input input held ((past.asked ++ call ∷ []) ++ waiting) comes;
+      input = was_read limit _ start.input input held ((past.asked ++ call ∷ []) ++ waiting) comes;
       answers = past.answers;
       answered = (past.asked, call, a1, closed, refl, past.answered, one);
       counted = omega (arith, past.counted, one_longer past.asked call);
@@ -240,7 +270,7 @@ finds_no_memory asks limit start input w1 a1 a2 held call waiting calls written 
       rest = held.bytes ++ comes.come.unheld;
       fault = held.fault;
       unfed = [];
-      input = was_read limit start.input input held ((past.asked ++ call ∷ []) ++ waiting) comes;
+      input = was_read limit _ start.input input held ((past.asked ++ call ∷ []) ++ waiting) comes;
       answers = past.answers ++ answer ∷ [];
       answered = asked_more asks start.asker a1 a2 past.asked past.answers call answer past.answered one;
       counted = omega (arith, past.counted, one_longer past.asked call);
@@ -267,7 +297,7 @@ write_fails asks limit start input w1 w2 a1 a2 held call waiting calls written a
       rest = held.bytes ++ comes.come.unheld;
       fault = held.fault;
       unfed = [];
-      input = was_read limit start.input input held ((past.asked ++ call ∷ []) ++ waiting) comes;
+      input = was_read limit _ start.input input held ((past.asked ++ call ∷ []) ++ waiting) comes;
       answers = past.answers ++ answer ∷ [];
       answered = asked_more asks start.asker a1 a2 past.asked past.answers call answer past.answered one;
       counted = omega (arith, past.counted, one_longer past.asked call);
@@ -297,7 +327,7 @@ meets_limit asks limit start now held waiting calls written same past =
       rest = held.bytes ++ past.comes.come.unheld;
       fault = held.fault;
       unfed = [];
-      input = was_read limit start.input now.input held (past.asked ++ waiting) past.comes;
+      input = was_read limit _ start.input now.input held (past.asked ++ waiting) past.comes;
       answers = past.answers;
       answered = past.answered;
       counted = past.counted;
@@ -320,7 +350,7 @@ meets_fault asks limit start now held calls written fault bad under past =
       rest = held.bytes ++ past.comes.come.unheld;
       fault = held.fault;
       unfed = [];
-      input = was_read limit start.input now.input held (past.asked ++ []) past.comes;
+      input = was_read limit _ start.input now.input held (past.asked ++ []) past.comes;
       answers = past.answers;
       answered = past.answered;
       counted = past.counted;
@@ -340,13 +370,19 @@ pub reads_on : {A : Type 0} (asks : Asking A) (limit : ℕ) (start : Standing A)
 reads_on asks limit start input input2 w1 a1 held next calls written fed past reads =
     record {
       asked = past.asked;
-      comes = subst (λ (x : List Client). ReadSoFar limit start.input input2 next (x ++ fed.values.items)) (append-nil past.asked) reads;
+      comes = subst (λ (x : List Client). ReadSoFar limit (length x) start.input input2 next (x ++ fed.values.items)) (append-nil past.asked) reads;
       answers = past.answers;
       answered = past.answered;
       counted = past.counted;
       appends = past.appends;
       totalled = past.totalled;
     }
+
+-- all calls are asked
+all_asked : (limit : ℕ) (r0 r1 : Known) (asked : List Client) (rest : List ℕ) (fault : Option Fault) (unfed : List ℕ)
+    → HasRead limit (length (asked ++ [])) r0 r1 (asked ++ []) rest fault unfed → HasRead limit (length asked) r0 r1 (asked ++ []) rest fault unfed
+all_asked limit r0 r1 asked rest fault unfed input =
+    subst (λ (n : ℕ). HasRead limit n r0 r1 (asked ++ []) rest fault unfed) (ap length (append-nil asked)) input
 
 -- or the session ends there
 pub reads_no_more : {A : Type 0} (asks : Asking A) (limit : ℕ) (start : Standing A) (input input2 w1 : Known) (a1 : A) (held next : Held) (calls written : ℕ)
@@ -360,7 +396,7 @@ reads_no_more asks limit start input input2 w1 a1 held next calls written Ended 
       rest = reads.0;
       fault = reads.1;
       unfed = reads.2;
-      input = reads.3;
+      input = all_asked limit start.input input2 past.asked reads.0 reads.1 reads.2 reads.3;
       answers = past.answers;
       answered = past.answered;
       counted = past.counted;
@@ -378,7 +414,7 @@ reads_no_more asks limit start input input2 w1 a1 held next calls written ReadFa
       rest = reads.0;
       fault = reads.1;
       unfed = reads.2;
-      input = reads.3;
+      input = all_asked limit start.input input2 past.asked reads.0 reads.1 reads.2 reads.3;
       answers = past.answers;
       answered = past.answered;
       counted = past.counted;
@@ -397,7 +433,7 @@ reads_no_more asks limit start input input2 w1 a1 held next calls written BadFra
       rest = reads.0;
       fault = reads.1;
       unfed = reads.2;
-      input = reads.3;
+      input = all_asked limit start.input input2 past.asked reads.0 reads.1 reads.2 reads.3;
       answers = past.answers;
       answered = past.answered;
       counted = past.counted;
@@ -417,7 +453,7 @@ reads_no_more asks limit start input input2 w1 a1 held next calls written OutOfM
       rest = reads.0;
       fault = reads.1;
       unfed = reads.2;
-      input = reads.3;
+      input = all_asked limit start.input input2 past.asked reads.0 reads.1 reads.2 reads.3;
       answers = past.answers;
       answered = past.answered;
       counted = past.counted;
@@ -426,5 +462,5 @@ reads_no_more asks limit start input input2 w1 a1 held next calls written OutOfM
       wrote = inr (refl, reads.4.0);
       totalled = past.totalled;
       ends = tt;
-      misses = inr (refl, refl, reads.4.1);
+      misses = inr (refl, refl, under, reads.4.1);
     }

@@ -34,8 +34,9 @@ IsCalls bytes calls rest fault = IsStream (λ (c : Client). client_body c.0) (λ
 abbrev pub most_piece : ℕ
 most_piece = 4096
 
--- the last piece was read while the bytes before it began with no fault, and had fewer frames than the limit
-pub record HasLastPiece (limit : ℕ) (bytes : List ℕ) : Type 0 where
+-- the last piece was read while the bytes before it began with no fault, and had fewer frames than the limit; so many calls are
+-- asked by now, those of all these frames among them
+pub record HasLastPiece (limit asked : ℕ) (bytes : List ℕ) : Type 0 where
   pub before : List ℕ
   pub piece : List ℕ
   pub pieces : bytes ≡ before ++ piece
@@ -44,10 +45,11 @@ pub record HasLastPiece (limit : ℕ) (bytes : List ℕ) : Type 0 where
   pub rest : List ℕ
   pub stream : IsCalls before earlier rest None
   pub under : length earlier < limit
+  pub none_waits : length earlier ≤ asked
 
--- nothing is read at a fault, nor once as many frames came as may be answered (our profile)
-abbrev pub ReadsUnder : ℕ → List ℕ → Type 0
-ReadsUnder limit bytes = (bytes ≡ []) ⊎ HasLastPiece limit bytes
+-- but for one piece, nothing is read at a fault, nor while a call waits, nor once as many frames came as may be answered (our profile)
+abbrev pub ReadsUnder : ℕ → ℕ → List ℕ → Type 0
+ReadsUnder limit asked bytes = (bytes ≡ []) ⊎ HasLastPiece limit asked bytes
 
 -- the answers to these calls: all, but where the last found the host ended
 abbrev pub HasAsked : {A : Type 0} → (A → ClientCall → Result Answer HasClosed → A → Type 0) → EndCause
@@ -83,13 +85,13 @@ HasWritten OutOfMemory answers unfed text =
     ((before : List Answer) × (last : Answer) × AllBefore answers before last × (text ≡ frames_of before) × (unfed ≡ []))
     ⊎ ((text ≡ frames_of answers) × (0 < length unfed))
 
--- what was read: the frames of these calls, and this rest, with its fault if it begins with one; and behind it a piece that for
--- want of memory was not looked at, or nothing (our profile)
-pub record HasRead (limit : ℕ) (r0 r1 : Known) (calls : List Client) (rest : List ℕ) (fault : Option Fault) (unfed : List ℕ) : Type 0 where
+-- what was read, where so many calls are asked by now: the frames of these calls, and this rest, with its fault if it begins with
+-- one; and behind it a piece that for want of memory was not looked at, or nothing (our profile)
+pub record HasRead (limit asked : ℕ) (r0 r1 : Known) (calls : List Client) (rest : List ℕ) (fault : Option Fault) (unfed : List ℕ) : Type 0 where
   pub bytes : List ℕ
   pub stream : IsCalls bytes calls rest fault
   pub read : Consumes r0 r1 (bytes ++ unfed)
-  pub under : ReadsUnder limit (bytes ++ unfed)
+  pub under : ReadsUnder limit asked (bytes ++ unfed)
 
 -- a fault, or the end of the input inside a frame (our profile)
 abbrev pub IsBad : Option Fault → List ℕ → Known → Type 0
@@ -107,8 +109,9 @@ MayEnd Closed unasked rest fault left calls limit = 0 < calls
 MayEnd OutOfMemory unasked rest fault left calls limit = Unit {0}
 
 -- a piece that was not looked at: there is one only where memory was wanting for it, and all before it was asked (our profile)
-abbrev pub MayMiss : EndCause → List Client → List ℕ → Type 0
-MayMiss cause unasked unfed = (unfed ≡ []) ⊎ ((cause ≡ OutOfMemory) × (unasked ≡ []) × (length unfed ≤ most_piece))
+abbrev pub MayMiss : EndCause → List Client → List ℕ → ℕ → ℕ → Type 0
+MayMiss cause unasked unfed calls limit =
+    (unfed ≡ []) ⊎ ((cause ≡ OutOfMemory) × (unasked ≡ []) × (calls < limit) × (length unfed ≤ most_piece))
 
 -- the frames of a session: what was read, asked, answered and written till its end (our profile)
 pub record HasServed {A : Type 0} (asks : A → ClientCall → Result Answer HasClosed → A → Type 0) (limit : ℕ)
@@ -119,7 +122,7 @@ pub record HasServed {A : Type 0} (asks : A → ClientCall → Result Answer Has
   pub rest : List ℕ
   pub fault : Option Fault
   pub unfed : List ℕ
-  pub input : HasRead limit r0 r1 (asked ++ unasked) rest fault unfed
+  pub input : HasRead limit (length asked) r0 r1 (asked ++ unasked) rest fault unfed
   -- their answers
   pub answers : List Answer
   pub answered : HasAsked asks cause a0 asked answers a1
@@ -131,7 +134,7 @@ pub record HasServed {A : Type 0} (asks : A → ClientCall → Result Answer Has
   pub totalled : written ≡ length text
   -- why it ended then
   pub ends : MayEnd cause unasked rest fault r1 calls limit
-  pub misses : MayMiss cause unasked unfed
+  pub misses : MayMiss cause unasked unfed calls limit
 
 -- the one Leave of a session, and its answer, if it got one; or there is none (our profile)
 abbrev pub HasLeft : {A : Type 0} → (A → ClientCall → Result Answer HasClosed → A → Type 0)

@@ -18,12 +18,12 @@ use Rattle.session_serve.specs.declared.end.EndCause.TheVariants.{Ended, ReadFau
 abbrev pub HaveCome : Held → List ℕ → List Client → Type 0
 HaveCome held bytes calls = HasCome (λ (c : Client). client_body c.0) (λ (c : Client). ClientFits c.0) client_at 32787 held bytes calls
 
--- what was read so far is what has come
-pub record ReadSoFar (limit : ℕ) (r0 r1 : Known) (held : Held) (calls : List Client) : Type 0 where
+-- what was read so far is what has come; so many calls are asked by now
+pub record ReadSoFar (limit asked : ℕ) (r0 r1 : Known) (held : Held) (calls : List Client) : Type 0 where
   pub bytes : List ℕ
   pub come : HaveCome held bytes calls
   pub read : Consumes r0 r1 bytes
-  pub under : ReadsUnder limit bytes
+  pub under : ReadsUnder limit asked bytes
 
 -- why a session ends where a piece was to be read: this is the rest, with its fault, and this is left of the input; and this
 -- piece found no memory (our profile)
@@ -36,11 +36,11 @@ EndsReading FrameLimit rest fault left unfed = ⊥
 EndsReading Closed rest fault left unfed = ⊥
 EndsReading OutOfMemory rest fault left unfed = (0 < length unfed) × (length unfed ≤ most_piece)
 
--- after a read: more calls have come, or the session ends
+-- after a read, before which all of these calls were asked: more have come, or the session ends
 abbrev pub Reads : ℕ → Known → Known → Held → List Client → Result (Fed Client) EndCause → Type 0
-Reads limit r0 r1 held calls (Ok fed) = ReadSoFar limit r0 r1 held (calls ++ fed.values.items)
+Reads limit r0 r1 held calls (Ok fed) = ReadSoFar limit (length calls) r0 r1 held (calls ++ fed.values.items)
 Reads limit r0 r1 held calls (Err cause) =
-    (rest : List ℕ) × (fault : Option Fault) × (unfed : List ℕ) × HasRead limit r0 r1 calls rest fault unfed
+    (rest : List ℕ) × (fault : Option Fault) × (unfed : List ℕ) × HasRead limit (length calls) r0 r1 calls rest fault unfed
     × EndsReading cause rest fault r1 unfed
 
 -- where a session stands: what is left of its input, what its output has, and its asker
@@ -53,7 +53,7 @@ pub record Standing (A : Type 0) : Type 0 where
 pub record SoFar {A : Type 0} (asks : A → ClientCall → Result Answer HasClosed → A → Type 0) (limit : ℕ) (start now : Standing A)
     (held : Held) (waiting : List Client) (calls written : ℕ) : Type 0 where
   pub asked : List Client
-  pub comes : ReadSoFar limit start.input now.input held (asked ++ waiting)
+  pub comes : ReadSoFar limit (length asked) start.input now.input held (asked ++ waiting)
   pub answers : List Answer
   pub answered : AreAsked asks start.asker asked answers now.asker
   pub counted : calls ≡ length asked

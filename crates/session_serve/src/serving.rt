@@ -28,7 +28,7 @@ fn read_calls<R: Read>(
     requires few { length piece.old ≤ 4096 }
     requires sound { feeder.old.fault ≡ None }
     ensures reads { (start : Known) (limit : ℕ) (calls : List Client) → length calls < limit
-        → ReadSoFar limit start (R.remaining reader.old) feeder.old calls
+        → ReadSoFar limit (length calls) start (R.remaining reader.old) feeder.old calls
         → Reads limit start (R.remaining reader.new) feeder.new calls result }
     ensures fault { IfOk result (λ fed. fed.fault ≡ feeder.new.fault) }
     ensures short { IfOk result (λ fed. fed.fault ≡ None → length feeder.new.bytes < 32791) }

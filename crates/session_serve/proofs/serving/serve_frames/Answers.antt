@@ -1,6 +1,6 @@
 use Rattle.std.proofs.Common.{◌≡◌, ◌<◌, ◌∙◌, ◌++◌, [], sym, ap, refl, length, arith, is_some}
 use Rattle.frame_stream.specs.Stream.{Held}
-use Rattle.session_serve.proofs.Steps.{begun, may_read, reads_on, reads_no_more, meets_fault, none_of, some_of}
+use Rattle.session_serve.proofs.Steps.{begun, may_read, all_come, reads_on, reads_no_more, meets_fault, none_of, some_of}
 use Rattle.session_serve.proofs.serving.serve_frames.Goals as goal
 
 pub pieces-init : goal.pieces-init
@@ -19,7 +19,7 @@ returns-in-Err-clause-served g c =
     let past = c.pieces.invariant.5 in
     let under : c.pieces.counts.calls < c.args.frame_limit = omega (arith, c.pieces.invariant.2, c.if-counts-frame_limit.false) in
     reads_no_more g.A.Asks.asks _ _ _ _ _ _ _ c.pieces.feeder _ _ c.in-Err.cause past under
-    (c.in-Err.ensures.reads _ _ (past.asked ++ []) (may_read g.A.Asks.asks _ _ _ _ _ _ past under) past.comes)
+    (c.in-Err.ensures.reads _ _ (past.asked ++ []) (may_read g.A.Asks.asks _ _ _ _ _ _ past under) (all_come g.A.Asks.asks _ _ _ _ _ _ past))
 
 pub returns-in-Some-clause-served : goal.returns-in-Some-clause-served
 returns-in-Some-clause-served g c =
@@ -27,7 +27,7 @@ returns-in-Some-clause-served g c =
     let under : c.pieces.counts.calls < c.args.frame_limit = omega (arith, c.pieces.invariant.2, c.if-counts-frame_limit.false) in
     c.in-Some.ensures.served _ _ _
     (reads_on g.A.Asks.asks _ _ _ _ _ _ _ _ _ _ c.in-Ok.fed past
-    (c.in-Ok.ensures.reads _ _ (past.asked ++ []) (may_read g.A.Asks.asks _ _ _ _ _ _ past under) past.comes))
+    (c.in-Ok.ensures.reads _ _ (past.asked ++ []) (may_read g.A.Asks.asks _ _ _ _ _ _ past under) (all_come g.A.Asks.asks _ _ _ _ _ _ past)))
 
 pub pieces-preserved : goal.pieces-preserved
 pieces-preserved g c =
@@ -40,7 +40,7 @@ pieces-preserved g c =
       c.read_calls.ensures.length ∙ c.pieces.invariant.4,
       c.in_default.ensures.served _ _ _
           (reads_on g.A.Asks.asks _ _ _ _ _ _ _ _ _ _ c.in-Ok.fed past
-          (c.in-Ok.ensures.reads _ _ (past.asked ++ []) (may_read g.A.Asks.asks _ _ _ _ _ _ past under) past.comes)),
+          (c.in-Ok.ensures.reads _ _ (past.asked ++ []) (may_read g.A.Asks.asks _ _ _ _ _ _ past under) (all_come g.A.Asks.asks _ _ _ _ _ _ past))),
     )
 
 pub returns-then-is_bad-clause-served : goal.returns-then-is_bad-clause-served
