@@ -13,7 +13,7 @@ use session_proto::Client;
 use std::alloc::Global;
 use std::io::Write;
 
-/// What a session has come to.
+/// How far a session is.
 #[derive(Clone, Copy, Debug, PartialEq, Eq)]
 pub struct Counts {
     /// How many calls were asked.

@@ -13,7 +13,7 @@ pub enum EndCause {
     ReadFault,
     /// A write failed, or took nothing.
     WriteFault,
-    /// What came is no frame, or the input ended inside one.
+    /// What came begins with a fault, or the input ended inside a frame.
     BadFrame,
     /// As many frames were answered as the session may have.
     FrameLimit,
@@ -44,11 +44,11 @@ impl EndCause {
 pub struct SessionEnd {
     /// Why it ended.
     pub why: EndCause,
-    /// How many frames' calls were asked, the one that found the host ended too. The Leave at the end is not counted.
+    /// How many frames' calls were asked, the one that found the host ended too. The session's own Leave is not counted.
     pub calls: u32,
     /// How many bytes were written.
     pub written: u64,
-    /// What the Leave at the end was answered, which is not written. None where there was no Leave, or it found the host
+    /// What the session's own Leave was answered, which is not written. None where it made none, or the Leave found the host
     /// ended.
     pub left: Option<Answer>,
 }

@@ -90,12 +90,14 @@ fn serve_frames<R: Read, W: Write, A: Asks>(
 }
 
 /// Serves a client's session: reads its frames, asks their calls one after the other, and writes each answer's frame before the
-/// next call is asked. What is left of the input when the session ends is not read.
+/// next call is asked. At most `frame_limit` frames are answered.
 ///
-/// At most `frame_limit` frames are answered. When the session has ended the asker is asked one Leave with its cause, whose
-/// answer is kept and not written; none is made where the asker's host has ended, or memory was wanting. Where no session sits
-/// at the seat, as after a Leave of the client's own, that Leave is refused (3). It may be refused for want of memory or a full
-/// history too, or have to wait on a held host: then the session stands.
+/// At the end one Leave with the cause is asked, whose answer is kept and not written. None is made where the asker's host has
+/// ended, or the session itself found no memory. A keeper refuses that Leave (3) where no session sits at the seat, as after one of
+/// the client's own. It may refuse it for want of memory or a full history too, or be held: then the session stands.
+///
+/// A piece is read once all calls that came before it are answered, 4,096 bytes at most. Of the last piece, what is behind the last
+/// frame that was answered is lost. The writer is not flushed, so it should keep nothing back.
 pub fn serve<R: Read, W: Write, A: Asks>(
     alloc: Global,
     reader: &mut R,
