@@ -12,7 +12,7 @@ use Rattle.frame_stream.specs.declared.feeder.Fed.{Fed}
 use Rattle.session_proto.specs.declared.client.Client.{Client}
 use Rattle.session_serve.specs.Asked.{Known, AreAsked, answer_body, frame_of, frames_of}
 use Rattle.session_serve.specs.Served.{IsCalls, ReadsUnder, HasRead, HasServed}
-use Rattle.session_serve.specs.SoFar.{HaveCome, ReadSoFar, EndsReading, Reads, Standing, SoFar}
+use Rattle.session_serve.specs.SoFar.{HaveCome, ReadSoFar, Reads, Standing, SoFar}
 use Rattle.session_serve.specs.declared.end.EndCause.{EndCause}
 use Rattle.session_serve.specs.declared.end.EndCause.TheVariants.{Ended, ReadFault, WriteFault, BadFrame, FrameLimit, Closed, OutOfMemory}
 use Rattle.session_serve.proofs.Bytes.{Appends-none, Appends-more, Consumes-none, Consumes-kept, Consumes-more}

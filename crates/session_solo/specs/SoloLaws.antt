@@ -1,5 +1,5 @@
 -- Each answer of a keeper on one thread has a frame.
-use Rattle.std.specs.Prelude.{Result, Ok}
+use Rattle.std.specs.Prelude.{Ok}
 use Rattle.plain_machine.specs.declared.answer.Answer.{Answer}
 use Rattle.host_calls.specs.Frames.{AnswerHasFrame}
 use Rattle.host_calls.specs.declared.client.ClientCall.{ClientCall}
