@@ -1,6 +1,8 @@
 // Over a keeper itself, and frames that are longer than a piece.
+use crate::run::front;
+use bytes::Bytes;
 use failing_io::{Narrow, Pieces};
-use history::{Call, ClientCall, Keeper};
+use history::{Call, ClientCall, Closed, Keeper};
 use plain_machine::{Answer, Reply, Step};
 use sector_core::{Config, ConfigDraft, Op, Outcome, Range};
 use session_serve::{Asks, EndCause, serve};
@@ -21,53 +23,92 @@ fn opened(alloc: Global) -> Result<Solo, Fail> {
     Ok(Solo(Keeper::new(alloc, config, 1024)?))
 }
 
-// What a session of these bytes writes over a keeper, and how many calls it asked, 100 more if it did not end with its input.
-fn written(alloc: Global, bytes: &[u8], solo: &mut Solo) -> (Vec<u8>, u32) {
+// A keeper with a read of 64 sectors that is completed, as bio 2 of session 1.
+fn completed(alloc: Global) -> Result<Solo, Fail> {
+    let mut solo = opened(alloc)?;
+    let attach = ClientCall::Attach { group: 0, prio: 4 };
+    let read = ClientCall::Submit {
+        session: 1,
+        op: Op::Fetch,
+        range: Range {
+            start: 8,
+            count: 64,
+        },
+        payload: Bytes::new(),
+    };
+    let outcome = Outcome::Fetched(Bytes::from_vec(vec![in alloc; 7u8; MOST_BYTES]?)?);
+    let finish = Step::Finish {
+        tag: 0,
+        issue: 3,
+        outcome,
+    };
+    solo.0.call(alloc, &attach.of_seat(0));
+    solo.0.call(alloc, &read.of_seat(0));
+    solo.0.call(alloc, &Call::Do(Step::Dispatch));
+    solo.0.call(alloc, &Call::Do(finish));
+    Ok(solo)
+}
+
+// What a session over a keeper came to: what it wrote, why it ended, how many calls it asked, and how many the keeper accepted.
+#[derive(Drop)]
+struct Written {
+    bytes: Vec<u8>,
+    why: EndCause,
+    calls: u32,
+    accepted: usize,
+}
+
+// A session of these bytes, over a new keeper or over the one with a completed read.
+fn session_over(alloc: Global, bytes: &[u8], is_completed: bool) -> Result<Written, Fail> {
+    let mut solo = if is_completed {
+        completed(alloc)?
+    } else {
+        opened(alloc)?
+    };
     let mut writer = Narrow::new(alloc, 65_536);
-    let end = serve(
-        alloc,
-        &mut Pieces::of(bytes, 4096),
-        &mut writer,
-        solo,
-        1_048_576,
-    );
-    let more = if end.why == EndCause::Ended { 0 } else { 100 };
-    (writer.taken, end.calls.wrapping_add(more))
+    let mut reader = Pieces::of(bytes, 4096);
+    let end = serve(alloc, &mut reader, &mut writer, &mut solo, 1_048_576);
+    Ok(Written {
+        bytes: writer.taken,
+        why: end.why,
+        calls: end.calls,
+        accepted: solo.0.journal_len(),
+    })
 }
 
 // What a call is answered: the session of an Attach, and 100 more than the number of a refusal.
-fn told(answer: &Answer) -> u64 {
+fn told(answer: &Result<Answer, Closed>) -> u64 {
     match answer {
-        Answer::Accepted(Reply::Attached { session }) => *session,
-        Answer::Refused(code) => 100 + u64::from(code.number()),
+        Ok(Answer::Accepted(Reply::Attached { session })) => *session,
+        Ok(Answer::Refused(code)) => 100 + u64::from(code.number()),
         _ => 99,
     }
 }
 
-// A keeper is asked at seat 0: session 7 is not the one that sits there (StaleSession).
+// A Reap of a session 7, an Attach, and the Reap again.
+fn asked(alloc: Global) -> Result<(u64, u64, u64), Fail> {
+    let mut solo = opened(alloc)?;
+    let first = told(&solo.ask(alloc, ClientCall::Reap { session: 7 }));
+    let second = told(&solo.ask(alloc, ClientCall::Attach { group: 0, prio: 4 }));
+    let third = told(&solo.ask(alloc, ClientCall::Reap { session: 7 }));
+    Ok((first, second, third))
+}
+
+// A keeper is asked at seat 0: no session sits there (NoSession), then another than 7 (StaleSession).
 #[test]
 fn keeper_is_asked(rt: HostRuntime) -> Result<(), Fail> {
-    let alloc = rt.alloc();
-    let mut solo = opened(alloc)?;
-    for (call, due) in [
-        (ClientCall::Reap { session: 7 }, 103),
-        (ClientCall::Attach { group: 0, prio: 4 }, 1),
-        (ClientCall::Reap { session: 7 }, 104),
-    ] {
-        match solo.ask(alloc, call) {
-            Ok(answer) => assert_eq!(rt; told(&answer), due),
-            Err(_) => panic!(rt; "a keeper never ends"),
-        }
-    }
+    assert_eq!(rt; asked(rt.alloc())?, (103, 1, 104));
     Ok(())
 }
 
 #[test]
 fn keeper_is_served(rt: HostRuntime) -> Result<(), Fail> {
-    let mut solo = opened(rt.alloc())?;
-    let (out, calls) = written(rt.alloc(), &ATTACH, &mut solo);
-    assert_eq!(rt; out.as_slice(), ATTACHED.as_slice());
-    assert_eq!(rt; (calls, solo.0.journal_len()), (1, 2));
+    let came = session_over(rt.alloc(), &ATTACH, false)?;
+    assert_eq!(rt; came.bytes.as_slice(), ATTACHED.as_slice());
+    assert_eq!(rt;
+        (came.why, came.calls, came.accepted),
+        (EndCause::Ended, 1, 2)
+    );
     Ok(())
 }
 
@@ -81,60 +122,38 @@ fn store(alloc: Global) -> Result<Vec<u8>, Fail> {
     Ok(bytes)
 }
 
-#[test]
-fn longest_call(rt: HostRuntime) -> Result<(), Fail> {
-    let mut solo = opened(rt.alloc())?;
-    let bytes = store(rt.alloc())?;
-    let (out, calls) = written(rt.alloc(), bytes.as_slice(), &mut solo);
-    let (_, queued) = out.as_slice().split_at(13.min(out.len()));
-    assert_eq!(rt;
-        queued,
-        [0, 0, 0, 9, 0x82, 0, 0, 0, 0, 0, 0, 0, 2].as_slice()
-    );
-    assert_eq!(rt; calls, 2);
-    Ok(())
+// The bytes, but for the first 13.
+fn behind(bytes: &[u8]) -> &[u8] {
+    match bytes.get(13..) {
+        Some(behind) => behind,
+        None => &[],
+    }
 }
 
-// A keeper with a read of 64 sectors that is completed, as bio 2 of session 1.
-fn completed(alloc: Global) -> Result<Solo, Fail> {
-    let mut solo = opened(alloc)?;
-    let attach = ClientCall::Attach { group: 0, prio: 4 };
-    let read = ClientCall::Submit {
-        session: 1,
-        op: Op::Fetch,
-        range: Range {
-            start: 8,
-            count: 64,
-        },
-        payload: bytes::Bytes::new(),
-    };
-    let outcome = Outcome::Fetched(bytes::Bytes::from_vec(vec![in alloc; 7u8; MOST_BYTES]?)?);
-    solo.0.call(alloc, &attach.of_seat(0));
-    solo.0.call(alloc, &read.of_seat(0));
-    solo.0.call(alloc, &Call::Do(Step::Dispatch));
-    solo.0.call(
-        alloc,
-        &Call::Do(Step::Finish {
-            tag: 0,
-            issue: 3,
-            outcome,
-        }),
+#[test]
+fn longest_call(rt: HostRuntime) -> Result<(), Fail> {
+    let came = session_over(rt.alloc(), store(rt.alloc())?.as_slice(), false)?;
+    // Queued 2.
+    let queued = [0, 0, 0, 9, 0x82, 0, 0, 0, 0, 0, 0, 0, 2].as_slice();
+    assert_eq!(rt; behind(came.bytes.as_slice()), queued);
+    assert_eq!(rt;
+        (came.why, came.calls, came.accepted),
+        (EndCause::Ended, 2, 3)
     );
-    Ok(solo)
+    Ok(())
 }
 
 // The longest answer: 32,777 bytes behind its length, a kind, the bio, and the bytes of 64 sectors.
 #[test]
 fn longest_answer(rt: HostRuntime) -> Result<(), Fail> {
-    let mut solo = completed(rt.alloc())?;
     let reap = [0, 0, 0, 9, 4, 0, 0, 0, 0, 0, 0, 0, 1].as_slice();
-    let (out, calls) = written(rt.alloc(), reap, &mut solo);
-    let (front, read) = out.as_slice().split_at(13.min(out.len()));
+    let came = session_over(rt.alloc(), reap, true)?;
+    let start = [0, 0, 0x80, 9, 0x83, 0, 0, 0, 0, 0, 0, 0, 2].as_slice();
+    assert_eq!(rt; front(came.bytes.as_slice(), 13), start);
+    let read = behind(came.bytes.as_slice());
     assert_eq!(rt;
-        front,
-        [0, 0, 0x80, 9, 0x83, 0, 0, 0, 0, 0, 0, 0, 2].as_slice()
+        (read.len(), read.iter().all(|byte| *byte == 7)),
+        (MOST_BYTES, true)
     );
-    assert_eq!(rt; (read.len(), calls), (MOST_BYTES, 1));
-    assert!(rt; read.iter().all(|byte| *byte == 7));
     Ok(())
 }
