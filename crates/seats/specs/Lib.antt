@@ -1,0 +1,5 @@
+pub mod Asked
+pub mod AskedLaws
+pub mod Rules
+pub mod Rows
+pub mod Seats

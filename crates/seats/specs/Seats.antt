@@ -1,0 +1,68 @@
+-- What a seat and its desk have had: calls and replies.
+use Rattle.std.specs.Prelude.{◌≡◌, ℕ, Bool, false, List, [], None, map, option_to_list}
+use Rattle.rtrb.specs.Ring.{sent, received, known_free, known_items, SameProducer, SameConsumer, IsPair}
+use Rattle.host_calls.specs.declared.ring.RingReply.{RingReply}
+use Rattle.host_calls.specs.declared.seat.SeatName.{SeatName}
+use Rattle.seats.specs.Rows.{Row}
+use Rattle.seats.specs.declared.asked.Asked.{Asked}
+use Rattle.seats.specs.declared.desk.Desk.{Desk}
+use Rattle.seats.specs.declared.seat.Seat.{Seat}
+
+module _ {C P : Type 0} where
+  -- the calls that a seat has staged, and the replies that it has collected
+  abbrev pub staged : Seat C P → List C
+  staged s = sent s.calls
+
+  abbrev pub collected : Seat C P → List RingReply
+  collected s = received s.replies
+
+  -- whether it has collected Closed
+  abbrev pub is_closed : Seat C P → Bool
+  is_closed s = s.closed
+
+  -- no place for a call is known to be free, and no reply is known to be there
+  abbrev pub IsFull : Seat C P → Type 0
+  IsFull s = known_free s.calls ≡ 0
+
+  abbrev pub HasNothing : Seat C P → Type 0
+  HasNothing s = known_items s.replies ≡ []
+
+  -- the same two rings
+  abbrev pub SameSeat : Seat C P → Seat C P → Type 0
+  SameSeat a b = SameProducer a.calls b.calls × SameConsumer a.replies b.replies
+
+  abbrev pub SameDesk : Desk C P → Desk C P → Type 0
+  SameDesk a b = SameConsumer a.calls b.calls × SameProducer a.replies b.replies
+
+  -- the calls that a desk has taken, the one that waits, if one does, and the replies that it has given
+  abbrev pub taken : Desk C P → List C
+  taken d = received d.calls
+
+  abbrev pub waits : Desk C P → List Asked
+  waits d = option_to_list d.waiting
+
+  abbrev pub replied : Desk C P → List RingReply
+  replied d = sent d.replies
+
+  -- a desk as a row, by how its kind puts the number in and is named
+  abbrev pub row_of : (ℕ → C → Asked) → (ℕ → SeatName) → Desk C P → Row
+  row_of asked_by named d = record {
+    name = named d.number;
+    taken = map (asked_by d.number) (taken d);
+    waiting = waits d;
+    replied = replied d;
+    closed = d.closed;
+  }
+
+  -- a seat and its desk before the first call
+  pub record IsFresh (s : Seat C P) (d : Desk C P) (number : ℕ) : Type 0 where
+    pub calls : IsPair s.calls d.calls
+    pub replies : IsPair d.replies s.replies
+    pub staged : staged s ≡ []
+    pub collected : collected s ≡ []
+    pub unclosed : is_closed s ≡ false
+    pub taken : taken d ≡ []
+    pub replied : replied d ≡ []
+    pub closed : d.closed ≡ false
+    pub waiting : d.waiting ≡ None
+    pub numbered : d.number ≡ number
