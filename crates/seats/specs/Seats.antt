@@ -1,12 +1,18 @@
 -- What a seat and its desk have had: calls and replies.
-use Rattle.std.specs.Prelude.{◌≡◌, ℕ, Bool, false, List, [], None, map, option_to_list}
+use Rattle.std.specs.Prelude.{◌≡◌, ℕ, Bool, true, false, List, [], None, map, option_to_list}
 use Rattle.rtrb.specs.Ring.{sent, received, known_free, known_items, SameProducer, SameConsumer, IsPair}
 use Rattle.host_calls.specs.declared.ring.RingReply.{RingReply}
+use Rattle.host_calls.specs.declared.ring.RingReply.TheVariants.{Answer as Answered, Closed as Closing}
 use Rattle.host_calls.specs.declared.seat.SeatName.{SeatName}
 use Rattle.seats.specs.Rows.{Row}
 use Rattle.seats.specs.declared.asked.Asked.{Asked}
 use Rattle.seats.specs.declared.desk.Desk.{Desk}
 use Rattle.seats.specs.declared.seat.Seat.{Seat}
+
+-- whether Closed was collected, with this reply
+abbrev pub closed_by : Bool → RingReply → Bool
+closed_by was (Answered answer) = was
+closed_by was Closing = true
 
 module _ {C P : Type 0} where
   -- the calls that a seat has staged, and the replies that it has collected

@@ -1,6 +1,6 @@
 // Who sits at a seat: its calls go out, its replies come in.
 ghost use Rattle.std.specs.Prelude.{◌≡◌, [], ◌∷◌, ◌++◌, length, false, true, None, OnOk, OnErr, IfOk, IfErr, IfSome};
-ghost use Rattle.seats.specs.Seats.{staged, collected, is_closed, IsFull, HasNothing, SameSeat};
+ghost use Rattle.seats.specs.Seats.{staged, collected, is_closed, closed_by, IsFull, HasNothing, SameSeat};
 ghost use Rattle.host_calls.specs.declared.ring.RingReply.TheVariants.{Answer as Answered, Closed as Closing};
 
 use crate::bell::Bell;
@@ -55,7 +55,7 @@ impl<C: Drop, P: Protocol<RingReply>> Seat<C, P> {
         ensures some { IfSome result (λ r. (collected self.new ≡ collected self.old ++ r ∷ []) × P.allows (collected self.old) r) }
         ensures none { result ≡ None
             → (collected self.new ≡ collected self.old) × (is_closed self.new ≡ is_closed self.old) × HasNothing self.new }
-        ensures closed { IfSome result (λ r. r ≡ Closing → is_closed self.new ≡ true) }
+        ensures closed { IfSome result (λ r. is_closed self.new ≡ closed_by (is_closed self.old) r) }
         ensures staged { staged self.new ≡ staged self.old }
     {
         let reply = self.next_reply();
@@ -71,7 +71,7 @@ impl<C: Drop, P: Protocol<RingReply>> Seat<C, P> {
         ensures some { IfSome result (λ r. (collected self.new ≡ collected self.old ++ r ∷ []) × P.allows (collected self.old) r) }
         ensures none { result ≡ None
             → (collected self.new ≡ collected self.old) × (is_closed self.new ≡ is_closed self.old) × HasNothing self.new }
-        ensures closed { IfSome result (λ r. r ≡ Closing → is_closed self.new ≡ true) }
+        ensures closed { IfSome result (λ r. is_closed self.new ≡ closed_by (is_closed self.old) r) }
         ensures staged { staged self.new ≡ staged self.old }
     {
         match self.replies.pop() {
@@ -100,6 +100,8 @@ impl<C: Drop, P: Protocol<RingReply>> Seat<C, P> {
             → (staged self.new ≡ staged self.old) × (collected self.new ≡ collected self.old)) }
         ensures closing { OnErr result (is_closed self.old ≡ false
             → (staged self.new ≡ staged self.old ++ call ∷ []) × (collected self.new ≡ collected self.old ++ Closing ∷ [])) }
+        ensures open { OnOk result (is_closed self.new ≡ is_closed self.old) }
+        ensures ended { OnErr result (is_closed self.new ≡ true) }
     {
         if self.closed {
             return Err(Closed);
@@ -114,7 +116,7 @@ impl<C: Drop, P: Protocol<RingReply>> Seat<C, P> {
     fn stage_waiting<R: Wait>(&mut self, rt: &R, call: C)
         ensures seat { SameSeat self.old self.new }
         ensures staged { staged self.new ≡ staged self.old ++ call ∷ [] }
-        ensures collected { collected self.new ≡ collected self.old }
+        ensures collected { (collected self.new ≡ collected self.old) × (is_closed self.new ≡ is_closed self.old) }
     {
         let mut call = call;
         for _ in rt.forever() {
@@ -130,6 +132,7 @@ impl<C: Drop, P: Protocol<RingReply>> Seat<C, P> {
     fn collect_waiting<R: Wait>(&mut self, rt: &R) -> RingReply
         ensures seat { SameSeat self.old self.new }
         ensures some { (collected self.new ≡ collected self.old ++ result ∷ []) × P.allows (collected self.old) result }
+        ensures closed { is_closed self.new ≡ closed_by (is_closed self.old) result }
         ensures staged { staged self.new ≡ staged self.old }
     {
         let mut looks = 0;
