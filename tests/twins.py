@@ -99,7 +99,7 @@ def settled(names, status, said):
     for line in said.splitlines() if "\nlogic=" in said and status in (0, 1) else ["src/:0:0: error: no verdict"]:
         goal, ends, error = GOAL.match(line), FUNCTION.match(line), ERROR.match(line)
         twin = next((it for it in names if error and it in error[1].split("/") or ends and it in ends[1].split("::")), None)
-        if (error or ends and ends[2] != "proved") and twin is None:
+        if (error or ends and not ends[2].startswith("proved")) and twin is None:
             return None
         if goal:
             goals.append(goal[3])

@@ -11,7 +11,7 @@ use Rattle.base_image.specs.declared.image.ImageFault.TheVariants.{Busy, Device}
 use Rattle.device_engine.specs.Fill.{IsPart, EndsBefore}
 use Rattle.plain_machine.specs.declared.answer.Work.{Work}
 use Rattle.plain_machine.specs.declared.call.DeviceCall.{DeviceCall}
-use Rattle.plain_machine.specs.declared.call.DeviceCall.TheVariants.{Finish, Requeue}
+use Rattle.plain_machine.specs.declared.call.DeviceCall.TheVariants.{Take, Finish, Requeue}
 
 -- a fetch ends: the bytes of all its sectors were read, or the image ended before, or a read failed, which is counted
 abbrev pub FetchEnds : Disk → Range → Outcome → Disk → Type 0
@@ -28,6 +28,7 @@ Ends before op.Fetch range outcome after = FetchEnds before range outcome after
 
 -- what the device answers, under the tag and the issue of its work; a fetch that met a busy image is given back
 abbrev pub Works : Disk → Work → DeviceCall → Disk → Type 0
+Works before work (Take worker) after = ⊥
 Works before work (Finish tag issue outcome) after =
     (tag ≡ work.tag) × (issue ≡ work.issue) × Ends before work.op work.range outcome after
 Works before work (Requeue tag issue) after =

@@ -14,7 +14,7 @@ use std::alloc::Global;
 // So many sectors have 2^64 bytes, one more than a u64 counts.
 const TOO_MANY_SECTORS: u64 = 1 << 55;
 
-/// Does the work of a request in flight, and gives the device's call.
+/// Does the work of a request in flight, and gives the device's call: it ends the request or gives it back.
 ///
 /// # Errors
 ///

@@ -284,6 +284,14 @@ impl<'a> View<'a> {
         }
     }
 
+    /// How many tags there are.
+    pub fn tags(&self) -> u8
+        ensures { result ≡ self.now.sizes.tags }
+    {
+        let machine = self.machine;
+        machine.sizes.tags
+    }
+
     /// The request in flight under a tag.
     pub fn in_flight(&self, tag: u8) -> Option<Work>
         ensures { (n : ℕ) → IsFor n self.now → result ≡ option_map (work_of tag) ((plain_of self.now).flight tag) }

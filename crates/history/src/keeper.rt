@@ -1,5 +1,6 @@
 // The keeper.
-ghost use Rattle.std.specs.Prelude.{◌≡◌, ◌+◌, ◌-◌, ◌≤◌, ◌<◌, ◌^◌, nat_lt, [], ◌∷◌, ◌++◌, IfOk, IfErr, IfSome, IsTrue, length, take, drop, map, vec_len, vec_capacity};
+ghost use Rattle.std.specs.Prelude.{◌≡◌, ◌+◌, ◌-◌, ◌≤◌, ◌<◌, ◌^◌, nat_lt, [], ◌∷◌, ◌++◌, IfOk, IfErr, IfSome, IsTrue, length, take, drop, map, slice_get, vec_len, vec_capacity};
+ghost use Rattle.std.specs.Option.{option_copied};
 ghost use Rattle.plain_machine.specs.Step.{of_sizes};
 ghost use Rattle.plain_machine.specs.Keeper.{State, opened, machine_of, called, MayCall, MayRun, replay};
 ghost use Rattle.plain_machine.specs.declared.call.Call.TheVariants.{Do as DoStep, Hold as HoldAll, Release as ReleaseAll, Undo as UndoSteps, Redo as RedoSteps};
@@ -91,6 +92,13 @@ impl Keeper {
         ensures replay { self.now.state ≡ replay self.now.state.limits self.now.state.most self.now.state.journal }
     {
         self.journal.len()
+    }
+
+    /// The accepted call of a number, from 0.
+    pub fn entry(&self, at: usize) -> Option<&Call>
+        ensures { option_copied result ≡ slice_get self.now.state.journal at }
+    {
+        self.journal.get(at)
     }
 
     fn take_step(&mut self, alloc: Global, step: &Step) -> Answer

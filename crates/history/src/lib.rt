@@ -8,6 +8,7 @@
 //! | [`Keeper::run`] | the calls one after the other; where an answer finds no memory, the calls made until then |
 //! | [`Keeper::view`] | the keeper as it is |
 //! | [`Keeper::journal_len`] | the keeper is what its accepted calls, one after the other, make of a new one |
+//! | [`Keeper::entry`] | the accepted call of a number |
 //! | [`KeeperView::machine`] | the fold of the plain steps over the steps that stand |
 //! | [`KeeperView::cursor`], [`KeeperView::length`], [`KeeperView::last_serial`], [`KeeperView::held`] | that field |
 //!

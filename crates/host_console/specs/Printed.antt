@@ -57,7 +57,7 @@ outcome_of k tag issue Fault = outcome.Failed kind.Fault
 -- the step of a `work` line: what the device answers from the image for the work, or, where there is none, that it was stored (our profile)
 abbrev pub StepOfWork : Disk → ℕ → ℕ → Option Taken → Step → Disk → Type 0
 StepOfWork before tag issue None asked after = (asked ≡ step.Finish tag issue outcome.Stored) × (after ≡ before)
-StepOfWork before tag issue (Some work) asked after = (answer : DeviceCall) × Works before work answer after × (asked ≡ device_step answer)
+StepOfWork before tag issue (Some work) asked after = (answer : DeviceCall) × Works before work answer after × (device_step answer ≡ Some asked)
 
 -- Texts.
 

@@ -47,7 +47,10 @@ impl<K: Keeps, I: Image> Teller<K, I> {
         if self.image.faults() == u64::MAX {
             return Err(OutOfMemory);
         }
-        let call = work_once(alloc, &mut self.image, &work)?;
-        Ok(call.into_step())
+        match work_once(alloc, &mut self.image, &work)?.into_step() {
+            Some(step) => Ok(step),
+            // Who has done some work asks for no other.
+            None => unreachable!(),
+        }
     }
 }

@@ -3,7 +3,7 @@ use Rattle.std.specs.Prelude.{ℕ, ◌==◌, Option, None, Some, if◌then◌els
 use Rattle.change_record.specs.Machine.{Flight, Plain}
 use Rattle.plain_machine.specs.declared.answer.Work.{Work}
 use Rattle.plain_machine.specs.declared.call.DeviceCall.{DeviceCall}
-use Rattle.plain_machine.specs.declared.call.DeviceCall.TheVariants.{Finish, Requeue}
+use Rattle.plain_machine.specs.declared.call.DeviceCall.TheVariants.{Take, Finish, Requeue}
 use Rattle.plain_machine.specs.declared.step.Step.{Step}
 use Rattle.plain_machine.specs.declared.step.Step.TheVariants as step
 use Rattle.plain_machine.specs.Step.{range_of}
@@ -21,7 +21,8 @@ work_issued tag issue (Some flight) = if flight.issue == issue then Some (work_o
 abbrev pub work_in_flight : Plain → ℕ → ℕ → Option Work
 work_in_flight m tag issue = work_issued tag issue (m.flight tag)
 
--- the request in flight has ended, or it is given back
-abbrev pub device_step : DeviceCall → Step
-device_step (Finish tag issue outcome) = step.Finish tag issue outcome
-device_step (Requeue tag issue) = step.Requeue tag issue
+-- the request in flight has ended, or it is given back; to take work is no step
+abbrev pub device_step : DeviceCall → Option Step
+device_step (Take worker) = None
+device_step (Finish tag issue outcome) = Some (step.Finish tag issue outcome)
+device_step (Requeue tag issue) = Some (step.Requeue tag issue)

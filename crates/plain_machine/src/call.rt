@@ -20,9 +20,14 @@ pub enum Call {
     Redo { k: u32 },
 }
 
-/// What a device asks for once it has done its work.
+/// What a device asks for.
 #[derive(Clone, Debug, Drop)]
 pub enum DeviceCall {
+    /// Work: of the requests in flight that no other device took last, the one that was issued first. It is no step.
+    Take {
+        /// The number of the device's own seat.
+        worker: u8,
+    },
     /// The request in flight under the tag with this issue has ended so.
     Finish {
         /// Its tag.
@@ -42,21 +47,22 @@ pub enum DeviceCall {
 }
 
 impl DeviceCall {
-    /// The step of the machine that it asks for.
-    pub fn into_step(self) -> Step
+    /// The step of the machine that it asks for; a Take asks for none.
+    pub fn into_step(self) -> Option<Step>
         ensures { result ≡ device_step self }
     {
         match self {
+            DeviceCall::Take { .. } => None,
             DeviceCall::Finish {
                 tag,
                 issue,
                 outcome,
-            } => Step::Finish {
+            } => Some(Step::Finish {
                 tag,
                 issue,
                 outcome,
-            },
-            DeviceCall::Requeue { tag, issue } => Step::Requeue { tag, issue },
+            }),
+            DeviceCall::Requeue { tag, issue } => Some(Step::Requeue { tag, issue }),
         }
     }
 }

@@ -1,7 +1,9 @@
 // A seat and its desk, in one thread.
 use host_calls::{ClientCall, OperatorCall, RingReply, SeatName};
-use plain_machine::{Answer, Call, Code, DeviceCall, Step};
+use plain_machine::{Answer, Call, Cause, Code, DeviceCall, Reply, Step, Work};
+use rtrb::AnyItems;
 use seats::{Asked, Bell, ClientReplies, Desk, Seat, Staged, open_seat};
+use sector_core::{Op, Range};
 use std::alloc::Global;
 use std::sync::Wait;
 use std::test::Fail;
@@ -26,7 +28,7 @@ fn session_of(call: &ClientCall) -> u64 {
 
 // The seat and the session of a Reap that waits, or 99 and 99 if none does.
 fn waiting(desk: &CallerDesk) -> (u8, u64) {
-    match &desk.waiting {
+    match desk.waiting() {
         Some(Asked::Ask(Call::Do(Step::Reap { seat, session }))) => (*seat, *session),
         _ => (99, 99),
     }
@@ -67,7 +69,7 @@ fn taken(alloc: Global) -> Result<[(u8, u64); 3], Fail> {
 
 // Refuses the call that waits, if one does.
 fn answer(desk: &mut CallerDesk) {
-    if desk.waiting.is_some() && !desk.closed {
+    if desk.waiting().is_some() && !desk.is_closed() {
         desk.answer(Answer::Refused(Code::NoSession));
     }
 }
@@ -116,7 +118,7 @@ fn ended<R: Wait>(rt: &R, alloc: Global) -> Result<([u8; 4], (u8, u64), bool), F
     desk.take();
     answer(&mut desk);
     desk.take();
-    if !desk.closed {
+    if !desk.is_closed() {
         desk.close();
     }
     stage(&mut seat, 2);
@@ -142,11 +144,12 @@ fn closed_is_last(rt: HostRuntime) -> Result<(), Fail> {
     Ok(())
 }
 
-// What is asked at seat 2: 1 for a step that is due, 2 for the end, 0 for another.
+// What is asked at seat 2: 1 for a step that is due, 2 for the end, 10 and the number of a device that asks for work, 0 for another.
 fn asked(asked: &Asked) -> u8 {
     match asked {
         Asked::Ask(Call::Do(step)) => due(step),
         Asked::Ask(_) => 0,
+        Asked::Take { worker } => 10 + (*worker).min(9),
         Asked::Stop => 2,
     }
 }
@@ -166,9 +169,54 @@ fn each_kind_of_seat(rt: HostRuntime) {
     let requeue = DeviceCall::Requeue { tag: 4, issue: 9 };
     assert_eq!(rt; asked(&reap.asked(2)), 1);
     assert_eq!(rt; asked(&requeue.asked(2)), 1);
+    assert_eq!(rt; asked(&DeviceCall::Take { worker: 3 }.asked(2)), 13);
     assert_eq!(rt; asked(&OperatorCall::Freeze.asked(2)), 1);
     assert_eq!(rt; asked(&OperatorCall::Stop.asked(2)), 2);
     assert_eq!(rt; ClientCall::name(2), SeatName::Client(2));
     assert_eq!(rt; DeviceCall::name(2), SeatName::Device(2));
     assert_eq!(rt; OperatorCall::name(2), SeatName::Operator);
+}
+
+// Work of this issue under tag 2.
+fn work(issue: u64) -> Answer {
+    let range = Range { start: 0, count: 1 };
+    Answer::Accepted(Reply::Taken(Work {
+        tag: 2,
+        issue,
+        op: Op::Fetch,
+        range,
+    }))
+}
+
+// The issue that a device's desk handed out last: before the first answer, and after each of these, which are collected.
+fn handed_out(alloc: Global, answers: [Answer; 4]) -> Result<[Option<u64>; 5], Fail> {
+    let core = Bell::new(alloc)?;
+    let (mut seat, mut desk) = open_seat::<DeviceCall, AnyItems>(alloc, &core, 1, 0)?;
+    let mut lasts = [desk.last(); 5];
+    for (number, answer) in answers.into_iter().enumerate() {
+        if seat.stage(DeviceCall::Take { worker: 1 }).is_err() {
+            return Err(Fail::from("the ring is full"));
+        }
+        desk.take();
+        if desk.waiting().is_some() && !desk.is_closed() {
+            desk.answer(answer);
+        }
+        seat.collect();
+        lasts[number + 1] = desk.last();
+    }
+    Ok(lasts)
+}
+
+// What was taken last stays so until other work is taken.
+#[test]
+fn last_work_handed_out(rt: HostRuntime) -> Result<(), Fail> {
+    let answers = [
+        work(3),
+        Answer::NotYet(Cause::NothingToTake),
+        work(9),
+        Answer::Refused(Code::BadWorker),
+    ];
+    let lasts = [None, Some(3), Some(3), Some(9), Some(9)];
+    assert_eq!(rt; handed_out(rt.alloc(), answers)?, lasts);
+    Ok(())
 }

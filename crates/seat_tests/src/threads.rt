@@ -19,10 +19,10 @@ fn refuse_all<R: Wait>(rt: &R, mut desk: Desk<ClientCall, ClientReplies>, bell: 
     let mut idle = 0u32;
     for _ in rt.forever() {
         desk.take();
-        if desk.closed || refused == CALLS {
+        if desk.is_closed() || refused == CALLS {
             break;
         }
-        if desk.waiting.is_some() {
+        if desk.waiting().is_some() {
             desk.answer(Answer::Refused(Code::NoSession));
             refused = refused.wrapping_add(1);
             idle = 0;
@@ -31,7 +31,7 @@ fn refuse_all<R: Wait>(rt: &R, mut desk: Desk<ClientCall, ClientReplies>, bell: 
             idle = idle.saturating_add(1);
         }
     }
-    if !desk.closed {
+    if !desk.is_closed() {
         desk.close();
     }
 }

@@ -1,18 +1,36 @@
--- Only the operator ends the core.
-use Rattle.std.specs.Prelude.{◌≡◌, ℕ}
-use Rattle.std.proofs.Common.{refl}
+-- What is asked at a seat is of its kind.
+use Rattle.std.specs.Prelude.{ℕ}
 use Rattle.plain_machine.specs.declared.call.DeviceCall.{DeviceCall}
+use Rattle.plain_machine.specs.declared.call.DeviceCall.TheVariants.{Take, Finish, Requeue}
 use Rattle.host_calls.specs.declared.client.ClientCall.{ClientCall}
+use Rattle.host_calls.specs.declared.client.ClientCall.TheVariants.{Attach, Submit, Reap, Leave}
 use Rattle.host_calls.specs.declared.operator.OperatorCall.{OperatorCall}
+use Rattle.host_calls.specs.declared.operator.OperatorCall.TheVariants.{GroupMake, GroupDrop, SetWeight, Freeze, Thaw, Switch, Tick, Hold, Release, Undo, Redo, Stop}
 use Rattle.host_calls.specs.declared.seat.SeatName.TheVariants.{Client, Device, Operator}
 use Rattle.seats.specs.Asked.{client_asked, device_asked, operator_asked}
-use Rattle.seats.specs.declared.asked.Asked.TheVariants.{Stop}
+use Rattle.seats.specs.Kinds.{IsOfKind}
 
-pub client_never_stops : (seat : ℕ) (call : ClientCall) → client_asked seat call ≡ Stop → Client seat ≡ Operator
-client_never_stops seat call stop = absurd cc
+pub client_asks : (seat : ℕ) (call : ClientCall) → IsOfKind (Client seat) (client_asked seat call)
+client_asks seat (Attach group prio) = tt
+client_asks seat (Submit session op range payload) = tt
+client_asks seat (Reap session) = tt
+client_asks seat (Leave why) = tt
 
-pub device_never_stops : (seat : ℕ) (call : DeviceCall) → device_asked seat call ≡ Stop → Device seat ≡ Operator
-device_never_stops seat call stop = absurd cc
+pub device_asks : (seat : ℕ) (call : DeviceCall) → IsOfKind (Device seat) (device_asked seat call)
+device_asks seat (Take worker) = tt
+device_asks seat (Finish tag issue outcome) = tt
+device_asks seat (Requeue tag issue) = tt
 
-pub operator_stops : (seat : ℕ) (call : OperatorCall) → operator_asked seat call ≡ Stop → Operator ≡ Operator
-operator_stops seat call stop = refl
+pub operator_asks : (seat : ℕ) (call : OperatorCall) → IsOfKind Operator (operator_asked seat call)
+operator_asks seat (GroupMake parent weight) = tt
+operator_asks seat (GroupDrop group) = tt
+operator_asks seat (SetWeight group weight) = tt
+operator_asks seat Freeze = tt
+operator_asks seat Thaw = tt
+operator_asks seat (Switch scheduler) = tt
+operator_asks seat Tick = tt
+operator_asks seat Hold = tt
+operator_asks seat Release = tt
+operator_asks seat (Undo k) = tt
+operator_asks seat (Redo k) = tt
+operator_asks seat Stop = tt

@@ -1,5 +1,6 @@
 pub mod Asked
 pub mod AskedLaws
+pub mod Kinds
 pub mod Rules
 pub mod Rows
 pub mod Seats

@@ -3,18 +3,23 @@ ghost use Rattle.std.specs.Prelude.{◌≡◌, ℕ};
 ghost use Rattle.host_calls.specs.declared.seat.SeatName.{SeatName as SeatNames};
 ghost use Rattle.host_calls.specs.declared.seat.SeatName.TheVariants as name;
 ghost use Rattle.seats.specs.Asked.{client_asked, device_asked, operator_asked};
-ghost use Rattle.seats.specs.AskedLaws.{client_never_stops, device_never_stops, operator_stops};
+ghost use Rattle.seats.specs.AskedLaws.{client_asks, device_asks, operator_asks};
+ghost use Rattle.seats.specs.Kinds.{IsOfKind};
 ghost use Rattle.seats.specs.declared.asked.Asked.{Asked as Askings};
-ghost use Rattle.seats.specs.declared.asked.Asked.TheVariants.{Stop};
 
 use host_calls::{ClientCall, OperatorCall, SeatName};
-use plain_machine::{Call, DeviceCall};
+use plain_machine::{Call, DeviceCall, Step};
 
 /// What a seat asks of the core, with its number put in.
 #[derive(Debug, Drop)]
 pub enum Asked {
     /// A call of the keeper.
     Ask(Call),
+    /// Work for the device of this number.
+    Take {
+        /// The number that the device gave.
+        worker: u8,
+    },
     /// The end of the core.
     Stop,
 }
@@ -35,8 +40,8 @@ pub trait Staged: Drop {
     fn name(seat: u8) -> SeatName
         ensures { result ≡ named seat };
 
-    /// Only the operator ends the core.
-    ghost stops: { (seat : ℕ) (call : Self) → asked_by seat call ≡ Stop → named seat ≡ name.Operator };
+    /// It is a call for seats of such a name. So only the operator ends the core, and only a device takes work.
+    ghost asks: { (seat : ℕ) (call : Self) → IsOfKind (named seat) (asked_by seat call) };
 }
 
 impl Staged for ClientCall {
@@ -52,7 +57,7 @@ impl Staged for ClientCall {
         SeatName::Client(seat)
     }
 
-    ghost stops = { client_never_stops };
+    ghost asks = { client_asks };
 }
 
 impl Staged for DeviceCall {
@@ -61,14 +66,29 @@ impl Staged for DeviceCall {
     ghost named = { name.Device };
 
     fn asked(self, _seat: u8) -> Asked {
-        Asked::Ask(Call::Do(self.into_step()))
+        match self {
+            DeviceCall::Take { worker } => Asked::Take { worker },
+            DeviceCall::Finish {
+                tag,
+                issue,
+                outcome,
+            } => Asked::Ask(Call::Do(Step::Finish {
+                tag,
+                issue,
+                outcome,
+            })),
+            DeviceCall::Requeue { tag, issue } => Asked::Ask(Call::Do(Step::Requeue {
+                tag,
+                issue,
+            })),
+        }
     }
 
     fn name(seat: u8) -> SeatName {
         SeatName::Device(seat)
     }
 
-    ghost stops = { device_never_stops };
+    ghost asks = { device_asks };
 }
 
 impl Staged for OperatorCall {
@@ -87,5 +107,5 @@ impl Staged for OperatorCall {
         SeatName::Operator
     }
 
-    ghost stops = { operator_stops };
+    ghost asks = { operator_asks };
 }

@@ -1,12 +1,13 @@
 // The core's side of a seat.
-ghost use Rattle.std.specs.Prelude.{◌≡◌, ◌<◌, [], ◌∷◌, ◌++◌, length, false, true, IsSome, option_to_list};
-ghost use Rattle.rtrb.specs.Ring.{known_free};
-ghost use Rattle.seats.specs.Rows.{Took};
+ghost use Rattle.std.specs.Prelude.{◌≡◌, ◌≢◌, ◌<◌, [], ◌∷◌, ◌++◌, length, false, true, option_to_list};
+ghost use Rattle.std.specs.Option.{option_copied};
+ghost use Rattle.rtrb.specs.Ring.{sent, known_free};
+ghost use Rattle.seats.specs.Rows.{Took, last_taken};
 
 use crate::asked::{Asked, Staged};
 use crate::bell::Bell;
 use host_calls::{RingReply, SeatName};
-use plain_machine::Answer;
+use plain_machine::{Answer, Reply};
 use rtrb::{Consumer, Producer, Protocol};
 use std::alloc::Global;
 
@@ -17,11 +18,11 @@ pub struct Desk<C, P: Protocol<RingReply>> {
     pub(crate) replies: Producer<RingReply, Global, P>,
     pub(crate) bell: Bell,
     pub(crate) number: u8,
-    /// The call that was taken and is not answered yet.
-    pub waiting: Option<Asked>,
-    /// Whether it has said that the core has ended.
-    pub closed: bool,
+    pub(crate) waiting: Option<Asked>,
+    pub(crate) last: Option<u64>,
+    pub(crate) closed: bool,
     ghost room: { closed ≡ false → length (option_to_list waiting) < known_free replies },
+    ghost last_is: { last ≡ last_taken (sent replies) },
 }
 
 impl<C: Staged, P: Protocol<RingReply>> Desk<C, P> {
@@ -35,10 +36,31 @@ impl<C: Staged, P: Protocol<RingReply>> Desk<C, P> {
         C::name(self.number)
     }
 
+    /// The call that was taken and is not answered yet.
+    pub fn waiting(&self) -> Option<&Asked>
+        ensures { option_to_list (option_copied result) ≡ (row_of C.asked_by C.named self.now).waiting }
+    {
+        self.waiting.as_ref()
+    }
+
+    /// The issue of the work that it handed out last, if it has handed out any.
+    pub fn last(&self) -> Option<u64>
+        ensures { result ≡ last_taken (row_of C.asked_by C.named self.now).replied }
+    {
+        self.last
+    }
+
+    /// Whether it has said that the core has ended.
+    pub fn is_closed(&self) -> bool
+        ensures { result ≡ (row_of C.asked_by C.named self.now).closed }
+    {
+        self.closed
+    }
+
     /// Takes the next call, if none waits, one is there, and two replies more have a place.
     pub fn take(&mut self)
         ensures took { Took (row_of C.asked_by C.named self.old) (row_of C.asked_by C.named self.new) }
-        ensures stays { self.old.closed ≡ true → row_of C.asked_by C.named self.new ≡ row_of C.asked_by C.named self.old }
+        ensures stays { (row_of C.asked_by C.named self.old).closed ≡ true → row_of C.asked_by C.named self.new ≡ row_of C.asked_by C.named self.old }
         ensures desk { SameDesk self.old self.new }
     {
         if self.closed || self.waiting.is_some() {
@@ -56,21 +78,24 @@ impl<C: Staged, P: Protocol<RingReply>> Desk<C, P> {
 
     /// Answers the call that waits, and rings the seat.
     pub fn answer(&mut self, answer: Answer)
-        requires open { self.old.closed ≡ false }
-        requires waits { IsSome self.old.waiting }
+        requires open { (row_of C.asked_by C.named self.old).closed ≡ false }
+        requires waits { (row_of C.asked_by C.named self.old).waiting ≢ [] }
         requires allowed { P.allows (replied self.old) (Answered answer) }
         ensures row { row_of C.asked_by C.named self.new
             ≡ record (row_of C.asked_by C.named self.old) { waiting = []; replied = replied self.old ++ Answered answer ∷ [] } }
         ensures desk { SameDesk self.old self.new }
     {
         self.waiting = None;
+        if let Answer::Accepted(Reply::Taken(work)) = &answer {
+            self.last = Some(work.issue);
+        }
         self.replies.push_reserved(RingReply::Answer(answer));
         self.bell.ring();
     }
 
     /// Says that the core has ended, and rings the seat. The call that waits, if one does, gets no other reply.
     pub fn close(&mut self)
-        requires open { self.old.closed ≡ false }
+        requires open { (row_of C.asked_by C.named self.old).closed ≡ false }
         requires allowed { P.allows (replied self.old) Closing }
         ensures row { row_of C.asked_by C.named self.new
             ≡ record (row_of C.asked_by C.named self.old) { closed = true; replied = replied self.old ++ Closing ∷ [] } }

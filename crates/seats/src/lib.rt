@@ -9,6 +9,7 @@
 //! | [`Seat::ask`] | one call staged and one reply collected; after Closed nothing is staged |
 //! | [`Desk::take`] | at most one call is taken, and it waits |
 //! | [`Desk::answer`], [`Desk::close`] | one reply more; there is always a place for it |
+//! | [`Desk::last`] | the issue of the work that it handed out last |
 //! | [`Staged`] | which call a kind of seat asks, with the seat's number put in, and whose the seat is |
 //! | [`ClientReplies`], [`OperatorReplies`] | which replies may go to a client, and to the operator |
 //!

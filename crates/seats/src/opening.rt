@@ -45,6 +45,7 @@ pub fn open_seat<C: Drop, P: Protocol<RingReply>>(
         bell,
         number,
         waiting: None,
+        last: None,
         closed: false,
     };
     Ok((seat, desk))
