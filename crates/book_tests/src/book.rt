@@ -90,7 +90,7 @@ fn work_of(tag: u8, issue: u64) -> u64 {
     issue.wrapping_add(1000 * u64::from(tag))
 }
 
-// Whose an entry is: a client's or a device's number, 30 for the operator and 40 for the core, and a digit for its call.
+// Whose an entry is, times 10, and a digit for its call: 10 and a client's number, 20 and a device's, 30 the operator, 40 the core.
 fn entry_of(book: &Book, at: usize) -> u64 {
     let Some((name, call)) = book.entry(at) else {
         return 0;
