@@ -1,0 +1,5 @@
+pub mod Takes
+pub mod Rules
+pub mod Rows
+pub mod Ends
+pub mod Served

@@ -1,0 +1,5 @@
+pub mod Judging
+pub mod Visits
+pub mod Visited
+pub mod Desks
+pub mod Closing

@@ -1,0 +1,17 @@
+// All desks of a core.
+ghost use Rattle.std.specs.Prelude.{◌≤◌, vec_len};
+
+use host_calls::{ClientCall, OperatorCall};
+use plain_machine::DeviceCall;
+use rtrb::AnyItems;
+use seats::{ClientReplies, Desk, OperatorReplies};
+
+/// The desks of a core: at most 16 clients', at most 4 devices', and the operator's.
+#[derive(Drop)]
+pub struct Desks {
+    pub(crate) callers: Vec<Desk<ClientCall, ClientReplies>>,
+    pub(crate) devices: Vec<Desk<DeviceCall, AnyItems>>,
+    pub(crate) operator: Desk<OperatorCall, OperatorReplies>,
+    ghost callers_few: { vec_len callers ≤ 16 },
+    ghost devices_few: { vec_len devices ≤ 4 },
+}

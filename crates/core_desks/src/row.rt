@@ -1,0 +1,30 @@
+// A visit of one seat of a row of seats of one kind.
+ghost use Rattle.std.specs.Prelude.{◌≡◌, ◌<◌, ℕ, map, vec_len};
+ghost use Rattle.seats.specs.Seats.{row_of};
+ghost use Rattle.core_desks.specs.Visits.{AllReady, Changes, MayTell};
+ghost use Rattle.core_desks.specs.Visited.{VisitsSeat};
+
+use crate::visit::{visit_seat, Came};
+use host_book::Book;
+use host_calls::RingReply;
+use rtrb::Protocol;
+use seats::{Desk, Staged};
+use std::alloc::Global;
+
+// Visits the seat at a place of a row.
+pub(crate) fn visit_row<C: Staged, P: Protocol<RingReply>>(
+    alloc: Global,
+    book: &mut Book,
+    desks: &mut Vec<Desk<C, P>>,
+    place: usize,
+    lasts: &[Option<u64>],
+) -> Option<Came>
+    requires within { place < vec_len desks.old }
+    requires ready { AllReady (map (row_of C.asked_by C.named) desks.old.items) }
+    requires rule { (n : ℕ) → MayTell (C.named n) P.allows }
+    ensures visited { Changes place (λ r s. VisitsSeat result lasts.now book.old r book.new s)
+        (map (row_of C.asked_by C.named) desks.old.items) (map (row_of C.asked_by C.named) desks.new.items) }
+    ensures len { vec_len desks.new ≡ vec_len desks.old }
+{
+    visit_seat(alloc, book, &mut desks[place], lasts)
+}

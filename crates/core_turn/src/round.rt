@@ -1,0 +1,51 @@
+// A round over the seats.
+ghost use Rattle.std.specs.Prelude.{◌<◌, ◌≤◌, length};
+ghost use Rattle.core_desks.specs.Desks.{rows};
+ghost use Rattle.core_desks.specs.Visits.{AllReady};
+ghost use Rattle.core_turn.specs.Rounds.{RoundOver};
+
+use core_desks::{Came, Desks};
+use host_book::Book;
+use std::alloc::Global;
+
+// Visits each seat once, from one on, up to the first at which somebody is answered or asks for the end. Gives its place, and what
+// came there.
+pub(crate) fn visit_all(
+    alloc: Global,
+    book: &mut Book,
+    desks: &mut Desks,
+    lasts: &[Option<u64>],
+    from: usize,
+) -> Option<(usize, Came)>
+    requires ready { AllReady (rows desks.old) }
+    requires within { from ≤ length (rows desks.old) }
+    ensures { RoundOver lasts.now 0 (length (rows desks.old)) book.old (rows desks.old) book.new (rows desks.new) result }
+{
+    let count = desks.len();
+    if let Some(came) = visit_range(alloc, book, desks, lasts, from, count) {
+        return Some(came);
+    }
+    visit_range(alloc, book, desks, lasts, 0, from)
+}
+
+// Visits the seats at these places.
+fn visit_range(
+    alloc: Global,
+    book: &mut Book,
+    desks: &mut Desks,
+    lasts: &[Option<u64>],
+    from: usize,
+    upto: usize,
+) -> Option<(usize, Came)>
+    requires ready { AllReady (rows desks.old) }
+    requires within { upto ≤ length (rows desks.old) }
+    requires ordered { from ≤ upto }
+    ensures { RoundOver lasts.now from upto book.old (rows desks.old) book.new (rows desks.new) result }
+{
+    for place in from..upto {
+        if let Some(came) = desks.visit(alloc, book, lasts, place) {
+            return Some((place, came));
+        }
+    }
+    None
+}
