@@ -1,0 +1,78 @@
+// The core of a host, and its turns.
+ghost use Rattle.std.specs.Prelude.{◌≡◌, ◌<◌, length, true, false};
+ghost use Rattle.core_desks.specs.Desks.{rows};
+ghost use Rattle.core_desks.specs.Visits.{AllReady};
+ghost use Rattle.host_rings.specs.Names.{AreNamed};
+ghost use Rattle.host_rings.specs.Keeping.{AreKept, AreShut};
+
+use core_desks::Desks;
+use core_turn::{take_turn, TurnReport};
+use history::KeeperView;
+use host_book::Book;
+use host_calls::SeatName;
+use plain_machine::Call;
+use seats::Bell;
+use std::alloc::Global;
+
+/// The core of a host: its machine with the journal, and the desks of all seats.
+#[derive(Drop)]
+pub struct Core {
+    pub(crate) book: Book,
+    pub(crate) desks: Desks,
+    pub(crate) next: usize,
+    pub(crate) ended: bool,
+    pub(crate) bell: Bell,
+    ghost kept: { ∥ AreKept book (rows desks) ∥₁ },
+    ghost named: { AreNamed (rows desks) },
+    ghost ready: { ended ≡ false → AllReady (rows desks) },
+    ghost shut: { ended ≡ true → AreShut (rows desks) },
+    ghost within: { next < length (rows desks) },
+}
+
+impl Core {
+    ghost use Rattle.std.specs.Prelude.{None, slice_get};
+    ghost use Rattle.std.specs.Option.{option_map};
+    ghost use Rattle.plain_machine.specs.Keeper.{replay};
+    ghost use Rattle.host_book.specs.Journal.{calls_of, shown_entry};
+    ghost use Rattle.core_turn.specs.Turns.{IsTurn, IsLastTurn};
+    ghost use Rattle.host_rings.specs.Cores.{pages, seats_of, last_works, has_ended};
+
+    /// Visits the seats, from the one after that which was answered last, up to the first that is answered; then it tries one Dispatch.
+    /// If the operator asks for the end, every seat hears it, and from then on nothing changes.
+    pub fn turn(&mut self, alloc: Global) -> TurnReport
+        ensures turn { has_ended self.old ≡ false → has_ended self.new ≡ false
+            → IsTurn (last_works self.old) (pages self.old) (seats_of self.old) (pages self.new) (seats_of self.new) result.answered result.dispatched }
+        ensures last { has_ended self.old ≡ false → has_ended self.new ≡ true
+            → IsLastTurn (pages self.old) (seats_of self.old) (pages self.new) (seats_of self.new) result.answered result.dispatched }
+        ensures stays { has_ended self.old ≡ true → (self.new ≡ self.old) × (result.answered ≡ None) × (result.dispatched ≡ false) }
+        ensures ended { result.ended ≡ has_ended self.new }
+        ensures kept { ∥ AreKept (pages self.new) (seats_of self.new) ∥₁ }
+        ensures ready { has_ended self.new ≡ false → AllReady (seats_of self.new) }
+        ensures shut { has_ended self.new ≡ true → AreShut (seats_of self.new) }
+    {
+        if self.ended {
+            return TurnReport {
+                answered: None,
+                dispatched: false,
+                ended: true,
+            };
+        }
+        let report = take_turn(alloc, &mut self.book, &mut self.desks, &mut self.next);
+        self.ended = report.ended;
+        report
+    }
+
+    /// What can be seen of the keeper. It is what comes of the entries' calls, one after the other.
+    pub fn view(&self) -> KeeperView<'_>
+        ensures { result.state ≡ replay (pages self.now).limits (pages self.now).most (calls_of (pages self.now).entries) }
+    {
+        self.book.view()
+    }
+
+    /// The journal's entry of a number, from 0: whose it is, and the call.
+    pub fn entry(&self, at: usize) -> Option<(SeatName, &Call)>
+        ensures { option_map shown_entry result ≡ slice_get (pages self.now).entries at }
+    {
+        self.book.entry(at)
+    }
+}
