@@ -3,3 +3,4 @@ pub mod Rules
 pub mod Rows
 pub mod Ends
 pub mod Served
+pub mod Fresh

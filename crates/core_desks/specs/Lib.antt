@@ -3,3 +3,5 @@ pub mod Visits
 pub mod Visited
 pub mod Desks
 pub mod Closing
+pub mod Opening
+pub mod Opened

@@ -3,6 +3,7 @@
 //!
 //! | call | rule that it meets |
 //! |---|---|
+//! | [`Desks::open`] | the desks and the seats of the same rings, to which nothing has come |
 //! | [`Desks::visit`] | the seat at a place was answered, or asks for the end, or has nothing to be answered now; no other seat changes |
 //! | [`Desks::close`] | each seat has heard the end, and nothing else |
 //! | [`Desks::lasts`] | the issue that each device took last, by its number |
@@ -24,10 +25,12 @@
 mod closing;
 mod desks;
 mod judging;
+mod opening;
 mod places;
 mod row;
 mod visit;
 
 pub use desks::Desks;
 pub use judging::{judge_asked, take_answer};
+pub use opening::Seats;
 pub use visit::Came;

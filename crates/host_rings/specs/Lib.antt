@@ -1,3 +1,4 @@
 pub mod Names
 pub mod Keeping
 pub mod Cores
+pub mod Opening

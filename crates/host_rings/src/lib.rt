@@ -3,14 +3,24 @@
 //!
 //! | call | rule that it meets |
 //! |---|---|
+//! | [`host`] | a core and its seats, to which nothing has come; so many workers as it may have |
 //! | [`Core::turn`] | at most one call is answered, then one Dispatch is tried; the calls and answers of every seat fit the one journal; after the end nothing changes |
 //! | [`Core::view`] | the keeper is what comes of the entries' calls, one after the other |
 //! | [`Core::entry`] | the entry of a number, from 0 |
 //!
 //! Each seat has two rings, one for its calls and one for its replies. The core owns the machine. Between it and the seats stands no
 //! lock: a seat may work on a thread of its own.
+//!
+//! ```text
+//! let (mut core, mut callers, devices, operator) = host(alloc, config, 64, 2)?;
+//! callers[0].stage(ClientCall::Attach { group: 0, prio: 4 })    // Ok(())
+//! core.turn(alloc)                                              // answered: Some(Client(0)), dispatched: false, ended: false
+//! callers[0].collect()                                          // Some(Answer(Accepted(Attached { session: 1 })))
+//! ```
 
+mod opening;
 mod turns;
 
 pub use core_turn::TurnReport;
+pub use opening::{host, Caller, DeviceSeat, HostFault, OperatorSeat};
 pub use turns::Core;

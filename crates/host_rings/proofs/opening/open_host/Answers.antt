@@ -1,0 +1,17 @@
+use Rattle.std.proofs.Common.{arith, ◌+◌}
+use Rattle.std.proofs.lemmas.Bool.{false≢true}
+use Rattle.core_desks.specs.Desks.{rows}
+use Rattle.host_rings.proofs.Fresh.{kept-fresh, ready-fresh, named-fresh}
+use Rattle.host_rings.proofs.opening.open_host.Goals as goal
+
+pub invariant_of-core : goal.invariant_of-core
+invariant_of-core c =
+    let opened = c.in_ok-desks.ensures.rows in
+    let desks = c.in_ok-desks.desks in
+    record {
+      kept = ∣ kept-fresh c.in_ok-book.book 16 c.args.workers (rows desks) c.in_ok-book.ensures.entries opened ∣₁;
+      named = named-fresh 16 c.args.workers (rows desks) opened;
+      ready = λ _. ready-fresh 16 c.args.workers (rows desks) opened;
+      shut = λ e. absurd (false≢true e);
+      within = omega (arith, opened.long);
+    }
