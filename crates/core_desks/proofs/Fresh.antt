@@ -34,7 +34,7 @@ IsRowOf name r = (r.name ≡ name) × IsFreshRow r
 
 module _ {C P : Type 0} where
   pub fresh-none : AreFresh {C = C} {P = P} 0 [] []
-  fresh-none = record { seats_are = refl; desks_are = refl; fresh = λ i s d at_s at_d. absurd (omega (arith, slice_get_within [] i s at_s)) }
+  fresh-none = record { seats_are = refl; desks_are = refl; fresh = λ i s at. absurd (omega (arith, slice_get_within [] i s at)) }
 
   -- one seat more
   pub fresh-more : (n : ℕ) (seats : List (Seat C P)) (desks : List (Desk C P)) (seat : Seat C P) (desk : Desk C P) → AreFresh n seats desks → IsFresh seat desk n
@@ -42,15 +42,9 @@ module _ {C P : Type 0} where
   fresh-more n seats desks seat desk h new = record {
     seats_are = omega (arith, h.seats_are, length-append seats (seat ∷ []));
     desks_are = omega (arith, h.desks_are, length-append desks (desk ∷ []));
-    fresh = λ i s d at_s at_d. elim (last-or-before seats seat s i at_s) [
-      | inl a ↦ elim (last-or-before desks desk d i at_d) [
-        | inl b ↦ rw (a.1, b.1, a.0, h.seats_are) new
-        | inr b ↦ absurd (omega (arith, a.0, slice_get_within desks i d b, h.seats_are, h.desks_are))
-      ]
-      | inr a ↦ elim (last-or-before desks desk d i at_d) [
-        | inl b ↦ absurd (omega (arith, b.0, slice_get_within seats i s a, h.seats_are, h.desks_are))
-        | inr b ↦ h.fresh i s d a b
-      ]
+    fresh = λ i s at. elim (last-or-before seats seat s i at) [
+      | inl a ↦ (desk, get-right desks (desk ∷ []) 0 i (omega (arith, a.0, h.seats_are, h.desks_are)), rw (a.1, a.0, h.seats_are) new)
+      | inr a ↦ let d = h.fresh i s a in (d.0, get-left desks (desk ∷ []) i (slice_get_within desks i d.0 d.1) ∙ d.1, d.2)
     ];
   }
 
@@ -62,10 +56,11 @@ module _ {C P : Type 0} where
       → (i : ℕ) (r : Row) → slice_get (map (row_of asked_by named) desks) i ≡ Some r → (i < n) × IsRowOf (named i) r
   fresh-rows asked_by named n seats desks h i r at =
       let within : i < length desks = omega (arith, slice_get_within (map (row_of asked_by named) desks) i r at, length-map desks (row_of asked_by named)) in
-      let d = some-at desks i within in
       let s = some-at seats i (omega (arith, within, h.seats_are, h.desks_are)) in
-      (omega (arith, within, h.desks_are), subst (IsRowOf (named i)) (same_Some (row_of asked_by named d.0) r (sym (slice_get-map (row_of asked_by named) desks i ∙ ap (option_map (row_of asked_by named)) d.1) ∙ at))
-        (fresh-row asked_by named s.0 d.0 i (h.fresh i s.0 d.0 s.1 d.1)))
+      let d = h.fresh i s.0 s.1 in
+      (omega (arith, within, h.desks_are),
+        subst (IsRowOf (named i)) (same_Some (row_of asked_by named d.0) r (sym (slice_get-map (row_of asked_by named) desks i ∙ ap (option_map (row_of asked_by named)) d.1) ∙ at))
+          (fresh-row asked_by named s.0 d.0 i d.2))
 
   pub rows-long : (asked_by : ℕ → C → Asked) (named : ℕ → SeatName) (n : ℕ) (seats : List (Seat C P)) (desks : List (Desk C P)) → AreFresh n seats desks
       → length (map (row_of asked_by named) desks) ≡ n

@@ -4,8 +4,8 @@ use Rattle.seats.specs.Seats.{IsFresh}
 use Rattle.seats.specs.declared.desk.Desk.{Desk}
 use Rattle.seats.specs.declared.seat.Seat.{Seat}
 
--- so many of them, each with the number of its place
+-- so many of them, and each seat with the desk of its place and its number
 pub record AreFresh {C P : Type 0} (count : ℕ) (seats : List (Seat C P)) (desks : List (Desk C P)) : Type 0 where
   pub seats_are : length seats ≡ count
   pub desks_are : length desks ≡ count
-  pub fresh : (i : ℕ) (s : Seat C P) (d : Desk C P) → slice_get seats i ≡ Some s → slice_get desks i ≡ Some d → IsFresh s d i
+  pub fresh : (i : ℕ) (s : Seat C P) → slice_get seats i ≡ Some s → (d : Desk C P) × (slice_get desks i ≡ Some d) × IsFresh s d i

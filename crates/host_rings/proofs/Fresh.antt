@@ -7,9 +7,13 @@ use Rattle.host_calls.specs.declared.seat.SeatName.TheVariants.{Client, Device, 
 use Rattle.host_book.specs.Journal.{Pages}
 use Rattle.seats.specs.Rows.{Row}
 use Rattle.seat_account.proofs.Accounts.{account-none}
+use Rattle.seats.specs.declared.desk.Desk.{Desk}
+use Rattle.seats.specs.declared.seat.Seat.{Seat}
+use Rattle.core_desks.specs.Opening.{AreFresh}
 use Rattle.core_desks.specs.Opened.{IsNameAt, AreOpened}
 use Rattle.core_desks.specs.Visits.{AllReady}
 use Rattle.host_rings.specs.Names.{same_name, AreNamed}
+use Rattle.host_rings.specs.Opening.{AreIdle}
 use Rattle.host_rings.specs.Keeping.{judges, is_entry, entry_under, is_own, AreKept}
 
 pub kept-fresh : (p : Pages) (callers devices : ℕ) (rows : List Row) → p.entries ≡ [] → AreOpened callers devices rows → AreKept p rows
@@ -51,3 +55,6 @@ named-fresh callers devices rows o = (
   (λ i j r s at_r at_s n. apart-names callers devices i j r.name s.name (o.names i r at_r) (o.names j s at_s) n),
   (λ i r at. seated-name callers devices i r.name (o.names i r at)),
 )
+
+pub idle-fresh : {C P : Type 0} (n : ℕ) (seats : List (Seat C P)) (desks : List (Desk C P)) → AreFresh n seats desks → AreIdle seats
+idle-fresh n seats desks h = λ i s at. let f = (h.fresh i s at).2 in (f.staged, f.collected, f.unclosed)

@@ -19,6 +19,7 @@
 //! ```
 
 mod opening;
+mod running;
 mod turns;
 
 pub use core_turn::TurnReport;

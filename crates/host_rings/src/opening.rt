@@ -4,7 +4,7 @@ ghost use Rattle.dispatch_core.specs.Running.{sizes_of};
 ghost use Rattle.plain_machine.specs.Step.{of_sizes};
 ghost use Rattle.core_desks.specs.Opened.{AreOpened};
 ghost use Rattle.host_rings.specs.Cores.{pages, seats_of, has_ended};
-ghost use Rattle.host_rings.specs.Opening.{are_bad_workers, is_bad_workers, ArePaired};
+ghost use Rattle.host_rings.specs.Opening.{are_bad_workers, is_bad_workers, ArePaired, IsIdle, AreIdle};
 
 use crate::turns::Core;
 use core_desks::Desks;
@@ -62,6 +62,7 @@ pub fn host(
     ensures seats { IfOk result (λ r. AreOpened 16 workers (seats_of r.0)) }
     ensures journal { IfOk result (λ r. ((pages r.0).entries ≡ []) × ((pages r.0).limits ≡ of_sizes (sizes_of config sectors))
         × ((pages r.0).most ≡ config.history_max) × (has_ended r.0 ≡ false)) }
+    ensures idle { IfOk result (λ r. AreIdle r.1.items × AreIdle r.2.items × IsIdle r.3) }
     ensures pairs { IfOk result (λ r. ArePaired workers r.0 r.1.items r.2.items r.3) }
 {
     if workers == 0 || workers > MOST_WORKERS {
@@ -84,6 +85,7 @@ fn open_host(
     ensures seats { IfOk result (λ r. AreOpened 16 workers (seats_of r.0)) }
     ensures journal { IfOk result (λ r. ((pages r.0).entries ≡ []) × ((pages r.0).limits ≡ of_sizes (sizes_of config sectors))
         × ((pages r.0).most ≡ config.history_max) × (has_ended r.0 ≡ false)) }
+    ensures idle { IfOk result (λ r. AreIdle r.1.items × AreIdle r.2.items × IsIdle r.3) }
     ensures pairs { IfOk result (λ r. ArePaired workers r.0 r.1.items r.2.items r.3) }
 {
     let book = Book::new(alloc, config, sectors)?;

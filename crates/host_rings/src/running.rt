@@ -1,0 +1,46 @@
+// The core at work: it takes turns until it has ended, and sleeps while there is nothing to do.
+
+use crate::opening::LOOKS;
+use crate::turns::Core;
+use std::alloc::Global;
+use std::sync::Wait;
+
+impl Core {
+    ghost use Rattle.std.specs.Prelude.{◌≡◌, true};
+    ghost use Rattle.host_rings.specs.Cores.{pages, seats_of, has_ended};
+    ghost use Rattle.host_rings.specs.Keeping.{AreKept, AreShut};
+
+    /// Takes turns until the operator has asked for the end. A turn in which nobody was answered and nothing dispatched changes
+    /// nothing until a seat rings; so after some of them the core sleeps.
+    pub fn run<R: Wait>(&mut self, rt: &R, alloc: Global)
+        ensures ended { has_ended self.new ≡ true }
+        ensures kept { ∥ AreKept (pages self.new) (seats_of self.new) ∥₁ }
+        ensures shut { AreShut (seats_of self.new) }
+    {
+        self.run_watched(rt, alloc, |_| {})
+    }
+
+    /// The same, and shows the core after each turn, and so before each sleep.
+    pub fn run_watched<R: Wait, W: FnMut(&Core)>(&mut self, rt: &R, alloc: Global, mut watch: W)
+        requires { W.IsAlwaysCallable watch }
+        ensures ended { has_ended self.new ≡ true }
+        ensures kept { ∥ AreKept (pages self.new) (seats_of self.new) ∥₁ }
+        ensures shut { AreShut (seats_of self.new) }
+    {
+        let mut looks = 0;
+        for _ in rt.forever() {
+            let report = self.turn(alloc);
+            watch(self);
+            if report.ended {
+                return;
+            }
+            if report.answered.is_some() || report.dispatched {
+                looks = 0;
+            } else {
+                self.bell.rest(rt, looks, LOOKS);
+                looks = looks.saturating_add(1);
+            }
+        }
+        unreachable!()
+    }
+}

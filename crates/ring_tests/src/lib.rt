@@ -1,0 +1,10 @@
+#![tactic(auto)]
+//! Tests of a host's core and its seats, and nothing else.
+//!
+//! | tests | what they compare |
+//! |---|---|
+//! | `turns` | what each call of each kind of seat is answered, whom a turn answers, and when it dispatches, in one thread |
+//! | `threads` | a core, four clients and the operator, each in a thread of its own |
+
+#[cfg(test)]
+mod turns;
