@@ -1,7 +1,7 @@
 -- The end of all seats, one after the other.
-use Rattle.std.proofs.Common.{true, false, Bool, ◌≡◌, ◌≢◌, ℕ, zero, suc, ◌+◌, ◌<◌, ◌≤◌, List, [], ◌∷◌, ◌++◌, length, map, set, get_or, refl, sym, ap, ◌∙◌, subst, arith, Option, None, Some, ◌⊎◌, inl, inr}
+use Rattle.std.proofs.Common.{false, ◌≡◌, ℕ, zero, suc, ◌+◌, ◌≤◌, List, [], ◌∷◌, ◌++◌, length, refl, sym, ap, ◌∙◌, subst, arith, Some, ◌⊎◌, inl, inr}
 use Rattle.std.specs.List.{slice_get}
-use Rattle.std.proofs.lemmas.List.{length-map, length-append}
+use Rattle.std.proofs.lemmas.List.{length-append}
 use Rattle.std.proofs.lemmas.Option.{slice_get_within, same_Some}
 use Rattle.seats.specs.Rows.{Row}
 use Rattle.core_desks.specs.Closing.{AllOpen, Closes, AllClose, CloseUpto}
@@ -22,8 +22,11 @@ pub close-more : (n : ℕ) (xs ys zs : List Row) → CloseUpto n xs ys → Chang
 close-more n xs ys zs h c = record {
   long = c.long ∙ h.long;
   closes = λ i s lt at. elim (same-place i n) [
-    | inl e ↦ (c.before, ap (slice_get xs) e ∙ sym (h.others n (omega arith)) ∙ c.stood,
-        subst (λ t. Closes c.before t) (same_Some c.after s (sym c.stands ∙ ap (slice_get zs) (sym e) ∙ at)) c.related)
+    | inl e ↦ (
+      c.before,
+      ap (slice_get xs) e ∙ sym (h.others n (omega arith)) ∙ c.stood,
+      subst (λ t. Closes c.before t) (same_Some c.after s (sym c.stands ∙ ap (slice_get zs) (sym e) ∙ at)) c.related,
+    )
     | inr ne ↦ h.closes i s (omega (arith, lt, ne)) (sym (c.others i ne) ∙ at)
   ];
   others = λ i le. c.others i (λ e. omega (arith, e, le)) ∙ h.others i (omega (arith, le));

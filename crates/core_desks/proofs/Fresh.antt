@@ -1,5 +1,5 @@
 -- Seats and desks that were made.
-use Rattle.std.proofs.Common.{true, false, Bool, ◌≡◌, ℕ, zero, suc, ◌+◌, ◌<◌, ◌≤◌, List, [], ◌∷◌, ◌++◌, length, map, refl, sym, ap, ◌∙◌, subst, arith, Option, None, Some, ◌⊎◌, inl, inr}
+use Rattle.std.proofs.Common.{◌≡◌, ℕ, zero, suc, ◌+◌, ◌<◌, List, [], ◌∷◌, ◌++◌, length, map, refl, sym, ap, ◌∙◌, subst, arith, Some, ◌⊎◌, inl, inr}
 use Rattle.std.specs.Prelude.{option_to_list}
 use Rattle.std.specs.List.{slice_get}
 use Rattle.std.specs.Option.{option_map}
@@ -57,10 +57,11 @@ module _ {C P : Type 0} where
   fresh-rows asked_by named n seats desks h i r at =
       let within : i < length desks = omega (arith, slice_get_within (map (row_of asked_by named) desks) i r at, length-map desks (row_of asked_by named)) in
       let s = some-at seats i (omega (arith, within, h.seats_are, h.desks_are)) in
-      let d = h.fresh i s.0 s.1 in
-      (omega (arith, within, h.desks_are),
+      let d = h.fresh i s.0 s.1 in (
+        omega (arith, within, h.desks_are),
         subst (IsRowOf (named i)) (same_Some (row_of asked_by named d.0) r (sym (slice_get-map (row_of asked_by named) desks i ∙ ap (option_map (row_of asked_by named)) d.1) ∙ at))
-          (fresh-row asked_by named s.0 d.0 i d.2))
+            (fresh-row asked_by named s.0 d.0 i d.2),
+      )
 
   pub rows-long : (asked_by : ℕ → C → Asked) (named : ℕ → SeatName) (n : ℕ) (seats : List (Seat C P)) (desks : List (Desk C P)) → AreFresh n seats desks
       → length (map (row_of asked_by named) desks) ≡ n

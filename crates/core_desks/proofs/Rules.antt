@@ -1,5 +1,5 @@
 -- What the core answers may be told: it has a frame, and only the operator hears that it is not yet time.
-use Rattle.std.proofs.Common.{true, false, Bool, ◌≡◌, ℕ, List, refl, sym, ap, ◌∙◌, subst, Option, Some}
+use Rattle.std.proofs.Common.{true, false, ◌≡◌, ℕ, List, refl, sym, ◌∙◌, Option, Some}
 use Rattle.std.proofs.lemmas.Bool.{false≢true}
 use Rattle.plain_machine.specs.declared.answer.Answer.{Answer}
 use Rattle.plain_machine.specs.declared.answer.Answer.TheVariants.{Accepted, Refused, NotYet}
@@ -17,7 +17,7 @@ use Rattle.host_calls.specs.declared.operator.OperatorCall.{OperatorCall}
 use Rattle.host_calls.specs.declared.operator.OperatorCall.TheVariants as operator
 use Rattle.host_calls.specs.declared.ring.RingReply.TheVariants.{Answer as Answered}
 use Rattle.host_calls.specs.declared.seat.SeatName.{SeatName}
-use Rattle.host_calls.specs.declared.seat.SeatName.TheVariants.{Client, Device, Operator, Core}
+use Rattle.host_calls.specs.declared.seat.SeatName.TheVariants.{Client, Device, Operator}
 use Rattle.host_calls.specs.Frames.{HasFrame}
 use Rattle.host_book.specs.Journal.{Entry, calls_of}
 use Rattle.reply_laws.specs.Answered.{IsAnswer, ClientsAreAnswered, OperatorIsAnswered}

@@ -29,18 +29,24 @@ served allows lasts p q r s t name call answer ready rule took named waits judge
     let e : name ≡ r.name = named ∙ took.name in
     let here : JudgedBy p.limits p.most r.name lasts p.entries call answer = subst (λ n. JudgedBy p.limits p.most n lasts p.entries call answer) e judged in
     let kind : IsOfKind r.name call = subst (λ n. IsOfKind n call) took.name (kind-waits s.name s.waiting call (took.kind ready.1) waits) in
-    subst (λ x. ((name ≡ r.name) × Serves lasts p r q x) × IsReady x) (sym row) ((e, record {
-      call = call;
-      answer = answer;
-      name = took.name;
-      was_open = ready.0;
-      closed = took.closed ∙ ready.0;
-      taken_is = λ done h. took.taken_is done h ∙ ap (λ w. done ++ w) waits;
-      waiting = refl;
-      judged = here;
-      told = (rule [] p.limits p.most lasts p.entries call answer kind here (subst (λ n. is_kept n answer ≡ false) e kept)).1;
-      replied = ap (λ rs. rs ++ Answered answer ∷ []) took.replied;
-      entries = entered ∙ ap (λ n. entered_at p.entries n call answer) e;
-      limits = limits;
-      most = most;
-    }), (took.closed ∙ ready.0, refl, λ k. refl))
+    subst (λ x. ((name ≡ r.name) × Serves lasts p r q x) × IsReady x) (sym row) (
+      (
+        e,
+        record {
+          call = call;
+          answer = answer;
+          name = took.name;
+          was_open = ready.0;
+          closed = took.closed ∙ ready.0;
+          taken_is = λ done h. took.taken_is done h ∙ ap (λ w. done ++ w) waits;
+          waiting = refl;
+          judged = here;
+          told = (rule [] p.limits p.most lasts p.entries call answer kind here (subst (λ n. is_kept n answer ≡ false) e kept)).1;
+          replied = ap (λ rs. rs ++ Answered answer ∷ []) took.replied;
+          entries = entered ∙ ap (λ n. entered_at p.entries n call answer) e;
+          limits = limits;
+          most = most;
+        },
+      ),
+      (took.closed ∙ ready.0, refl, λ k. refl),
+    )

@@ -1,5 +1,5 @@
 -- The rule of Take.
-use Rattle.std.proofs.Common.{true, false, Bool, ◌≡◌, ℕ, List, refl, sym, ap, ◌∙◌, subst, Option}
+use Rattle.std.proofs.Common.{false, ◌≡◌, ℕ, List, sym, ◌∙◌, subst, Option}
 use Rattle.std.proofs.lemmas.Bool.{false≢true}
 use Rattle.change_record.specs.Machine.{Plain}
 use Rattle.plain_machine.specs.Keeper.{State, machine_of}

@@ -1,5 +1,5 @@
 -- The end of all seats.
-use Rattle.std.specs.Prelude.{◌≡◌, ℕ, ◌<◌, ◌≤◌, Bool, true, false, List, [], ◌∷◌, ◌++◌, length, Some, slice_get}
+use Rattle.std.specs.Prelude.{◌≡◌, ℕ, ◌<◌, ◌≤◌, true, false, List, [], ◌∷◌, ◌++◌, length, Some, slice_get}
 use Rattle.host_calls.specs.declared.ring.RingReply.TheVariants.{Closed as Ended}
 use Rattle.seats.specs.Rows.{Row}
 

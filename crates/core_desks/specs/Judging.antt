@@ -11,7 +11,7 @@ use Rattle.plain_machine.specs.Keeper.{State, machine_of, replay}
 use Rattle.plain_machine.specs.Step.{Limits}
 use Rattle.device_take.specs.Takes.{IsBest}
 use Rattle.host_calls.specs.declared.seat.SeatName.{SeatName}
-use Rattle.host_calls.specs.declared.seat.SeatName.TheVariants.{Client, Device, Operator, Core}
+use Rattle.host_calls.specs.declared.seat.SeatName.TheVariants.{Device, Operator}
 use Rattle.host_book.specs.Journal.{Entry, calls_of, entered_by, Allows}
 use Rattle.seats.specs.declared.asked.Asked.{Asked}
 use Rattle.seats.specs.declared.asked.Asked.TheVariants.{Ask, Take, Stop}

@@ -6,7 +6,7 @@ use crate::desks::Desks;
 use host_calls::{ClientCall, OperatorCall, RingReply};
 use plain_machine::DeviceCall;
 use rtrb::{AnyItems, Protocol};
-use seats::{open_seat, Bell, ClientReplies, Desk, OperatorReplies, Seat};
+use seats::{Bell, ClientReplies, Desk, OperatorReplies, Seat, open_seat};
 use std::alloc::{AllocError, Global};
 
 /// The seats of a host, on the side of who asks.
@@ -30,7 +30,13 @@ impl Desks {
     /// # Errors
     ///
     /// A growth was refused.
-    pub fn open(alloc: Global, core: &Bell, callers: u8, devices: u8, looks: u32) -> Result<(Desks, Seats), AllocError>
+    pub fn open(
+        alloc: Global,
+        core: &Bell,
+        callers: u8,
+        devices: u8,
+        looks: u32,
+    ) -> Result<(Desks, Seats), AllocError>
         requires callers { callers ≤ 16 }
         requires devices { devices ≤ 4 }
         ensures rows { IfOk result (λ r. AreOpened callers devices (rows r.0)) }

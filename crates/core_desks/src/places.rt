@@ -2,7 +2,7 @@
 
 use crate::desks::Desks;
 use crate::row::visit_row;
-use crate::visit::{visit_seat, Came};
+use crate::visit::{Came, visit_seat};
 use arrayvec::ArrayVec;
 use host_book::Book;
 use reply_laws::{clients_are_answered, operator_is_answered};
@@ -34,7 +34,13 @@ impl Desks {
 
     /// Visits the seat at a place: it tries the call that waits there, or else the next one, and answers it if it is not to wait. The
     /// clients stand first, then the devices, then the operator. `lasts` has the issue that each device took last, by its number.
-    pub fn visit(&mut self, alloc: Global, book: &mut Book, lasts: &[Option<u64>], place: usize) -> Option<Came>
+    pub fn visit(
+        &mut self,
+        alloc: Global,
+        book: &mut Book,
+        lasts: &[Option<u64>],
+        place: usize,
+    ) -> Option<Came>
         requires ready { AllReady (rows self.old) }
         requires within { place < length (rows self.old) }
         ensures visited { Changes place (λ r s. VisitsSeat result lasts.now book.old r book.new s) (rows self.old) (rows self.new) }

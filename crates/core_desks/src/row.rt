@@ -4,7 +4,7 @@ ghost use Rattle.seats.specs.Seats.{row_of};
 ghost use Rattle.core_desks.specs.Visits.{AllReady, Changes, MayTell};
 ghost use Rattle.core_desks.specs.Visited.{VisitsSeat};
 
-use crate::visit::{visit_seat, Came};
+use crate::visit::{Came, visit_seat};
 use host_book::Book;
 use host_calls::RingReply;
 use rtrb::Protocol;

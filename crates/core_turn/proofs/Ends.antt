@@ -1,6 +1,5 @@
 -- What came of a round, as a turn tells it.
-use Rattle.std.proofs.Common.{true, false, ◌≡◌, ℕ, ◌<◌, List, length, refl, sym, ap, ◌∙◌, subst, arith, Option, None, Some}
-use Rattle.std.specs.List.{slice_get}
+use Rattle.std.proofs.Common.{◌≡◌, ℕ, ◌<◌, List, length, ◌∙◌, subst, Option, Some}
 use Rattle.std.proofs.lemmas.Option.{slice_get_within}
 use Rattle.host_calls.specs.declared.seat.SeatName.{SeatName}
 use Rattle.host_book.specs.Journal.{Pages}
@@ -9,19 +8,22 @@ use Rattle.core_desks.specs.Closing.{AllOpen}
 use Rattle.core_desks.specs.Visits.{AllReady}
 use Rattle.core_desks.specs.declared.visit.Came.{Came}
 use Rattle.core_desks.specs.declared.visit.Came.TheVariants.{Answered, Stopped}
-use Rattle.core_turn.specs.Rounds.{AllTook, Comes}
-use Rattle.core_turn.specs.Turns.{Answers, RoundBy, Ends}
+use Rattle.core_turn.specs.Rounds.{Comes}
+use Rattle.core_turn.specs.Turns.{RoundBy, Ends}
 use Rattle.core_turn.proofs.Took.{all-one, all-twice, changes-so, ready-changes}
 
 -- somebody was answered
 round-answers : (lasts : List (Option ℕ)) (place : ℕ) (name : SeatName) (p q : Pages) (xs ys : List Row) → Comes lasts place (Answered name) p xs q ys
     → RoundBy lasts p xs q ys (Some name)
-round-answers lasts place name p q xs ys c = let v = c.visits in
-    (place, record {
-      between = c.between;
-      took = c.took;
-      changes = record { before = v.before; after = v.after; long = v.long; stood = v.stood; stands = v.stands; related = v.related.0.1; others = v.others };
-    }, v.related.0.0)
+round-answers lasts place name p q xs ys c = let v = c.visits in (
+  place,
+  record {
+    between = c.between;
+    took = c.took;
+    changes = record { before = v.before; after = v.after; long = v.long; stood = v.stood; stands = v.stands; related = v.related.0.1; others = v.others };
+  },
+  v.related.0.0,
+)
 
 pub turn-answers : (ls lasts : List (Option ℕ)) (place : ℕ) (came : Came) (name : SeatName) (p q : Pages) (xs ys : List Row) → ls ≡ lasts → came ≡ Answered name
     → Comes ls place came p xs q ys → RoundBy lasts p xs q ys (Some name)

@@ -1,5 +1,5 @@
 -- One place more of a round, and the parts of a round.
-use Rattle.std.proofs.Common.{◌≡◌, ℕ, zero, suc, ◌+◌, ◌<◌, ◌≤◌, List, [], ◌∷◌, length, refl, sym, ap, ◌∙◌, subst, arith, Option, None, Some, ◌⊎◌, inl, inr}
+use Rattle.std.proofs.Common.{◌≡◌, ℕ, zero, suc, ◌+◌, ◌<◌, ◌≤◌, List, [], ◌∷◌, refl, sym, ap, ◌∙◌, subst, arith, Option, None, Some, ◌⊎◌, inl, inr}
 use Rattle.std.specs.List.{slice_get}
 use Rattle.std.proofs.lemmas.Option.{same_Some}
 use Rattle.host_calls.specs.declared.seat.SeatName.{SeatName}
@@ -9,7 +9,7 @@ use Rattle.seats.specs.declared.asked.Asked.{Asked}
 use Rattle.core_desks.specs.Visits.{SamePages, MustWait, AllReady, Changes}
 use Rattle.core_desks.specs.Visited.{VisitsSeat}
 use Rattle.core_desks.specs.declared.visit.Came.{Came}
-use Rattle.core_turn.specs.Rounds.{AllTook, AreWaiting, Passes, Comes, RoundOver}
+use Rattle.core_turn.specs.Rounds.{Passes, Comes, RoundOver}
 use Rattle.core_turn.proofs.Took.{same-place, all-none, all-one, all-twice, changes-so, ready-changes}
 
 lt-or-le : (i n : ℕ) → (i < n) ⊎ (n ≤ i)

@@ -17,4 +17,4 @@
 mod round;
 mod turn;
 
-pub use turn::{take_turn, TurnReport};
+pub use turn::{TurnReport, take_turn};

@@ -63,11 +63,7 @@ fn place_after(place: usize, count: usize) -> usize
     requires { place < count }
     ensures { result < count }
 {
-    if place + 1 < count {
-        place + 1
-    } else {
-        0
-    }
+    if place + 1 < count { place + 1 } else { 0 }
 }
 
 // Tries one Dispatch. If it is accepted it is the next entry, under the core's own name.

@@ -1,5 +1,5 @@
 -- The accounts of all seats after a turn.
-use Rattle.std.proofs.Common.{true, false, Bool, ◌≡◌, ℕ, zero, suc, List, [], ◌∷◌, ◌++◌, length, refl, sym, ap, ◌∙◌, subst, arith, Option, None, Some, ◌⊎◌, inl, inr}
+use Rattle.std.proofs.Common.{true, false, Bool, ◌≡◌, ℕ, List, [], ◌++◌, refl, sym, ap, ◌∙◌, subst, Option, None, Some, inl, inr}
 use Rattle.std.specs.List.{slice_get, filter}
 use Rattle.std.proofs.lemmas.List.{append-nil}
 use Rattle.std.proofs.lemmas.Option.{same_Some}
@@ -11,11 +11,11 @@ use Rattle.host_book.specs.Journal.{Pages, Entry}
 use Rattle.seats.specs.Rows.{Row, Took}
 use Rattle.seats.specs.declared.asked.Asked.TheVariants.{Ask}
 use Rattle.core_desks.specs.Visits.{SamePages, Serves, Changes}
-use Rattle.core_desks.specs.Closing.{AllClose, Closes}
+use Rattle.core_desks.specs.Closing.{AllClose}
 use Rattle.core_turn.specs.Rounds.{AllTook}
 use Rattle.core_turn.specs.Turns.{Answers, RoundBy, Dispatches, Ends, IsTurn, IsLastTurn}
 use Rattle.core_turn.proofs.Took.{same-place, took-none, all-none, all-one, all-twice, changes-so}
-use Rattle.host_rings.specs.Names.{same_name, AreNamed}
+use Rattle.host_rings.specs.Names.{AreNamed}
 use Rattle.host_rings.specs.Keeping.{is_entry, is_own, IsKept, AreKept, AreShut}
 use Rattle.host_rings.proofs.Kept.{added, entered-added, added-others, kept-took, kept-serves, kept-closes}
 
@@ -78,14 +78,14 @@ all-kept-serves lasts place p q xs ys c named h = λ i s at. elim (same-place i 
       (kept-serves lasts p q c.before c.after c.related (h place c.before c.stood))
   | inr n ↦ let v = c.related in
       kept-took p q (added c.before.name v.call v.answer) s s (took-none s) (v.entries ∙ entered-added p.entries c.before.name v.call v.answer) v.limits v.most
-        (added-others c.before.name s.name v.call (is_entry v.call v.answer) (named.0 i place s c.before (sym (c.others i n) ∙ at) c.stood n))
-        (h i s (sym (c.others i n) ∙ at))
+      (added-others c.before.name s.name v.call (is_entry v.call v.answer) (named.0 i place s c.before (sym (c.others i n) ∙ at) c.stood n))
+      (h i s (sym (c.others i n) ∙ at))
 ]
 
 all-kept-answers : (lasts : List (Option ℕ)) (place : ℕ) (p q : Pages) (xs ys : List Row) → Answers lasts place p xs q ys → AreNamed xs → AreKept p xs → AreKept q ys
 all-kept-answers lasts place p q xs ys a named h =
     all-kept-serves lasts place p q a.between ys a.changes (named-same xs a.between (names-took xs a.between a.took) named)
-        (all-kept-still p p xs a.between a.took (record { entries = refl; limits = refl; most = refl }) h)
+    (all-kept-still p p xs a.between a.took (record { entries = refl; limits = refl; most = refl }) h)
 
 kept-round : (lasts : List (Option ℕ)) (p q : Pages) (xs ys : List Row) (answered : Option SeatName) → RoundBy lasts p xs q ys answered → AreNamed xs → AreKept p xs → AreKept q ys
 kept-round lasts p q xs ys None r named h = all-kept-still p q xs ys r.took r.pages h

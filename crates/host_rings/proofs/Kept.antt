@@ -1,20 +1,19 @@
 -- What keeps the account of a seat.
-use Rattle.std.proofs.Common.{true, false, Bool, ◌≡◌, ℕ, zero, suc, ◌+◌, ◌<◌, ◌≤◌, ◌==◌, List, [], ◌∷◌, ◌++◌, length, map, refl, sym, ap, ◌∙◌, subst, arith, Option, None, Some, if◌then◌else◌}
-use Rattle.std.specs.List.{slice_get, filter}
+use Rattle.std.proofs.Common.{true, false, Bool, ◌≡◌, ℕ, ◌==◌, List, [], ◌∷◌, ◌++◌, refl, sym, subst, arith, Option, if◌then◌else◌}
+use Rattle.std.specs.List.{filter}
 use Rattle.std.proofs.lemmas.List.{append-nil}
 use Rattle.plain_machine.specs.declared.answer.Answer.{Answer}
 use Rattle.plain_machine.specs.declared.answer.Answer.TheVariants.{Accepted, Refused, NotYet}
-use Rattle.host_calls.specs.declared.ring.RingReply.{RingReply}
 use Rattle.host_calls.specs.declared.ring.RingReply.TheVariants.{Answer as Answered, Closed as Ended}
 use Rattle.host_calls.specs.declared.seat.SeatName.{SeatName}
 use Rattle.host_calls.specs.declared.seat.SeatName.TheVariants.{Client, Device, Operator, Core}
-use Rattle.host_book.specs.Journal.{Pages, Entry, entered_by}
+use Rattle.host_book.specs.Journal.{Pages, Entry}
 use Rattle.seats.specs.Rows.{Row, Took}
 use Rattle.seats.specs.declared.asked.Asked.{Asked}
 use Rattle.seats.specs.declared.asked.Asked.TheVariants.{Ask, Take, Stop}
 use Rattle.seat_account.specs.Account.{IsAccount}
 use Rattle.seat_account.proofs.Accounts.{account-takes, account-answers, account-closes}
-use Rattle.core_desks.specs.Judging.{JudgedBy, entered_at}
+use Rattle.core_desks.specs.Judging.{entered_at}
 use Rattle.core_desks.specs.Visits.{Serves}
 use Rattle.core_desks.specs.Closing.{Closes}
 use Rattle.host_rings.specs.Names.{same_name}
@@ -57,14 +56,14 @@ pub kept-took : (p q : Pages) (more : List Entry) (r s : Row) → Took r s → q
     → filter (is_own r.name) more ≡ [] → IsKept p r → IsKept q s
 kept-took p q more r s t e l m others h =
     rw (e, l, m, t.name, t.replied, t.closed) (account-takes (judges p.limits p.most r.name) is_entry (entry_under r.name) (is_own r.name) Answered
-        p.entries more r.taken r.waiting s.taken s.waiting r.replied (closing r.closed) others t.taken_is h)
+    p.entries more r.taken r.waiting s.taken s.waiting r.replied (closing r.closed) others t.taken_is h)
 
 -- the seat that was answered
 pub kept-serves : (lasts : List (Option ℕ)) (p q : Pages) (r s : Row) → Serves lasts p r q s → IsKept p r → IsKept q s
 kept-serves lasts p q r s v h =
     rw (v.entries, entered-added p.entries r.name v.call v.answer, v.limits, v.most, v.name, v.replied, v.closed, v.waiting)
-        (account-answers (judges p.limits p.most r.name) is_entry (entry_under r.name) (is_own r.name) Answered p.entries r.taken r.waiting s.taken r.replied v.call v.answer
-            (λ c. own-name r.name) v.taken_is (lasts, v.judged) (open-account p r v.was_open h))
+    (account-answers (judges p.limits p.most r.name) is_entry (entry_under r.name) (is_own r.name) Answered p.entries r.taken r.waiting s.taken r.replied v.call v.answer
+    (λ c. own-name r.name) v.taken_is (lasts, v.judged) (open-account p r v.was_open h))
 
 -- the seat that hears the end
 pub kept-closes : (p : Pages) (r s : Row) → Closes r s → IsKept p r → IsKept p s

@@ -23,5 +23,5 @@ mod running;
 mod turns;
 
 pub use core_turn::TurnReport;
-pub use opening::{host, Caller, DeviceSeat, HostFault, OperatorSeat};
+pub use opening::{Caller, DeviceSeat, HostFault, OperatorSeat, host};
 pub use turns::Core;

@@ -6,7 +6,7 @@ ghost use Rattle.host_rings.specs.Names.{AreNamed};
 ghost use Rattle.host_rings.specs.Keeping.{AreKept, AreShut};
 
 use core_desks::Desks;
-use core_turn::{take_turn, TurnReport};
+use core_turn::{TurnReport, take_turn};
 use history::KeeperView;
 use host_book::Book;
 use host_calls::SeatName;

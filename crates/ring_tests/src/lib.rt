@@ -7,4 +7,6 @@
 //! | `threads` | a core, four clients and the operator, each in a thread of its own |
 
 #[cfg(test)]
+mod threads;
+#[cfg(test)]
 mod turns;

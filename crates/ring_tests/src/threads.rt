@@ -2,7 +2,7 @@
 ghost use Rattle.std.specs.Prelude.{IfSome};
 ghost use Rattle.host_rings.specs.Opening.{IsIdle, AreIdle};
 
-use host_calls::{ClientCall, OperatorCall};
+use host_calls::{ClientCall, OperatorCall, SeatName};
 use host_rings::{Caller, Core, host};
 use plain_machine::Answer;
 use sector_core::{Config, ConfigDraft};
@@ -34,4 +34,56 @@ fn ask_all<R: Wait>(rt: &R, mut seat: Caller) -> u64
         }
     }
     accepted
+}
+
+// How many calls are accepted of four clients that ask at once while a core runs; whether the operator then hears that it has ended; and
+// whose the entries of the journal are.
+fn asked<R: Threads + Wait + Copy + Drop + Send + 'static>(
+    rt: R,
+    alloc: Global,
+) -> Result<(u64, bool, u64), Fail> {
+    let config = Config::check(ConfigDraft::default())?;
+    let (core, mut callers, _devices, mut operator) = host(alloc, config, 64, 1)?;
+    let running = thread::spawn(&rt, move || run(&rt, alloc, core))?;
+    let mut accepted = 0u64;
+    let mut asking = Vec::new(alloc);
+    for _ in 0..3u8 {
+        if let Some(seat) = last_of(&mut callers) {
+            asking.push(thread::spawn(
+                &rt,
+                move || -> u64
+                    requires { IsIdle seat }
+                { ask_all(&rt, seat) },
+            )?)?;
+        }
+    }
+    if let Some(seat) = last_of(&mut callers) {
+        accepted = ask_all(&rt, seat);
+    }
+    for handle in asking {
+        accepted = accepted.wrapping_add(handle.join(&rt));
+    }
+    let has_ended = operator.ask(&rt, OperatorCall::Stop).is_err();
+    Ok((accepted, has_ended, running.join(&rt)))
+}
+
+// Runs a core to its end. Gives whose the entries of its journal are, added up: 1 for a client, 10 for another.
+fn run<R: Wait>(rt: &R, alloc: Global, mut core: Core) -> u64 {
+    core.run(rt, alloc);
+    let mut whose = 0u64;
+    for at in 0..10usize {
+        match core.entry(at) {
+            Some((SeatName::Client(_), _)) => whose = whose.wrapping_add(1),
+            Some(_) => whose = whose.wrapping_add(10),
+            None => {}
+        }
+    }
+    whose
+}
+
+// Each client sits down once; the other 999 times its seat is taken. So the journal has four entries, each a client's.
+#[test]
+fn four_clients_at_once(rt: HostRuntime) -> Result<(), Fail> {
+    assert_eq!(rt; asked(rt, rt.alloc())?, (4, true, 4));
+    Ok(())
 }

@@ -160,7 +160,9 @@ fn collected(host: &mut Host, who: Who) -> u64 {
 
 // What a seat collects where there is no reply, and where the core has ended.
 const NOTHING: u64 = 900;
+
 const CLOSED: u64 = 901;
+
 const DONE: u64 = 902;
 
 // The number of what was accepted, or of a refusal after 100, or of a wait after 200.
@@ -211,11 +213,19 @@ type Row = (u64, Who, bool);
 fn after_turn(host: &mut Host, alloc: Global, act: Act) -> Row {
     let _staged = stage(host, act);
     let report = host.core.turn(alloc);
-    (collected(host, owner(act)), answered(report.answered), report.dispatched)
+    (
+        collected(host, owner(act)),
+        answered(report.answered),
+        report.dispatched,
+    )
 }
 
 // The number of the first act that comes to something else, with that; none if there is none.
-fn first_other(alloc: Global, workers: u8, acts: &[(Act, Row)]) -> Result<Option<(usize, Row)>, Fail> {
+fn first_other(
+    alloc: Global,
+    workers: u8,
+    acts: &[(Act, Row)],
+) -> Result<Option<(usize, Row)>, Fail> {
     let mut host = opened(alloc, workers)?;
     for (number, (act, wanted)) in acts.iter().enumerate() {
         let got = after_turn(&mut host, alloc, *act);
@@ -336,7 +346,10 @@ fn five_calls(alloc: Global) -> Result<([bool; 5], [u64; 5]), Fail> {
 #[test]
 fn a_fifth_call_comes_back(rt: HostRuntime) -> Result<(), Fail> {
     let placed = [true, true, true, true, false];
-    assert_eq!(rt; five_calls(rt.alloc())?, (placed, [1, 102, 102, 102, NOTHING]));
+    assert_eq!(rt;
+        five_calls(rt.alloc())?,
+        (placed, [1, 102, 102, 102, NOTHING])
+    );
     Ok(())
 }
 

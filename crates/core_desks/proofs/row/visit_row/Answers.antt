@@ -1,4 +1,4 @@
-use Rattle.std.proofs.Common.{arith, sym, ◌∙◌, ap, ◌≡◌, refl}
+use Rattle.std.proofs.Common.{arith, refl}
 use Rattle.core_desks.proofs.Rows.{changes-set, ready-at}
 use Rattle.core_desks.proofs.row.visit_row.Goals as goal
 

@@ -1,4 +1,4 @@
-use Rattle.std.proofs.Common.{◌≡◌, ◌∙◌}
+use Rattle.std.proofs.Common.{◌∙◌}
 use Rattle.core_desks.specs.Desks.{rows, lasts}
 use Rattle.core_turn.proofs.Ends.{turn-answers, ready-answers}
 use Rattle.core_turn.proofs.turn.take_turn.Goals as goal

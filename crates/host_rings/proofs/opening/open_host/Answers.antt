@@ -1,4 +1,4 @@
-use Rattle.std.proofs.Common.{arith, ◌+◌}
+use Rattle.std.proofs.Common.{arith}
 use Rattle.std.proofs.lemmas.Bool.{false≢true}
 use Rattle.core_desks.specs.Desks.{rows}
 use Rattle.host_rings.proofs.Fresh.{kept-fresh, ready-fresh, named-fresh, idle-fresh}
@@ -20,7 +20,8 @@ pub returns-clause-idle : goal.returns-clause-idle
 returns-clause-idle c =
     let pairs = c.in_ok-desks.ensures.pairs in
     let seats = c.in_ok-desks.seats in
-    let desks = c.in_ok-desks.desks in
-    (idle-fresh 16 seats.callers.items desks.callers.items pairs.callers,
-     idle-fresh c.args.workers seats.devices.items desks.devices.items pairs.devices,
-     (pairs.operator.staged, pairs.operator.collected, pairs.operator.unclosed))
+    let desks = c.in_ok-desks.desks in (
+      idle-fresh 16 seats.callers.items desks.callers.items pairs.callers,
+      idle-fresh c.args.workers seats.devices.items desks.devices.items pairs.devices,
+      (pairs.operator.staged, pairs.operator.collected, pairs.operator.unclosed),
+    )

@@ -16,8 +16,11 @@ close-requires-clause-open c = let d = c.args.self.now in
 
 pub returns : goal.returns
 returns c = let d = c.args.self.now in
-    record { closes = close-both (caller_rows d) _ (device_rows d ++ operator_row d ∷ []) _ c.close_row.ensures.closes
-        (close-both (device_rows d) _ (operator_row d ∷ []) _ c.close_row-2.ensures.closes
-            (close-one (operator_row d) _
-                (open-right (device_rows d) (operator_row d ∷ []) (open-right (caller_rows d) (device_rows d ++ operator_row d ∷ []) c.requires.open) 0 (operator_row d) refl,
-                 c.close.ensures.row))) }
+    record {
+      closes = close-both (caller_rows d) _ (device_rows d ++ operator_row d ∷ []) _ c.close_row.ensures.closes
+          (close-both (device_rows d) _ (operator_row d ∷ []) _ c.close_row-2.ensures.closes
+          (close-one (operator_row d) _ (
+            open-right (device_rows d) (operator_row d ∷ []) (open-right (caller_rows d) (device_rows d ++ operator_row d ∷ []) c.requires.open) 0 (operator_row d) refl,
+            c.close.ensures.row,
+          )));
+    }

@@ -11,9 +11,9 @@ returns-clause-rows c =
     let devices = c.in_ok-device_seats in
     let operator = c.in_ok-operator_seat in
     opened-rows c.args.callers c.args.devices (map (row_of client_asked Client) callers.caller_desks.items) (map (row_of device_asked Device) devices.device_desks.items)
-        (row_of operator_asked (λ _. Operator) operator.operator_desk)
-        (rows-long client_asked Client c.args.callers callers.caller_seats.items callers.caller_desks.items callers.ensures)
-        (rows-long device_asked Device c.args.devices devices.device_seats.items devices.device_desks.items devices.ensures)
-        (fresh-rows client_asked Client c.args.callers callers.caller_seats.items callers.caller_desks.items callers.ensures)
-        (fresh-rows device_asked Device c.args.devices devices.device_seats.items devices.device_desks.items devices.ensures)
-        (fresh-row operator_asked (λ _. Operator) operator.operator_seat operator.operator_desk 0 operator.ensures)
+    (row_of operator_asked (λ _. Operator) operator.operator_desk)
+    (rows-long client_asked Client c.args.callers callers.caller_seats.items callers.caller_desks.items callers.ensures)
+    (rows-long device_asked Device c.args.devices devices.device_seats.items devices.device_desks.items devices.ensures)
+    (fresh-rows client_asked Client c.args.callers callers.caller_seats.items callers.caller_desks.items callers.ensures)
+    (fresh-rows device_asked Device c.args.devices devices.device_seats.items devices.device_desks.items devices.ensures)
+    (fresh-row operator_asked (λ _. Operator) operator.operator_seat operator.operator_desk 0 operator.ensures)

@@ -1,11 +1,11 @@
-use Rattle.std.proofs.Common.{arith, sym, refl, ◌≡◌, ◌+◌, ◌-◌, ◌++◌, [], ◌∷◌, ap, ◌∙◌, length}
+use Rattle.std.proofs.Common.{arith, refl, ◌-◌, ◌++◌, [], ◌∷◌, length}
 use Rattle.std.proofs.lemmas.List.{length-map, length-append}
 use Rattle.host_calls.specs.declared.seat.SeatName.TheVariants.{Client, Device}
 use Rattle.seats.specs.Asked.{client_asked, device_asked}
 use Rattle.seats.specs.Seats.{row_of}
 use Rattle.core_desks.specs.Desks.{caller_rows, device_rows, operator_row}
 use Rattle.core_desks.proofs.Rows.{changes-left, changes-right, changes-one, ready-left, ready-right}
-use Rattle.core_desks.proofs.Rules.{client-told, device-told, operator-told}
+use Rattle.core_desks.proofs.Rules.{client-told, operator-told}
 use Rattle.core_desks.proofs.desks.Desks.visit.Goals as goal
 
 pub visit_row-requires-clause-ready : goal.visit_row-requires-clause-ready
@@ -32,26 +32,30 @@ returns-then-place-callers c = let d = c.args.self.now in
 
 pub returns-then-number-len : goal.returns-then-number-len
 returns-then-number-len c = let d = c.args.self.now in let number = c.args.place - c.len-callers.result in
-    record { visited = changes-right _ (caller_rows d) (device_rows d ++ operator_row d ∷ []) _ number c.args.place
-        (omega (arith, c.if-place-callers.false, c.len-callers.ensures, d.callers.ok.0, length-map d.callers.items (row_of client_asked Client)))
-        (changes-left _ (device_rows d) _ (operator_row d ∷ []) number c.visit_row-then-number-len.ensures.visited) }
+    record {
+      visited = changes-right _ (caller_rows d) (device_rows d ++ operator_row d ∷ []) _ number c.args.place
+          (omega (arith, c.if-place-callers.false, c.len-callers.ensures, d.callers.ok.0, length-map d.callers.items (row_of client_asked Client)))
+          (changes-left _ (device_rows d) _ (operator_row d ∷ []) number c.visit_row-then-number-len.ensures.visited);
+    }
 
 pub returns : goal.returns
 returns c = let d = c.args.self.now in let n = length (device_rows d) in
-    record { visited = changes-right _ (caller_rows d) (device_rows d ++ operator_row d ∷ []) _ n c.args.place
-        (omega (
-          arith,
-          c.requires.within,
-          c.if-place-callers.false,
-          c.if-number-len.false,
-          c.len-callers.ensures,
-          c.len.ensures,
-          d.callers.ok.0,
-          d.devices.ok.0,
-          length-append (caller_rows d) (device_rows d ++ operator_row d ∷ []),
-          length-append (device_rows d) (operator_row d ∷ []),
-          length-map d.callers.items (row_of client_asked Client),
-          length-map d.devices.items (row_of device_asked Device),
-        ))
-        (changes-right _ (device_rows d) (operator_row d ∷ []) _ 0 n (omega arith)
-            (changes-one _ (operator_row d) _ c.visit_seat.ensures.visited)) }
+    record {
+      visited = changes-right _ (caller_rows d) (device_rows d ++ operator_row d ∷ []) _ n c.args.place
+          (omega (
+            arith,
+            c.requires.within,
+            c.if-place-callers.false,
+            c.if-number-len.false,
+            c.len-callers.ensures,
+            c.len.ensures,
+            d.callers.ok.0,
+            d.devices.ok.0,
+            length-append (caller_rows d) (device_rows d ++ operator_row d ∷ []),
+            length-append (device_rows d) (operator_row d ∷ []),
+            length-map d.callers.items (row_of client_asked Client),
+            length-map d.devices.items (row_of device_asked Device),
+          ))
+          (changes-right _ (device_rows d) (operator_row d ∷ []) _ 0 n (omega arith)
+          (changes-one _ (operator_row d) _ c.visit_seat.ensures.visited));
+    }
