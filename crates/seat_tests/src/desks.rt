@@ -1,4 +1,6 @@
 // A seat and its desk, in one thread.
+ghost use Rattle.seats.specs.Seats.{SameSeat, SameDesk};
+
 use host_calls::{ClientCall, OperatorCall, RingReply, SeatName};
 use plain_machine::{Answer, Call, Cause, Code, DeviceCall, Reply, Step, Work};
 use rtrb::AnyItems;
@@ -68,7 +70,9 @@ fn taken(alloc: Global) -> Result<[(u8, u64); 3], Fail> {
 }
 
 // Refuses the call that waits, if one does.
-fn answer(desk: &mut CallerDesk) {
+fn answer(desk: &mut CallerDesk)
+    ensures { SameDesk desk.old desk.new }
+{
     if desk.waiting().is_some() && !desk.is_closed() {
         desk.answer(Answer::Refused(Code::NoSession));
     }
@@ -218,5 +222,35 @@ fn last_work_handed_out(rt: HostRuntime) -> Result<(), Fail> {
     ];
     let lasts = [None, Some(3), Some(3), Some(9), Some(9)];
     assert_eq!(rt; handed_out(rt.alloc(), answers)?, lasts);
+    Ok(())
+}
+
+// Three calls are staged. Two are taken and answered, and one reply is collected.
+fn worked(seat: &mut Caller, desk: &mut CallerDesk)
+    ensures seat { SameSeat seat.old seat.new }
+    ensures desk { SameDesk desk.old desk.new }
+{
+    for session in 1..4 {
+        let _staged = seat.stage(ClientCall::Reap { session });
+    }
+    for _ in 0..2u8 {
+        desk.take();
+        answer(desk);
+    }
+    let _first = seat.collect();
+}
+
+// How many calls are left then, and how many replies were not collected.
+fn settled(alloc: Global) -> Result<(usize, usize), Fail> {
+    let core = Bell::new(alloc)?;
+    let (mut seat, mut desk) = open_seat::<ClientCall, ClientReplies>(alloc, &core, 3, 0)?;
+    worked(&mut seat, &mut desk);
+    let settled = desk.settle(seat.finish());
+    Ok((settled.left, settled.uncollected))
+}
+
+#[test]
+fn one_call_and_one_reply_are_left(rt: HostRuntime) -> Result<(), Fail> {
+    assert_eq!(rt; settled(rt.alloc())?, (1, 1));
     Ok(())
 }

@@ -15,6 +15,10 @@ closed_by was (Answered answer) = was
 closed_by was Closing = true
 
 module _ {C P : Type 0} where
+  -- its number, among the seats of its kind
+  abbrev pub seat_number : Seat C P → ℕ
+  seat_number s = s.number
+
   -- the calls that a seat has staged, and the replies that it has collected
   abbrev pub staged : Seat C P → List C
   staged s = sent s.calls
@@ -33,9 +37,9 @@ module _ {C P : Type 0} where
   abbrev pub HasNothing : Seat C P → Type 0
   HasNothing s = known_items s.replies ≡ []
 
-  -- the same two rings
+  -- the same two rings, and the same number
   abbrev pub SameSeat : Seat C P → Seat C P → Type 0
-  SameSeat a b = SameProducer a.calls b.calls × SameConsumer a.replies b.replies
+  SameSeat a b = SameProducer a.calls b.calls × SameConsumer a.replies b.replies × (b.number ≡ a.number)
 
   abbrev pub SameDesk : Desk C P → Desk C P → Type 0
   SameDesk a b = SameConsumer a.calls b.calls × SameProducer a.replies b.replies
@@ -72,3 +76,12 @@ module _ {C P : Type 0} where
     pub closed : d.closed ≡ false
     pub waiting : d.waiting ≡ None
     pub numbered : d.number ≡ number
+    pub seat_numbered : s.number ≡ number
+
+  -- the calls that were staged and are not taken yet, as far as a desk knows
+  abbrev pub known_calls : Desk C P → List C
+  known_calls d = known_items d.calls
+
+  -- a seat and a desk of the same two rings
+  abbrev pub AreBeside : Seat C P → Desk C P → Type 0
+  AreBeside s d = IsPair s.calls d.calls × IsPair d.replies s.replies

@@ -10,6 +10,7 @@
 //! | [`Desk::take`] | at most one call is taken, and it waits |
 //! | [`Desk::answer`], [`Desk::close`] | one reply more; there is always a place for it |
 //! | [`Desk::last`] | the issue of the work that it handed out last |
+//! | [`Seat::finish`], [`Desk::settle`] | how many staged calls were not taken, and how many replies not collected |
 //! | [`Staged`] | which call a kind of seat asks, with the seat's number put in, and whose the seat is |
 //! | [`ClientReplies`], [`OperatorReplies`] | which replies may go to a client, and to the operator |
 //!
@@ -35,6 +36,7 @@ mod desk;
 mod opening;
 mod rules;
 mod seat;
+mod settling;
 
 pub use asked::{Asked, Staged};
 pub use bell::Bell;
@@ -42,3 +44,4 @@ pub use desk::Desk;
 pub use opening::open_seat;
 pub use rules::{ClientReplies, OperatorReplies};
 pub use seat::Seat;
+pub use settling::{SeatEnd, Settled};

@@ -37,6 +37,7 @@ pub fn open_seat<C: Drop, P: Protocol<RingReply>>(
         core,
         own,
         looks,
+        number,
         closed: false,
     };
     let desk = Desk {

@@ -1,6 +1,6 @@
 // Who sits at a seat: its calls go out, its replies come in.
 ghost use Rattle.std.specs.Prelude.{◌≡◌, [], ◌∷◌, ◌++◌, length, false, true, None, OnOk, OnErr, IfOk, IfErr, IfSome};
-ghost use Rattle.seats.specs.Seats.{staged, collected, is_closed, closed_by, IsFull, HasNothing, SameSeat};
+ghost use Rattle.seats.specs.Seats.{seat_number, staged, collected, is_closed, closed_by, IsFull, HasNothing, SameSeat};
 ghost use Rattle.host_calls.specs.declared.ring.RingReply.TheVariants.{Answer as Answered, Closed as Closing};
 
 use crate::bell::Bell;
@@ -18,10 +18,18 @@ pub struct Seat<C, P: Protocol<RingReply>> {
     pub(crate) core: Bell,
     pub(crate) own: Bell,
     pub(crate) looks: u32,
+    pub(crate) number: u8,
     pub(crate) closed: bool,
 }
 
 impl<C: Drop, P: Protocol<RingReply>> Seat<C, P> {
+    /// Its number, among the seats of its kind.
+    pub fn number(&self) -> u8
+        ensures { result ≡ seat_number self.now }
+    {
+        self.number
+    }
+
     /// Whether Closed was collected.
     pub fn is_closed(&self) -> bool
         ensures { result ≡ is_closed self.now }
