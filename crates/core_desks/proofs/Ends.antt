@@ -8,7 +8,7 @@ use Rattle.core_desks.specs.Closing.{AllOpen, Closes, AllClose, CloseUpto}
 use Rattle.core_desks.specs.Visits.{Changes}
 use Rattle.core_desks.proofs.Rows.{get-left, get-right, within-or-behind}
 
-same-place : (i j : ℕ) → (i ≡ j) ⊎ (i ≡ j → ⊥)
+pub same-place : (i j : ℕ) → (i ≡ j) ⊎ (i ≡ j → ⊥)
 same-place zero zero = inl refl
 same-place zero (suc j) = inr (λ e. omega (arith, e))
 same-place (suc i) zero = inr (λ e. omega (arith, e))

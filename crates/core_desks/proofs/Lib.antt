@@ -4,3 +4,4 @@ pub mod Rows
 pub mod Ends
 pub mod Served
 pub mod Fresh
+pub mod Same

@@ -5,3 +5,4 @@ pub mod Desks
 pub mod Closing
 pub mod Opening
 pub mod Opened
+pub mod Same

@@ -4,6 +4,7 @@ ghost use Rattle.host_calls.specs.declared.ring.RingReply.{RingReply as Replies}
 ghost use Rattle.host_calls.specs.declared.ring.RingReply.TheVariants.{Closed as Closing};
 ghost use Rattle.seats.specs.Seats.{row_of};
 ghost use Rattle.core_desks.specs.Closing.{AllOpen, AllClose};
+ghost use Rattle.core_desks.specs.Same.{SameEach};
 
 use crate::desks::Desks;
 use host_calls::RingReply;
@@ -12,11 +13,13 @@ use seats::{Desk, Staged};
 
 impl Desks {
     ghost use Rattle.core_desks.specs.Desks.{rows};
+    ghost use Rattle.core_desks.specs.Same.{SameDesks};
 
     /// Tells each seat that the core has ended. A call that waits gets no other reply.
     pub fn close(&mut self)
         requires open { AllOpen (rows self.old) }
         ensures closes { AllClose (rows self.old) (rows self.new) }
+        ensures desks { SameDesks self.old self.new }
     {
         close_row(&mut self.callers);
         close_row(&mut self.devices);
@@ -28,6 +31,7 @@ fn close_row<C: Staged, P: Protocol<RingReply>>(desks: &mut Vec<Desk<C, P>>)
     requires open { AllOpen (map (row_of C.asked_by C.named) desks.old.items) }
     requires rule { (before : List Replies) → P.allows before Closing }
     ensures closes { AllClose (map (row_of C.asked_by C.named) desks.old.items) (map (row_of C.asked_by C.named) desks.new.items) }
+    ensures desks { SameEach desks.old.items desks.new.items }
     ensures len { vec_len desks.new ≡ vec_len desks.old }
 {
     for number in 0..desks.len() {

@@ -11,6 +11,7 @@ use std::alloc::Global;
 impl Desks {
     ghost use Rattle.std.specs.Prelude.{◌≡◌, ◌<◌, length};
     ghost use Rattle.core_desks.specs.Desks.{rows, lasts};
+    ghost use Rattle.core_desks.specs.Same.{SameDesks};
     ghost use Rattle.core_desks.specs.Visits.{AllReady, Changes};
     ghost use Rattle.core_desks.specs.Visited.{VisitsSeat};
 
@@ -44,6 +45,7 @@ impl Desks {
         requires ready { AllReady (rows self.old) }
         requires within { place < length (rows self.old) }
         ensures visited { Changes place (λ r s. VisitsSeat result lasts.now book.old r book.new s) (rows self.old) (rows self.new) }
+        ensures desks { SameDesks self.old self.new }
     {
         // What the core answers has a frame: laws of the machine of every keeper, which change nothing.
         clients_are_answered();

@@ -1,6 +1,7 @@
 // A visit of one seat of a row of seats of one kind.
 ghost use Rattle.std.specs.Prelude.{◌≡◌, ◌<◌, ℕ, map, vec_len};
 ghost use Rattle.seats.specs.Seats.{row_of};
+ghost use Rattle.core_desks.specs.Same.{SameEach};
 ghost use Rattle.core_desks.specs.Visits.{AllReady, Changes, MayTell};
 ghost use Rattle.core_desks.specs.Visited.{VisitsSeat};
 
@@ -24,6 +25,7 @@ pub(crate) fn visit_row<C: Staged, P: Protocol<RingReply>>(
     requires rule { (n : ℕ) → MayTell (C.named n) P.allows }
     ensures visited { Changes place (λ r s. VisitsSeat result lasts.now book.old r book.new s)
         (map (row_of C.asked_by C.named) desks.old.items) (map (row_of C.asked_by C.named) desks.new.items) }
+    ensures desks { SameEach desks.old.items desks.new.items }
     ensures len { vec_len desks.new ≡ vec_len desks.old }
 {
     visit_seat(alloc, book, &mut desks[place], lasts)

@@ -1,6 +1,6 @@
 // A visit of one seat.
 ghost use Rattle.std.specs.Prelude.{◌≡◌};
-ghost use Rattle.seats.specs.Seats.{row_of};
+ghost use Rattle.seats.specs.Seats.{row_of, SameDesk};
 ghost use Rattle.core_desks.specs.Judging.{is_kept};
 ghost use Rattle.core_desks.specs.Visits.{IsReady, MayTell};
 ghost use Rattle.core_desks.specs.Visited.{VisitsSeat};
@@ -33,6 +33,7 @@ pub(crate) fn visit_seat<C: Staged, P: Protocol<RingReply>>(
     requires rule { MayTell (row_of C.asked_by C.named desk.old).name P.allows }
     ensures visited { VisitsSeat result lasts.now book.old (row_of C.asked_by C.named desk.old)
         book.new (row_of C.asked_by C.named desk.new) }
+    ensures desk { SameDesk desk.old desk.new }
 {
     desk.take();
     let name = desk.name();

@@ -1,6 +1,7 @@
 // A round over the seats.
 ghost use Rattle.std.specs.Prelude.{◌<◌, ◌≤◌, length};
 ghost use Rattle.core_desks.specs.Desks.{rows};
+ghost use Rattle.core_desks.specs.Same.{SameDesks};
 ghost use Rattle.core_desks.specs.Visits.{AllReady};
 ghost use Rattle.core_turn.specs.Rounds.{RoundOver};
 
@@ -19,7 +20,8 @@ pub(crate) fn visit_all(
 ) -> Option<(usize, Came)>
     requires ready { AllReady (rows desks.old) }
     requires within { from ≤ length (rows desks.old) }
-    ensures { RoundOver lasts.now 0 (length (rows desks.old)) book.old (rows desks.old) book.new (rows desks.new) result }
+    ensures round { RoundOver lasts.now 0 (length (rows desks.old)) book.old (rows desks.old) book.new (rows desks.new) result }
+    ensures desks { SameDesks desks.old desks.new }
 {
     let count = desks.len();
     if let Some(came) = visit_range(alloc, book, desks, lasts, from, count) {
@@ -40,7 +42,8 @@ fn visit_range(
     requires ready { AllReady (rows desks.old) }
     requires within { upto ≤ length (rows desks.old) }
     requires ordered { from ≤ upto }
-    ensures { RoundOver lasts.now from upto book.old (rows desks.old) book.new (rows desks.new) result }
+    ensures round { RoundOver lasts.now from upto book.old (rows desks.old) book.new (rows desks.new) result }
+    ensures desks { SameDesks desks.old desks.new }
 {
     for place in from..upto {
         if let Some(came) = desks.visit(alloc, book, lasts, place) {

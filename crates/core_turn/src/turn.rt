@@ -1,6 +1,7 @@
 // A turn.
 ghost use Rattle.std.specs.Prelude.{◌≡◌, ◌<◌, length, true, false};
 ghost use Rattle.core_desks.specs.Desks.{rows, lasts};
+ghost use Rattle.core_desks.specs.Same.{SameDesks};
 ghost use Rattle.core_desks.specs.Visits.{AllReady};
 ghost use Rattle.core_turn.specs.Turns.{Dispatches, IsTurn, IsLastTurn};
 
@@ -31,6 +32,7 @@ pub fn take_turn(alloc: Global, book: &mut Book, desks: &mut Desks, next: &mut u
     ensures last { result.ended ≡ true → IsLastTurn book.old (rows desks.old) book.new (rows desks.new) result.answered result.dispatched }
     ensures ready { result.ended ≡ false → AllReady (rows desks.new) }
     ensures within { next.new < length (rows desks.new) }
+    ensures desks { SameDesks desks.old desks.new }
 {
     let lasts = desks.lasts();
     match visit_all(alloc, book, desks, lasts.as_slice(), *next) {

@@ -3,6 +3,7 @@ use Rattle.std.specs.Prelude.{ℕ, Bool, List, Option}
 use Rattle.host_book.specs.Journal.{Pages}
 use Rattle.seats.specs.Rows.{Row}
 use Rattle.core_desks.specs.Desks.{rows, lasts}
+use Rattle.core_desks.specs.Same.{SameDesks}
 use Rattle.host_rings.specs.declared.turns.Core.{Core}
 
 -- its journal
@@ -19,3 +20,7 @@ last_works core = lasts core.desks
 
 abbrev pub has_ended : Core → Bool
 has_ended core = core.ended
+
+-- it speaks to the same seats
+abbrev pub SameSeats : Core → Core → Type 0
+SameSeats a b = SameDesks a.desks b.desks

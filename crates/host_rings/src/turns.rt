@@ -35,7 +35,7 @@ impl Core {
     ghost use Rattle.plain_machine.specs.Keeper.{replay};
     ghost use Rattle.host_book.specs.Journal.{calls_of, shown_entry};
     ghost use Rattle.core_turn.specs.Turns.{IsTurn, IsLastTurn};
-    ghost use Rattle.host_rings.specs.Cores.{pages, seats_of, last_works, has_ended};
+    ghost use Rattle.host_rings.specs.Cores.{pages, seats_of, last_works, has_ended, SameSeats};
 
     /// Visits the seats, from the one after that which was answered last, up to the first that is answered; then it tries one Dispatch.
     /// If the operator asks for the end, every seat hears it, and from then on nothing changes.
@@ -49,6 +49,7 @@ impl Core {
         ensures kept { ∥ AreKept (pages self.new) (seats_of self.new) ∥₁ }
         ensures ready { has_ended self.new ≡ false → AllReady (seats_of self.new) }
         ensures shut { has_ended self.new ≡ true → AreShut (seats_of self.new) }
+        ensures desks { SameSeats self.old self.new }
     {
         if self.ended {
             return TurnReport {

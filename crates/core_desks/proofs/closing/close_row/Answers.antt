@@ -2,7 +2,8 @@ use Rattle.std.proofs.Common.{arith, sym, refl, ◌<◌, ◌∙◌, map, ap, Som
 use Rattle.std.proofs.lemmas.List.{length-map}
 use Rattle.seats.specs.Seats.{row_of}
 use Rattle.core_desks.proofs.Rows.{changes-set, get-at}
-use Rattle.core_desks.proofs.Ends.{close-more, close-whole, open-next}
+use Rattle.core_desks.proofs.Ends.{close-none, close-more, close-whole, open-next}
+use Rattle.core_desks.proofs.Same.{each-set, each-twice, each-none}
 use Rattle.core_desks.proofs.closing.close_row.Goals as goal
 
 pub loop-number-preserved : goal.loop-number-preserved
@@ -17,6 +18,8 @@ loop-number-preserved g c =
             c.close.ensures.row,
           )),
       c.loop-number.invariant.1,
+      each-twice c.args.desks.now.items c.loop-number.desks.items _ c.loop-number.invariant.2
+          (each-set c.loop-number.desks.items _ c.loop-number.number d c.close.new.self within c.index_mut.ensures.value refl c.close.ensures.desk),
     )
 
 pub returns-clause-closes : goal.returns-clause-closes
@@ -33,3 +36,6 @@ returns-clause-closes g c =
       c.args.desks.now.ok.0,
       length-map c.loop-number.desks.items row,
     ))
+
+pub loop-number-init : goal.loop-number-init
+loop-number-init g c = (close-none (map (row_of g.C.Staged.asked_by g.C.Staged.named) c.args.desks.now.items), refl, each-none c.args.desks.now.items)

@@ -2,16 +2,19 @@ use Rattle.std.proofs.Common.{sym, ap, ◌∙◌}
 use Rattle.std.specs.Prelude.{option_to_list}
 use Rattle.std.specs.Option.{option_copied}
 use Rattle.seats.specs.Seats.{row_of}
+use Rattle.core_desks.proofs.Same.{same-twice}
 use Rattle.core_desks.proofs.Served.{served}
 use Rattle.core_desks.proofs.visit.visit_seat.Goals as goal
 
-pub returns : goal.returns
-returns g c = record {
-  visited = served g.P.Protocol.allows c.args.lasts.now c.args.book.now c.judge_asked.new.book
-      (row_of g.C.Staged.asked_by g.C.Staged.named c.args.desk.now) (row_of g.C.Staged.asked_by g.C.Staged.named c.take.new.self)
-      (row_of g.C.Staged.asked_by g.C.Staged.named c.answer-2.new.self) c.name-name.result c.in-Some.asked.now c.in-Some-judge_asked.answer
-      c.requires.ready c.requires.rule c.take.ensures.took c.name-name.ensures
-      (sym c.waiting.ensures ∙ ap (λ o. option_to_list (option_copied o)) c.in-Some.is)
-      c.in-Some-judge_asked.ensures.judged c.in-Some-judge_asked.ensures.entered c.judge_asked.ensures.limits c.judge_asked.ensures.most
-      (sym c.keeps.ensures ∙ c.if-keeps.false) c.answer-2.ensures.row;
-}
+pub returns-clause-visited : goal.returns-clause-visited
+returns-clause-visited g c =
+    served g.P.Protocol.allows c.args.lasts.now c.args.book.now c.judge_asked.new.book
+    (row_of g.C.Staged.asked_by g.C.Staged.named c.args.desk.now) (row_of g.C.Staged.asked_by g.C.Staged.named c.take.new.self)
+    (row_of g.C.Staged.asked_by g.C.Staged.named c.answer-2.new.self) c.name-name.result c.in-Some.asked.now c.in-Some-judge_asked.answer
+    c.requires.ready c.requires.rule c.take.ensures.took c.name-name.ensures
+    (sym c.waiting.ensures ∙ ap (λ o. option_to_list (option_copied o)) c.in-Some.is)
+    c.in-Some-judge_asked.ensures.judged c.in-Some-judge_asked.ensures.entered c.judge_asked.ensures.limits c.judge_asked.ensures.most
+    (sym c.keeps.ensures ∙ c.if-keeps.false) c.answer-2.ensures.row
+
+pub returns-clause-desk : goal.returns-clause-desk
+returns-clause-desk g c = same-twice c.args.desk.now c.take.new.self c.answer-2.new.self c.take.ensures.desk c.answer-2.ensures.desk

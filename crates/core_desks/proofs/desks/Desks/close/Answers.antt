@@ -14,13 +14,11 @@ pub close-requires-clause-open : goal.close-requires-clause-open
 close-requires-clause-open c = let d = c.args.self.now in
     open-right (device_rows d) (operator_row d ∷ []) (open-right (caller_rows d) (device_rows d ++ operator_row d ∷ []) c.requires.open) 0 (operator_row d) refl
 
-pub returns : goal.returns
-returns c = let d = c.args.self.now in
-    record {
-      closes = close-both (caller_rows d) _ (device_rows d ++ operator_row d ∷ []) _ c.close_row.ensures.closes
-          (close-both (device_rows d) _ (operator_row d ∷ []) _ c.close_row-2.ensures.closes
-          (close-one (operator_row d) _ (
-            open-right (device_rows d) (operator_row d ∷ []) (open-right (caller_rows d) (device_rows d ++ operator_row d ∷ []) c.requires.open) 0 (operator_row d) refl,
-            c.close.ensures.row,
-          )));
-    }
+pub returns-clause-closes : goal.returns-clause-closes
+returns-clause-closes c = let d = c.args.self.now in
+    close-both (caller_rows d) _ (device_rows d ++ operator_row d ∷ []) _ c.close_row.ensures.closes
+    (close-both (device_rows d) _ (operator_row d ∷ []) _ c.close_row-2.ensures.closes
+    (close-one (operator_row d) _ (
+      open-right (device_rows d) (operator_row d ∷ []) (open-right (caller_rows d) (device_rows d ++ operator_row d ∷ []) c.requires.open) 0 (operator_row d) refl,
+      c.close.ensures.row,
+    )))

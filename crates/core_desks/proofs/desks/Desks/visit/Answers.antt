@@ -6,6 +6,7 @@ use Rattle.seats.specs.Seats.{row_of}
 use Rattle.core_desks.specs.Desks.{caller_rows, device_rows, operator_row}
 use Rattle.core_desks.proofs.Rows.{changes-left, changes-right, changes-one, ready-left, ready-right}
 use Rattle.core_desks.proofs.Rules.{client-told, operator-told}
+use Rattle.core_desks.proofs.Same.{same-none, each-none}
 use Rattle.core_desks.proofs.desks.Desks.visit.Goals as goal
 
 pub visit_row-requires-clause-ready : goal.visit_row-requires-clause-ready
@@ -26,36 +27,41 @@ visit_seat-requires-clause-ready c = let d = c.args.self.now in
 pub visit_seat-requires-clause-rule : goal.visit_seat-requires-clause-rule
 visit_seat-requires-clause-rule c = operator-told c.operator_is_answered.ensures
 
-pub returns-then-place-callers : goal.returns-then-place-callers
-returns-then-place-callers c = let d = c.args.self.now in
-    record { visited = changes-left _ (caller_rows d) _ (device_rows d ++ operator_row d ∷ []) c.args.place c.visit_row.ensures.visited }
+pub returns-then-place-callers-clause-visited : goal.returns-then-place-callers-clause-visited
+returns-then-place-callers-clause-visited c = let d = c.args.self.now in
+    changes-left _ (caller_rows d) _ (device_rows d ++ operator_row d ∷ []) c.args.place c.visit_row.ensures.visited
 
-pub returns-then-number-len : goal.returns-then-number-len
-returns-then-number-len c = let d = c.args.self.now in let number = c.args.place - c.len-callers.result in
-    record {
-      visited = changes-right _ (caller_rows d) (device_rows d ++ operator_row d ∷ []) _ number c.args.place
-          (omega (arith, c.if-place-callers.false, c.len-callers.ensures, d.callers.ok.0, length-map d.callers.items (row_of client_asked Client)))
-          (changes-left _ (device_rows d) _ (operator_row d ∷ []) number c.visit_row-then-number-len.ensures.visited);
-    }
+pub returns-then-number-len-clause-visited : goal.returns-then-number-len-clause-visited
+returns-then-number-len-clause-visited c = let d = c.args.self.now in let number = c.args.place - c.len-callers.result in
+    changes-right _ (caller_rows d) (device_rows d ++ operator_row d ∷ []) _ number c.args.place
+    (omega (arith, c.if-place-callers.false, c.len-callers.ensures, d.callers.ok.0, length-map d.callers.items (row_of client_asked Client)))
+    (changes-left _ (device_rows d) _ (operator_row d ∷ []) number c.visit_row-then-number-len.ensures.visited)
 
-pub returns : goal.returns
-returns c = let d = c.args.self.now in let n = length (device_rows d) in
-    record {
-      visited = changes-right _ (caller_rows d) (device_rows d ++ operator_row d ∷ []) _ n c.args.place
-          (omega (
-            arith,
-            c.requires.within,
-            c.if-place-callers.false,
-            c.if-number-len.false,
-            c.len-callers.ensures,
-            c.len.ensures,
-            d.callers.ok.0,
-            d.devices.ok.0,
-            length-append (caller_rows d) (device_rows d ++ operator_row d ∷ []),
-            length-append (device_rows d) (operator_row d ∷ []),
-            length-map d.callers.items (row_of client_asked Client),
-            length-map d.devices.items (row_of device_asked Device),
-          ))
-          (changes-right _ (device_rows d) (operator_row d ∷ []) _ 0 n (omega arith)
-          (changes-one _ (operator_row d) _ c.visit_seat.ensures.visited));
-    }
+pub returns-clause-visited : goal.returns-clause-visited
+returns-clause-visited c = let d = c.args.self.now in let n = length (device_rows d) in
+    changes-right _ (caller_rows d) (device_rows d ++ operator_row d ∷ []) _ n c.args.place
+    (omega (
+      arith,
+      c.requires.within,
+      c.if-place-callers.false,
+      c.if-number-len.false,
+      c.len-callers.ensures,
+      c.len.ensures,
+      d.callers.ok.0,
+      d.devices.ok.0,
+      length-append (caller_rows d) (device_rows d ++ operator_row d ∷ []),
+      length-append (device_rows d) (operator_row d ∷ []),
+      length-map d.callers.items (row_of client_asked Client),
+      length-map d.devices.items (row_of device_asked Device),
+    ))
+    (changes-right _ (device_rows d) (operator_row d ∷ []) _ 0 n (omega arith)
+    (changes-one _ (operator_row d) _ c.visit_seat.ensures.visited))
+
+pub returns-then-place-callers-clause-desks : goal.returns-then-place-callers-clause-desks
+returns-then-place-callers-clause-desks c = let d = c.args.self.now in (c.visit_row.ensures.desks, each-none d.devices.items, same-none d.operator)
+
+pub returns-then-number-len-clause-desks : goal.returns-then-number-len-clause-desks
+returns-then-number-len-clause-desks c = let d = c.args.self.now in (each-none d.callers.items, c.visit_row-then-number-len.ensures.desks, same-none d.operator)
+
+pub returns-clause-desks : goal.returns-clause-desks
+returns-clause-desks c = let d = c.args.self.now in (each-none d.callers.items, each-none d.devices.items, c.visit_seat.ensures.desk)

@@ -1,5 +1,6 @@
 use Rattle.std.proofs.Math.Logic.{∥∥₁_map}
 use Rattle.core_desks.specs.Desks.{rows, lasts}
+use Rattle.core_desks.proofs.Same.{desks-none}
 use Rattle.host_rings.proofs.Accounts.{kept-any, named-any, shut-last}
 use Rattle.host_rings.proofs.turns.Core.turn.Goals as goal
 
@@ -19,3 +20,6 @@ invariant_of-self c =
       shut = λ e. shut-last was.book now.book (rows was.desks) (rows now.desks) report.answered report.dispatched (turn.last e);
       within = turn.within;
     }
+
+pub returns-then-self-clause-desks : goal.returns-then-self-clause-desks
+returns-then-self-clause-desks c = desks-none c.args.self.now.desks
