@@ -1,10 +1,10 @@
 -- The end of all seats, one after the other.
-use Rattle.std.proofs.Common.{false, ◌≡◌, ℕ, zero, suc, ◌+◌, ◌≤◌, List, [], ◌∷◌, ◌++◌, length, refl, sym, ap, ◌∙◌, subst, arith, Some, ◌⊎◌, inl, inr}
+use Rattle.std.proofs.Common.{false, ◌≡◌, ℕ, zero, suc, ◌+◌, ◌<◌, ◌≤◌, List, [], ◌∷◌, ◌++◌, length, refl, sym, ap, ◌∙◌, subst, arith, Some, ◌⊎◌, inl, inr}
 use Rattle.std.specs.List.{slice_get}
 use Rattle.std.proofs.lemmas.List.{length-append}
 use Rattle.std.proofs.lemmas.Option.{slice_get_within, same_Some}
 use Rattle.seats.specs.Rows.{Row}
-use Rattle.core_desks.specs.Closing.{AllOpen, Closes, AllClose, CloseUpto}
+use Rattle.core_desks.specs.Closing.{AllOpen, Closes, AllClose}
 use Rattle.core_desks.specs.Visits.{Changes}
 use Rattle.core_desks.proofs.Rows.{get-left, get-right, within-or-behind}
 
@@ -13,6 +13,12 @@ same-place zero zero = inl refl
 same-place zero (suc j) = inr (λ e. omega (arith, e))
 same-place (suc i) zero = inr (λ e. omega (arith, e))
 same-place (suc i) (suc j) = elim (same-place i j) [ inl e ↦ inl (ap suc e) | inr n ↦ inr (λ e. n (omega (arith, e))) ]
+
+-- the seats before a place have heard the end, and the others are as they were
+pub record CloseUpto (n : ℕ) (xs ys : List Row) : Type 0 where
+  pub long : length ys ≡ length xs
+  pub closes : (i : ℕ) (s : Row) → i < n → slice_get ys i ≡ Some s → (r : Row) × (slice_get xs i ≡ Some r) × Closes r s
+  pub others : (i : ℕ) → n ≤ i → slice_get ys i ≡ slice_get xs i
 
 pub close-none : (xs : List Row) → CloseUpto 0 xs xs
 close-none xs = record { long = refl; closes = λ i s lt at. absurd (omega (arith, lt)); others = λ i le. refl }

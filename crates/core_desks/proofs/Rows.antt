@@ -1,32 +1,38 @@
 -- One place of a row of desks, and of all rows.
 use Rattle.std.proofs.Common.{◌≡◌, ℕ, zero, suc, ◌+◌, ◌<◌, List, [], ◌∷◌, ◌++◌, length, map, set, get_or, refl, sym, ap, ◌∙◌, arith, Some, ◌⊎◌, inl, inr}
 use Rattle.std.specs.List.{slice_get}
-use Rattle.std.proofs.lemmas.List.{length-map, length-append}
-use Rattle.std.proofs.lemmas.Option.{slice_get_within}
+use Rattle.std.specs.Option.{option_map}
+use Rattle.std.proofs.lemmas.List.{length-map, length-append, length-set}
+use Rattle.std.proofs.lemmas.Option.{slice_get_within, slice_get-map}
 use Rattle.seats.specs.Rows.{Row}
 use Rattle.core_desks.specs.Visits.{IsReady, AllReady, Changes}
 
-length-set-same : {X : Type 0} (xs : List X) (i : ℕ) (x : X) → length (set xs i x) ≡ length xs
-length-set-same [] i x = refl
-length-set-same (y ∷ xs) zero x = refl
-length-set-same (y ∷ xs) (suc i) x = omega (arith, length-set-same xs i x)
+pub set-at : {X : Type 0} (xs : List X) (i : ℕ) (x : X) → i < length xs → slice_get (set xs i x) i ≡ Some x
+set-at [] i x h = absurd (omega (arith, h))
+set-at (y ∷ xs) zero x h = refl
+set-at (y ∷ xs) (suc i) x h = set-at xs i x (omega (arith, h))
 
+pub set-other : {X : Type 0} (xs : List X) (i j : ℕ) (x : X) → (j ≡ i → ⊥) → slice_get (set xs i x) j ≡ slice_get xs j
+set-other [] i j x n = refl
+set-other (y ∷ xs) zero zero x n = absurd (n refl)
+set-other (y ∷ xs) zero (suc j) x n = refl
+set-other (y ∷ xs) (suc i) zero x n = refl
+set-other (y ∷ xs) (suc i) (suc j) x n = set-other xs i j x (λ e. n (ap suc e))
+
+pub or-at : {X : Type 0} (xs : List X) (i : ℕ) (d : X) → i < length xs → slice_get xs i ≡ Some (get_or xs i d)
+or-at [] i d h = absurd (omega (arith, h))
+or-at (y ∷ xs) zero d h = refl
+or-at (y ∷ xs) (suc i) d h = or-at xs i d (omega (arith, h))
+
+-- and of its rows
 get-set-at : {X Y : Type 0} (f : X → Y) (xs : List X) (i : ℕ) (x : X) → i < length xs → slice_get (map f (set xs i x)) i ≡ Some (f x)
-get-set-at f [] i x h = absurd (omega (arith, h))
-get-set-at f (y ∷ xs) zero x h = refl
-get-set-at f (y ∷ xs) (suc i) x h = get-set-at f xs i x (omega (arith, h))
+get-set-at f xs i x h = slice_get-map f (set xs i x) i ∙ ap (option_map f) (set-at xs i x h)
 
 get-set-other : {X Y : Type 0} (f : X → Y) (xs : List X) (i j : ℕ) (x : X) → (j ≡ i → ⊥) → slice_get (map f (set xs i x)) j ≡ slice_get (map f xs) j
-get-set-other f [] i j x n = refl
-get-set-other f (y ∷ xs) zero zero x n = absurd (n refl)
-get-set-other f (y ∷ xs) zero (suc j) x n = refl
-get-set-other f (y ∷ xs) (suc i) zero x n = refl
-get-set-other f (y ∷ xs) (suc i) (suc j) x n = get-set-other f xs i j x (λ e. n (ap suc e))
+get-set-other f xs i j x n = slice_get-map f (set xs i x) j ∙ ap (option_map f) (set-other xs i j x n) ∙ sym (slice_get-map f xs j)
 
 pub get-at : {X Y : Type 0} (f : X → Y) (xs : List X) (i : ℕ) (d : X) → i < length xs → slice_get (map f xs) i ≡ Some (f (get_or xs i d))
-get-at f [] i d h = absurd (omega (arith, h))
-get-at f (y ∷ xs) zero d h = refl
-get-at f (y ∷ xs) (suc i) d h = get-at f xs i d (omega (arith, h))
+get-at f xs i d h = slice_get-map f xs i ∙ ap (option_map f) (or-at xs i d h)
 
 -- a desk of a row that was visited
 pub changes-set : {X : Type 0} (R : Row → Row → Type 0) (row : X → Row) (xs ys : List X) (place : ℕ) (d e : X) → place < length xs → d ≡ get_or xs place d
@@ -34,7 +40,7 @@ pub changes-set : {X : Type 0} (R : Row → Row → Type 0) (row : X → Row) (x
 changes-set R row xs ys place d e within stood set_is r = record {
   before = row d;
   after = row e;
-  long = length-map ys row ∙ ap length set_is ∙ length-set-same xs place e ∙ sym (length-map xs row);
+  long = length-map ys row ∙ ap length set_is ∙ length-set xs place e ∙ sym (length-map xs row);
   stood = get-at row xs place d within ∙ ap (λ x. Some (row x)) (sym stood);
   stands = ap (λ zs. slice_get (map row zs) place) set_is ∙ get-set-at row xs place e within;
   related = r;

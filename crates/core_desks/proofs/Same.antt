@@ -7,23 +7,7 @@ use Rattle.seats.specs.declared.desk.Desk.{Desk}
 use Rattle.core_desks.specs.Same.{SameEach, SameDesks}
 use Rattle.core_desks.specs.declared.desks.Desks.{Desks}
 use Rattle.core_desks.proofs.Ends.{same-place}
-
-set-at : {X : Type 0} (xs : List X) (i : ℕ) (x : X) → i < length xs → slice_get (set xs i x) i ≡ Some x
-set-at [] i x h = absurd (omega (arith, h))
-set-at (y ∷ xs) zero x h = refl
-set-at (y ∷ xs) (suc i) x h = set-at xs i x (omega (arith, h))
-
-set-other : {X : Type 0} (xs : List X) (i j : ℕ) (x : X) → (j ≡ i → ⊥) → slice_get (set xs i x) j ≡ slice_get xs j
-set-other [] i j x n = refl
-set-other (y ∷ xs) zero zero x n = absurd (n refl)
-set-other (y ∷ xs) zero (suc j) x n = refl
-set-other (y ∷ xs) (suc i) zero x n = refl
-set-other (y ∷ xs) (suc i) (suc j) x n = set-other xs i j x (λ e. n (ap suc e))
-
-or-at : {X : Type 0} (xs : List X) (i : ℕ) (d : X) → i < length xs → slice_get xs i ≡ Some (get_or xs i d)
-or-at [] i d h = absurd (omega (arith, h))
-or-at (y ∷ xs) zero d h = refl
-or-at (y ∷ xs) (suc i) d h = or-at xs i d (omega (arith, h))
+use Rattle.core_desks.proofs.Rows.{set-at, set-other, or-at}
 
 module _ {C P : Type 0} where
   pub same-none : (d : Desk C P) → SameDesk d d

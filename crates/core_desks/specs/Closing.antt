@@ -1,5 +1,5 @@
 -- The end of all seats.
-use Rattle.std.specs.Prelude.{◌≡◌, ℕ, ◌<◌, ◌≤◌, true, false, List, [], ◌∷◌, ◌++◌, length, Some, slice_get}
+use Rattle.std.specs.Prelude.{◌≡◌, ℕ, true, false, List, [], ◌∷◌, ◌++◌, length, Some, slice_get}
 use Rattle.host_calls.specs.declared.ring.RingReply.TheVariants.{Closed as Ended}
 use Rattle.seats.specs.Rows.{Row}
 
@@ -15,9 +15,3 @@ Closes r s = (r.closed ≡ false) × (s ≡ record r { closed = true; replied = 
 pub record AllClose (xs ys : List Row) : Type 0 where
   pub long : length ys ≡ length xs
   pub closes : (i : ℕ) (s : Row) → slice_get ys i ≡ Some s → (r : Row) × (slice_get xs i ≡ Some r) × Closes r s
-
--- and so the seats before a place
-pub record CloseUpto (n : ℕ) (xs ys : List Row) : Type 0 where
-  pub long : length ys ≡ length xs
-  pub closes : (i : ℕ) (s : Row) → i < n → slice_get ys i ≡ Some s → (r : Row) × (slice_get xs i ≡ Some r) × Closes r s
-  pub others : (i : ℕ) → n ≤ i → slice_get ys i ≡ slice_get xs i

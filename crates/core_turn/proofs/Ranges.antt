@@ -10,7 +10,8 @@ use Rattle.core_desks.specs.Visits.{SamePages, MustWait, AllReady, Changes}
 use Rattle.core_desks.specs.Visited.{VisitsSeat}
 use Rattle.core_desks.specs.declared.visit.Came.{Came}
 use Rattle.core_turn.specs.Rounds.{Passes, Comes, RoundOver}
-use Rattle.core_turn.proofs.Took.{same-place, all-none, all-one, all-twice, changes-so, ready-changes}
+use Rattle.core_desks.proofs.Ends.{same-place}
+use Rattle.core_turn.proofs.Took.{all-none, all-one, all-twice, changes-so, ready-changes}
 
 lt-or-le : (i n : ℕ) → (i < n) ⊎ (n ≤ i)
 lt-or-le i zero = inr (omega arith)

@@ -4,13 +4,8 @@ use Rattle.std.specs.List.{slice_get}
 use Rattle.std.proofs.lemmas.Option.{same_Some}
 use Rattle.seats.specs.Rows.{Row, Took}
 use Rattle.core_desks.specs.Visits.{AllReady, Changes, IsReady}
+use Rattle.core_desks.proofs.Ends.{same-place}
 use Rattle.core_turn.specs.Rounds.{AllTook}
-
-pub same-place : (i j : ℕ) → (i ≡ j) ⊎ (i ≡ j → ⊥)
-same-place zero zero = inl refl
-same-place zero (suc j) = inr (λ e. omega (arith, e))
-same-place (suc i) zero = inr (λ e. omega (arith, e))
-same-place (suc i) (suc j) = elim (same-place i j) [ inl e ↦ inl (ap suc e) | inr n ↦ inr (λ e. n (omega (arith, e))) ]
 
 -- a seat at which nothing was taken, and one that was visited twice
 pub took-none : (r : Row) → Took r r

@@ -14,7 +14,8 @@ use Rattle.core_desks.specs.Visits.{SamePages, Serves, Changes}
 use Rattle.core_desks.specs.Closing.{AllClose}
 use Rattle.core_turn.specs.Rounds.{AllTook}
 use Rattle.core_turn.specs.Turns.{Answers, RoundBy, Dispatches, Ends, IsTurn, IsLastTurn}
-use Rattle.core_turn.proofs.Took.{same-place, took-none, all-none, all-one, all-twice, changes-so}
+use Rattle.core_desks.proofs.Ends.{same-place}
+use Rattle.core_turn.proofs.Took.{took-none, all-none, all-one, all-twice, changes-so}
 use Rattle.host_rings.specs.Names.{AreNamed}
 use Rattle.host_rings.specs.Keeping.{is_entry, is_own, IsKept, AreKept, AreShut}
 use Rattle.host_rings.proofs.Kept.{added, entered-added, added-others, kept-took, kept-serves, kept-closes}

@@ -1,7 +1,7 @@
 use Rattle.std.proofs.Common.{◌≡◌, map, vec_len}
 use Rattle.seats.specs.Seats.{row_of}
-use Rattle.core_desks.specs.Closing.{CloseUpto}
 use Rattle.core_desks.specs.Same.{SameEach}
+use Rattle.core_desks.proofs.Ends.{CloseUpto}
 use Rattle.core_desks.proofs.closing.close_row.Given as goal
 
 abbrev pub invariant-loop-number : goal.invariant-loop-number
