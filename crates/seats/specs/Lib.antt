@@ -4,3 +4,4 @@ pub mod Kinds
 pub mod Rules
 pub mod Rows
 pub mod Seats
+pub mod Settling

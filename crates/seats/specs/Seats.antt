@@ -37,12 +37,12 @@ module _ {C P : Type 0} where
   abbrev pub HasNothing : Seat C P → Type 0
   HasNothing s = known_items s.replies ≡ []
 
-  -- the same two rings, and the same number
+  -- the same two rings, and the same number; and so for a desk
   abbrev pub SameSeat : Seat C P → Seat C P → Type 0
   SameSeat a b = SameProducer a.calls b.calls × SameConsumer a.replies b.replies × (b.number ≡ a.number)
 
   abbrev pub SameDesk : Desk C P → Desk C P → Type 0
-  SameDesk a b = SameConsumer a.calls b.calls × SameProducer a.replies b.replies
+  SameDesk a b = SameConsumer a.calls b.calls × SameProducer a.replies b.replies × (b.number ≡ a.number)
 
   -- the calls that a desk has taken, the one that waits, if one does, and the replies that it has given
   abbrev pub taken : Desk C P → List C
@@ -78,10 +78,6 @@ module _ {C P : Type 0} where
     pub numbered : d.number ≡ number
     pub seat_numbered : s.number ≡ number
 
-  -- the calls that were staged and are not taken yet, as far as a desk knows
-  abbrev pub known_calls : Desk C P → List C
-  known_calls d = known_items d.calls
-
-  -- a seat and a desk of the same two rings
+  -- a seat and a desk of the same two rings, under one number
   abbrev pub AreBeside : Seat C P → Desk C P → Type 0
-  AreBeside s d = IsPair s.calls d.calls × IsPair d.replies s.replies
+  AreBeside s d = IsPair s.calls d.calls × IsPair d.replies s.replies × (d.number ≡ s.number)

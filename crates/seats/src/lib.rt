@@ -44,4 +44,4 @@ pub use desk::Desk;
 pub use opening::open_seat;
 pub use rules::{ClientReplies, OperatorReplies};
 pub use seat::Seat;
-pub use settling::{SeatEnd, Settled};
+pub use settling::{FinishedSeat, Settled};

@@ -1,7 +1,9 @@
 // A seat that has ended its work, and what is left of it at its desk.
-ghost use Rattle.std.specs.Prelude.{◌≡◌, ◌++◌, List, length};
-ghost use Rattle.host_calls.specs.declared.ring.RingReply.{RingReply as Replies};
+ghost use Rattle.std.specs.Prelude.{◌≡◌, map};
+ghost use Rattle.seats.specs.Seats.{seat_number, staged, collected, row_of, SameDesk, AreBeside};
+ghost use Rattle.seats.specs.Settling.{seat_of, AreSettled};
 
+use crate::asked::Staged;
 use crate::desk::Desk;
 use crate::seat::Seat;
 use host_calls::RingReply;
@@ -9,7 +11,7 @@ use rtrb::Protocol;
 
 /// A seat that has ended its work: it stages and collects nothing any more.
 #[derive(Drop)]
-pub struct SeatEnd<C, P: Protocol<RingReply>> {
+pub struct FinishedSeat<C, P: Protocol<RingReply>> {
     pub(crate) seat: Seat<C, P>,
 }
 
@@ -24,27 +26,33 @@ pub struct Settled {
 
 impl<C: Drop, P: Protocol<RingReply>> Seat<C, P> {
     /// Ends its work.
-    pub fn finish(self) -> SeatEnd<C, P>
-        ensures { result.seat ≡ self }
+    pub fn finish(self) -> FinishedSeat<C, P>
+        ensures { seat_of result ≡ self }
     {
-        SeatEnd { seat: self }
+        FinishedSeat { seat: self }
     }
 }
 
-impl<C: Drop, P: Protocol<RingReply>> Desk<C, P> {
-    ghost use Rattle.seats.specs.Seats.{staged, collected, taken, waits, replied, known_calls, AreBeside, SameDesk};
+impl<C: Drop, P: Protocol<RingReply>> FinishedSeat<C, P> {
+    /// The number of the seat, among those of its kind.
+    pub fn number(&self) -> u8
+        ensures { result ≡ seat_number (seat_of self.now) }
+    {
+        self.seat.number
+    }
+}
 
+impl<C: Staged, P: Protocol<RingReply>> Desk<C, P> {
     /// Settles a desk with its seat, both on one thread. The calls that were staged are those that were taken and those that are left; the
     /// replies that were given are those that were collected and the rest.
-    pub fn settle(&mut self, end: SeatEnd<C, P>) -> Settled
-        requires { AreBeside end.seat self.old }
-        ensures staged { staged end.seat ≡ taken self.new ++ known_calls self.new }
-        ensures left { result.left ≡ length (known_calls self.new) }
-        ensures replied { (rest : List Replies) × (replied self.new ≡ collected end.seat ++ rest) × (result.uncollected ≡ length rest) }
-        ensures same { (taken self.new ≡ taken self.old) × (waits self.new ≡ waits self.old) × (replied self.new ≡ replied self.old) }
+    pub fn settle(&mut self, end: FinishedSeat<C, P>) -> Settled
+        requires { AreBeside (seat_of end) self.old }
+        ensures settled { AreSettled (map (C.asked_by (seat_number (seat_of end))) (staged (seat_of end))) (collected (seat_of end))
+            (row_of C.asked_by C.named self.old) result.left result.uncollected }
+        ensures row { row_of C.asked_by C.named self.new ≡ row_of C.asked_by C.named self.old }
         ensures desk { SameDesk self.old self.new }
     {
-        let SeatEnd { mut seat } = end;
+        let FinishedSeat { mut seat } = end;
         let left = self.calls.slots_beside(&mut seat.calls);
         let uncollected = seat.replies.slots_beside(&mut self.replies);
         Settled { left, uncollected }
