@@ -5,3 +5,4 @@ pub mod Ends
 pub mod Served
 pub mod Fresh
 pub mod Same
+pub mod Settled

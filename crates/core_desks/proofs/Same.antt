@@ -1,5 +1,5 @@
 -- Desks over the same rings.
-use Rattle.std.proofs.Common.{◌≡◌, ◌≢◌, ℕ, zero, suc, ◌+◌, ◌<◌, List, [], ◌∷◌, length, set, get_or, refl, sym, ap, ◌∙◌, subst, arith, Some, ◌⊎◌, inl, inr}
+use Rattle.std.proofs.Common.{◌≡◌, ℕ, ◌<◌, List, length, set, get_or, refl, sym, ap, ◌∙◌, subst, Some, inl, inr}
 use Rattle.std.specs.List.{slice_get}
 use Rattle.std.proofs.lemmas.Option.{same_Some}
 use Rattle.seats.specs.Seats.{SameDesk}
@@ -11,12 +11,13 @@ use Rattle.core_desks.proofs.Rows.{set-at, set-other, or-at}
 
 module _ {C P : Type 0} where
   pub same-none : (d : Desk C P) → SameDesk d d
-  same-none d = (((refl, refl, refl, refl), refl), ((refl, refl, refl, refl), refl))
+  same-none d = (((refl, refl, refl, refl), refl), ((refl, refl, refl, refl), refl), refl)
 
   pub same-twice : (d e f : Desk C P) → SameDesk d e → SameDesk e f → SameDesk d f
   same-twice d e f a b = (
     ((b.0.0.0 ∙ a.0.0.0, b.0.0.1 ∙ a.0.0.1, b.0.0.2 ∙ a.0.0.2, b.0.0.3 ∙ a.0.0.3), b.0.1 ∙ a.0.1),
     ((b.1.0.0 ∙ a.1.0.0, b.1.0.1 ∙ a.1.0.1, b.1.0.2 ∙ a.1.0.2, b.1.0.3 ∙ a.1.0.3), b.1.1 ∙ a.1.1),
+    b.2 ∙ a.2,
   )
 
   pub each-none : (xs : List (Desk C P)) → SameEach xs xs

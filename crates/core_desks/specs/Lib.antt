@@ -6,3 +6,4 @@ pub mod Closing
 pub mod Opening
 pub mod Opened
 pub mod Same
+pub mod Settling

@@ -6,6 +6,7 @@
 //! | [`Desks::open`] | the desks and the seats of the same rings, to which nothing has come |
 //! | [`Desks::visit`] | the seat at a place was answered, or asks for the end, or has nothing to be answered now; no other seat changes |
 //! | [`Desks::close`] | each seat has heard the end, and nothing else |
+//! | [`Desks::settle`] | how many calls of a seat were not taken, and how many replies not collected; nothing else changes |
 //! | [`Desks::lasts`] | the issue that each device took last, by its number |
 //! | [`Desks::len`] | how many seats there are |
 //! | [`judge_asked`] | the answer is one that the journal's keeper may give, or by the rule of Take; an accepted call of the keeper is the next entry |
@@ -28,9 +29,11 @@ mod judging;
 mod opening;
 mod places;
 mod row;
+mod settling;
 mod visit;
 
 pub use desks::Desks;
 pub use judging::{judge_asked, take_answer};
 pub use opening::Seats;
+pub use settling::SeatEnd;
 pub use visit::Came;
