@@ -1,5 +1,5 @@
 -- What came of a round, as a turn tells it.
-use Rattle.std.proofs.Common.{◌≡◌, ℕ, ◌<◌, List, length, ◌∙◌, subst, Option, Some}
+use Rattle.std.proofs.Common.{◌≡◌, ℕ, ◌<◌, List, length, ◌∙◌, sym, subst, Bool, Option, None, Some}
 use Rattle.std.proofs.lemmas.Option.{slice_get_within}
 use Rattle.host_calls.specs.declared.seat.SeatName.{SeatName}
 use Rattle.host_book.specs.Journal.{Pages}
@@ -9,7 +9,8 @@ use Rattle.core_desks.specs.Visits.{AllReady}
 use Rattle.core_desks.specs.declared.visit.Came.{Came}
 use Rattle.core_desks.specs.declared.visit.Came.TheVariants.{Answered, Stopped}
 use Rattle.core_turn.specs.Rounds.{Comes}
-use Rattle.core_turn.specs.Turns.{RoundBy, Ends}
+use Rattle.core_turn.specs.Rounds.{RoundOver}
+use Rattle.core_turn.specs.Turns.{is_starved, RoundBy, Dispatches, IsTurn, Ends}
 use Rattle.core_turn.proofs.Took.{all-one, all-twice, changes-so, ready-changes}
 
 -- somebody was answered
@@ -51,3 +52,15 @@ open-ends place p q xs ys e h = λ i s at.
 -- what came has a place among the seats
 pub place-within : (lasts : List (Option ℕ)) (place : ℕ) (came : Came) (p q : Pages) (xs ys : List Row) → Comes lasts place came p xs q ys → place < length ys
 place-within lasts place came p q xs ys c = slice_get_within ys place c.visits.after c.visits.stands
+
+-- nobody was answered
+pub round-none : (ls lasts : List (Option ℕ)) (came : Option (ℕ × Came)) (p q : Pages) (xs ys : List Row) → ls ≡ lasts → came ≡ None
+    → RoundOver ls 0 (length xs) p xs q ys came → RoundBy lasts p xs q ys None
+round-none ls lasts came p q xs ys l e r = subst (λ k. RoundOver k 0 (length xs) p xs q ys None) l (subst (λ v. RoundOver ls 0 (length xs) p xs q ys v) e r)
+
+-- a turn is a round and a Dispatch
+pub turn-of : (lasts : List (Option ℕ)) (answered told : Option SeatName) (p between q : Pages) (xs ys : List Row) (dispatched starved : Bool) → told ≡ answered
+    → RoundBy lasts p xs between ys answered → (d : Dispatches between q dispatched) × (starved ≡ is_starved d.answer)
+    → (t : IsTurn lasts p xs q ys told dispatched) × (starved ≡ is_starved t.dispatch.answer)
+turn-of lasts answered told p between q xs ys dispatched starved e round d =
+    (record { between = between; round = subst (RoundBy lasts p xs between ys) (sym e) round; dispatch = d.0 }, d.1)

@@ -1,5 +1,5 @@
 -- Calls that were taken, one seat after the other.
-use Rattle.std.proofs.Common.{◌≡◌, ℕ, zero, suc, List, refl, sym, ap, ◌∙◌, subst, arith, ◌⊎◌, inl, inr}
+use Rattle.std.proofs.Common.{ℕ, List, refl, sym, ap, ◌∙◌, subst, inl, inr}
 use Rattle.std.specs.List.{slice_get}
 use Rattle.std.proofs.lemmas.Option.{same_Some}
 use Rattle.seats.specs.Rows.{Row, Took}

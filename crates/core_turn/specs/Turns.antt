@@ -2,6 +2,7 @@
 use Rattle.std.specs.Prelude.{◌≡◌, ℕ, Bool, true, false, List, length, Option, None, Some}
 use Rattle.plain_machine.specs.declared.answer.Answer.{Answer}
 use Rattle.plain_machine.specs.declared.answer.Answer.TheVariants.{Accepted, Refused, NotYet}
+use Rattle.plain_machine.specs.declared.answer.Code.TheVariants.{OutOfMemory}
 use Rattle.plain_machine.specs.declared.call.Call.TheVariants.{Do}
 use Rattle.plain_machine.specs.declared.step.Step.TheVariants.{Dispatch}
 use Rattle.host_calls.specs.declared.seat.SeatName.{SeatName}
@@ -16,6 +17,13 @@ abbrev pub is_accepted : Answer → Bool
 is_accepted (Accepted reply) = true
 is_accepted (Refused code) = false
 is_accepted (NotYet cause) = false
+
+-- whether it was refused for want of memory
+abbrev pub is_starved : Answer → Bool
+is_starved (Accepted reply) = false
+is_starved (Refused OutOfMemory) = true
+is_starved (Refused other) = false
+is_starved (NotYet cause) = false
 
 -- the seat at a place was answered, and at the others a call may have been taken
 pub record Answers (lasts : List (Option ℕ)) (place : ℕ) (p : Pages) (xs : List Row) (q : Pages) (ys : List Row) : Type 0 where

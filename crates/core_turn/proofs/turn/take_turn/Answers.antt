@@ -1,17 +1,23 @@
 use Rattle.std.proofs.Common.{◌∙◌}
 use Rattle.core_desks.specs.Desks.{rows, lasts}
 use Rattle.core_desks.proofs.Same.{desks-twice}
-use Rattle.core_turn.proofs.Ends.{turn-answers, ready-answers}
+use Rattle.core_turn.proofs.Ends.{turn-answers, ready-answers, round-none, turn-of}
 use Rattle.core_turn.proofs.turn.take_turn.Goals as goal
 
+pub returns-in-None-clause-turn : goal.returns-in-None-clause-turn
+returns-in-None-clause-turn c = λ _. turn-of (lasts c.args.desks.now) _ _ c.args.book.now c.visit_all.new.book c.dispatch.new.book (rows c.args.desks.now)
+    (rows c.visit_all.new.desks) _ _ c.dispatch.ensures.answered
+    (round-none c.as_slice.result.now (lasts c.args.desks.now) c.visit_all.result c.args.book.now c.visit_all.new.book (rows c.args.desks.now) (rows c.visit_all.new.desks)
+    (c.as_slice.ensures.value ∙ c.lasts-lasts.ensures) c.in-None.is c.visit_all.ensures.round)
+    c.dispatch.ensures.dispatch
+
 pub returns-in-Some-default-Answered-clause-turn : goal.returns-in-Some-default-Answered-clause-turn
-returns-in-Some-default-Answered-clause-turn c = λ _. record {
-  between = c.visit_all.new.book;
-  round = turn-answers c.as_slice.result.now (lasts c.args.desks.now) c.in-Some-default-Answered.place c.in-Some-default-Answered.field-0-1 c.in-Some-default-Answered.name
-      c.args.book.now c.visit_all.new.book (rows c.args.desks.now) (rows c.visit_all.new.desks) (c.as_slice.ensures.value ∙ c.lasts-lasts.ensures)
-      c.in-Some-default-Answered.field-0-1-is c.in-Some-default-Answered.ensures.round;
-  dispatch = c.dispatch-in-Some-default-Answered.ensures;
-}
+returns-in-Some-default-Answered-clause-turn c = λ _. turn-of (lasts c.args.desks.now) _ _ c.args.book.now c.visit_all.new.book
+    c.dispatch-in-Some-default-Answered.new.book (rows c.args.desks.now) (rows c.visit_all.new.desks) _ _ c.dispatch-in-Some-default-Answered.ensures.answered
+    (turn-answers c.as_slice.result.now (lasts c.args.desks.now) c.in-Some-default-Answered.place c.in-Some-default-Answered.field-0-1 c.in-Some-default-Answered.name
+    c.args.book.now c.visit_all.new.book (rows c.args.desks.now) (rows c.visit_all.new.desks) (c.as_slice.ensures.value ∙ c.lasts-lasts.ensures)
+    c.in-Some-default-Answered.field-0-1-is c.in-Some-default-Answered.ensures.round)
+    c.dispatch-in-Some-default-Answered.ensures.dispatch
 
 pub returns-in-Some-default-Answered-clause-ready : goal.returns-in-Some-default-Answered-clause-ready
 returns-in-Some-default-Answered-clause-ready c = λ _. ready-answers c.as_slice.result.now c.in-Some-default-Answered.place c.in-Some-default-Answered.field-0-1
