@@ -1,3 +1,5 @@
 pub mod Fresh
 pub mod Kept
 pub mod Accounts
+pub mod More
+pub mod First

@@ -20,8 +20,11 @@
 
 mod opening;
 mod running;
+mod settling;
 mod turns;
 
+pub use core_desks::SeatEnd;
 pub use core_turn::TurnReport;
 pub use opening::{Caller, DeviceSeat, HostFault, OperatorSeat, host};
+pub use settling::{CoreEnd, NotSettled, settle};
 pub use turns::Core;

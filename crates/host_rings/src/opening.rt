@@ -96,6 +96,7 @@ fn open_host(
         desks,
         next: 0,
         ended: false,
+        starved: false,
         bell,
     };
     Ok((core, seats.callers, seats.devices, seats.operator))

@@ -4,18 +4,22 @@ use crate::opening::LOOKS;
 use crate::turns::Core;
 use std::alloc::Global;
 use std::sync::Wait;
+use std::thread;
 
 impl Core {
-    ghost use Rattle.std.specs.Prelude.{◌≡◌, true};
-    ghost use Rattle.host_rings.specs.Cores.{pages, seats_of, has_ended};
+    ghost use Rattle.std.specs.Prelude.{◌≡◌, ℕ, true};
+    ghost use Rattle.host_rings.specs.Cores.{pages, seats_of, has_ended, SameSeats};
     ghost use Rattle.host_rings.specs.Keeping.{AreKept, AreShut};
+    ghost use Rattle.host_rings.specs.Running.{AreTurns};
 
-    /// Takes turns until the operator has asked for the end. A turn in which nobody was answered and nothing dispatched changes
-    /// nothing until a seat rings; so after some of them the core sleeps.
+    /// Takes turns until the operator has asked for the end. If a turn answered nobody and dispatched nothing, nothing changes until a
+    /// seat rings; so after some of them the core sleeps. If a Dispatch found no memory, it tries again instead.
     pub fn run<R: Wait>(&mut self, rt: &R, alloc: Global)
+        ensures turns { (n : ℕ) × AreTurns n self.old self.new }
         ensures ended { has_ended self.new ≡ true }
         ensures kept { ∥ AreKept (pages self.new) (seats_of self.new) ∥₁ }
         ensures shut { AreShut (seats_of self.new) }
+        ensures desks { SameSeats self.old self.new }
     {
         self.run_watched(rt, alloc, |_| {})
     }
@@ -23,9 +27,11 @@ impl Core {
     /// The same, and shows the core after each turn, and so before each sleep.
     pub fn run_watched<R: Wait, W: FnMut(&Core)>(&mut self, rt: &R, alloc: Global, mut watch: W)
         requires { W.IsAlwaysCallable watch }
+        ensures turns { (n : ℕ) × AreTurns n self.old self.new }
         ensures ended { has_ended self.new ≡ true }
         ensures kept { ∥ AreKept (pages self.new) (seats_of self.new) ∥₁ }
         ensures shut { AreShut (seats_of self.new) }
+        ensures desks { SameSeats self.old self.new }
     {
         let mut looks = 0;
         for _ in rt.forever() {
@@ -36,6 +42,9 @@ impl Core {
             }
             if report.answered.is_some() || report.dispatched {
                 looks = 0;
+            } else if self.starved {
+                // No bell tells when there is memory again.
+                thread::yield_now();
             } else {
                 self.bell.rest(rt, looks, LOOKS);
                 looks = looks.saturating_add(1);

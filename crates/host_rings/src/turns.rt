@@ -6,7 +6,7 @@ ghost use Rattle.host_rings.specs.Names.{AreNamed};
 ghost use Rattle.host_rings.specs.Keeping.{AreKept, AreShut};
 
 use core_desks::Desks;
-use core_turn::{TurnReport, take_turn};
+use core_turn::{TurnReport, Turned, take_turn};
 use history::KeeperView;
 use host_book::Book;
 use host_calls::SeatName;
@@ -21,6 +21,7 @@ pub struct Core {
     pub(crate) desks: Desks,
     pub(crate) next: usize,
     pub(crate) ended: bool,
+    pub(crate) starved: bool,
     pub(crate) bell: Bell,
     ghost kept: { ∥ AreKept book (rows desks) ∥₁ },
     ghost named: { AreNamed (rows desks) },
@@ -58,8 +59,14 @@ impl Core {
                 ended: true,
             };
         }
-        let report = take_turn(alloc, &mut self.book, &mut self.desks, &mut self.next);
+        let Turned { report, starved } = take_turn(
+            alloc,
+            &mut self.book,
+            &mut self.desks,
+            &mut self.next,
+        );
         self.ended = report.ended;
+        self.starved = starved;
         report
     }
 

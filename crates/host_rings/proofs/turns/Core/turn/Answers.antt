@@ -4,18 +4,18 @@ use Rattle.core_desks.proofs.Same.{desks-none}
 use Rattle.host_rings.proofs.Accounts.{kept-any, named-any, shut-last}
 use Rattle.host_rings.proofs.turns.Core.turn.Goals as goal
 
-pub take_turn-report-requires-clause-ready : goal.take_turn-report-requires-clause-ready
-take_turn-report-requires-clause-ready c = c.args.self.now.ready c.if-self.false
+pub take_turn-starved-requires-clause-ready : goal.take_turn-starved-requires-clause-ready
+take_turn-starved-requires-clause-ready c = c.args.self.now.ready c.if-self.false
 
 pub invariant_of-self : goal.invariant_of-self
 invariant_of-self c =
     let was = c.args.self.now in
-    let now = c.take_turn-report.new in
-    let report = c.take_turn-report.result in
-    let turn = c.take_turn-report.ensures in
+    let now = c.take_turn-starved.new in
+    let report = c.take_turn-starved.result.report in
+    let turn = c.take_turn-starved.ensures in
     record {
-      kept = ∥∥₁_map was.kept (λ h. kept-any (lasts was.desks) was.book now.book (rows was.desks) (rows now.desks) report.answered report.dispatched report.ended turn.turn turn.last was.named h);
-      named = named-any (lasts was.desks) was.book now.book (rows was.desks) (rows now.desks) report.answered report.dispatched report.ended turn.turn turn.last was.named;
+      kept = ∥∥₁_map was.kept (λ h. kept-any (lasts was.desks) was.book now.book (rows was.desks) (rows now.desks) report.answered report.dispatched report.ended (λ e. (turn.turn e).0) turn.last was.named h);
+      named = named-any (lasts was.desks) was.book now.book (rows was.desks) (rows now.desks) report.answered report.dispatched report.ended (λ e. (turn.turn e).0) turn.last was.named;
       ready = turn.ready;
       shut = λ e. shut-last was.book now.book (rows was.desks) (rows now.desks) report.answered report.dispatched (turn.last e);
       within = turn.within;

@@ -1,0 +1,29 @@
+-- A core that has ended its work, and its seats.
+use Rattle.std.specs.Prelude.{◌≡◌, ℕ, Some, slice_get}
+use Rattle.host_calls.specs.declared.ring.RingReply.TheVariants.{Answer as Answered}
+use Rattle.host_book.specs.Journal.{Pages}
+use Rattle.seats.specs.Rows.{Row}
+use Rattle.seat_account.specs.Account.{IsFirstPart}
+use Rattle.core_desks.specs.Settling.{IsSeated, name_of, staged_calls, collected_replies}
+use Rattle.core_desks.specs.declared.settling.SeatEnd.{SeatEnd}
+use Rattle.host_rings.specs.Cores.{seats_of}
+use Rattle.host_rings.specs.Keeping.{judges, is_entry, entry_under, is_own, closing}
+use Rattle.host_rings.specs.declared.settling.CoreEnd.{CoreEnd}
+use Rattle.host_rings.specs.declared.turns.Core.{Core}
+
+-- the core that has ended
+abbrev pub core_of : CoreEnd → Core
+core_of end = end.core
+
+-- both are of one host
+abbrev pub AreOfOneHost : SeatEnd → Core → Type 0
+AreOfOneHost end core = IsSeated end core.desks
+
+-- what a seat has collected other than Closed is the first part of its account against a journal, beside as many of its first calls
+pub record IsFirst (p : Pages) (core : Core) (end : SeatEnd) : Type 0 where
+  pub row : Row
+  pub place : ℕ
+  pub stands : slice_get (seats_of core) place ≡ Some row
+  pub named : row.name ≡ name_of end
+  pub first : IsFirstPart (judges p.limits p.most (name_of end)) is_entry (entry_under (name_of end)) (is_own (name_of end)) Answered
+      p.entries (staged_calls end) (collected_replies end) (closing row.closed)
