@@ -1,15 +1,17 @@
 -- A core before its first turn.
-use Rattle.std.proofs.Common.{false, ◌≡◌, ◌≢◌, ℕ, ◌==◌, List, [], length, refl, ap, arith, inl, inr}
+use Rattle.std.proofs.Common.{false, ◌≡◌, ◌≢◌, ℕ, ◌==◌, List, [], length, Some, slice_get, refl, sym, subst, ◌∙◌, ap, arith, inl, inr}
 use Rattle.host_calls.specs.declared.ring.RingReply.TheVariants.{Answer as Answered}
 use Rattle.host_calls.specs.declared.seat.SeatName.{SeatName}
 use Rattle.host_calls.specs.declared.seat.SeatName.TheVariants.{Core}
 use Rattle.host_book.specs.Journal.{Pages}
 use Rattle.seats.specs.Rows.{Row}
 use Rattle.seat_account.proofs.Accounts.{account-none}
+use Rattle.seats.specs.Seats.{IsFresh, AreBeside}
 use Rattle.seats.specs.declared.desk.Desk.{Desk}
 use Rattle.seats.specs.declared.seat.Seat.{Seat}
 use Rattle.core_desks.specs.Opening.{AreFresh}
 use Rattle.core_desks.specs.Opened.{IsNameAt, AreOpened}
+use Rattle.core_desks.specs.Settling.{IsSeatedIn}
 use Rattle.core_desks.specs.Visits.{AllReady}
 use Rattle.host_rings.specs.Names.{same_name, AreNamed}
 use Rattle.host_rings.specs.Opening.{AreIdle}
@@ -57,3 +59,13 @@ named-fresh callers devices rows o = (
 
 pub idle-fresh : {C P : Type 0} (n : ℕ) (seats : List (Seat C P)) (desks : List (Desk C P)) → AreFresh n seats desks → AreIdle seats
 idle-fresh n seats desks h = λ i s at. let f = (h.fresh i s at).2 in (f.staged, f.collected, f.unclosed)
+
+module _ {C P : Type 0} where
+  pub beside-fresh : (i : ℕ) (s : Seat C P) (d : Desk C P) → IsFresh s d i → AreBeside s d
+  beside-fresh i s d fresh = (fresh.calls, fresh.replies, fresh.numbered ∙ sym fresh.seat_numbered)
+
+  -- each seat's desk stands at its number
+  pub seated-fresh : (count : ℕ) (seats : List (Seat C P)) (desks : List (Desk C P)) → AreFresh count seats desks
+      → (i : ℕ) (s : Seat C P) → slice_get seats i ≡ Some s → IsSeatedIn s desks
+  seated-fresh count seats desks h i s at =
+      let f = h.fresh i s at in (f.0, subst (λ n. slice_get desks n ≡ Some f.0) (sym f.2.seat_numbered) f.1, beside-fresh i s f.0 f.2)

@@ -3,3 +3,4 @@ pub mod Kept
 pub mod Accounts
 pub mod More
 pub mod First
+pub mod Seated

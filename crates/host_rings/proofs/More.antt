@@ -1,9 +1,9 @@
 -- One turn more.
-use Rattle.std.proofs.Common.{true, false, Bool, ◌≡◌, ℕ, zero, suc, ◌∙◌, refl, sym, subst, Option}
+use Rattle.std.proofs.Common.{true, false, Bool, ◌≡◌, ℕ, suc, refl, sym, subst, Option}
 use Rattle.host_calls.specs.declared.seat.SeatName.{SeatName}
 use Rattle.core_turn.specs.Turns.{IsTurn, IsLastTurn}
 use Rattle.host_rings.specs.Cores.{pages, seats_of, last_works, has_ended}
-use Rattle.host_rings.specs.Running.{Turns, AreTurns}
+use Rattle.host_rings.specs.Running.{AreTurns}
 use Rattle.host_rings.specs.declared.turns.Core.{Core}
 
 -- a core that has ended takes none

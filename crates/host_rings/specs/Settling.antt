@@ -1,10 +1,18 @@
 -- A core that has ended its work, and its seats.
-use Rattle.std.specs.Prelude.{◌≡◌, ℕ, Some, slice_get}
+use Rattle.std.specs.Prelude.{◌≡◌, ℕ, List, Some, slice_get}
+use Rattle.host_calls.specs.declared.client.ClientCall.{ClientCall}
+use Rattle.host_calls.specs.declared.operator.OperatorCall.{OperatorCall}
+use Rattle.plain_machine.specs.declared.call.DeviceCall.{DeviceCall}
+use Rattle.rtrb.specs.declared.AnyItems.{AnyItems}
 use Rattle.host_calls.specs.declared.ring.RingReply.TheVariants.{Answer as Answered}
 use Rattle.host_book.specs.Journal.{Pages}
 use Rattle.seats.specs.Rows.{Row}
 use Rattle.seat_account.specs.Account.{IsFirstPart}
-use Rattle.core_desks.specs.Settling.{IsSeated, name_of, staged_calls, collected_replies}
+use Rattle.seats.specs.Seats.{AreBeside}
+use Rattle.seats.specs.declared.rules.ClientReplies.{ClientReplies}
+use Rattle.seats.specs.declared.rules.OperatorReplies.{OperatorReplies}
+use Rattle.seats.specs.declared.seat.Seat.{Seat}
+use Rattle.core_desks.specs.Settling.{IsSeatedIn, IsSeated, name_of, staged_calls, collected_replies}
 use Rattle.core_desks.specs.declared.settling.SeatEnd.{SeatEnd}
 use Rattle.host_rings.specs.Cores.{seats_of}
 use Rattle.host_rings.specs.Keeping.{judges, is_entry, entry_under, is_own, closing}
@@ -14,6 +22,23 @@ use Rattle.host_rings.specs.declared.turns.Core.{Core}
 -- the core that has ended
 abbrev pub core_of : CoreEnd → Core
 core_of end = end.core
+
+-- a seat of this core's host, by its kind: its two rings are those of the desk of its number
+abbrev pub IsCallerOf : Core → Seat ClientCall ClientReplies → Type 0
+IsCallerOf core s = IsSeatedIn s core.desks.callers.items
+
+abbrev pub IsDeviceOf : Core → Seat DeviceCall AnyItems → Type 0
+IsDeviceOf core s = IsSeatedIn s core.desks.devices.items
+
+abbrev pub IsOperatorOf : Core → Seat OperatorCall OperatorReplies → Type 0
+IsOperatorOf core s = AreBeside s core.desks.operator
+
+-- every seat of these
+abbrev pub AreCallersOf : Core → List (Seat ClientCall ClientReplies) → Type 0
+AreCallersOf core seats = (i : ℕ) (s : _) → slice_get seats i ≡ Some s → IsCallerOf core s
+
+abbrev pub AreDevicesOf : Core → List (Seat DeviceCall AnyItems) → Type 0
+AreDevicesOf core seats = (i : ℕ) (s : _) → slice_get seats i ≡ Some s → IsDeviceOf core s
 
 -- both are of one host
 abbrev pub AreOfOneHost : SeatEnd → Core → Type 0

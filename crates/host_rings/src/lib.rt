@@ -5,6 +5,8 @@
 //! |---|---|
 //! | [`host`] | a core and its seats, to which nothing has come; so many workers as it may have |
 //! | [`Core::turn`] | at most one call is answered, then one Dispatch is tried; the calls and answers of every seat fit the one journal; after the end nothing changes |
+//! | [`Core::run`] | it is a number of turns, and the core has ended; `run_watched` shows the core after each turn |
+//! | [`Core::finish`], [`settle`] | what a seat staged is what was taken and then what is left; what it collected are the first of what it was given |
 //! | [`Core::view`] | the keeper is what comes of the entries' calls, one after the other |
 //! | [`Core::entry`] | the entry of a number, from 0 |
 //!
@@ -26,5 +28,6 @@ mod turns;
 pub use core_desks::SeatEnd;
 pub use core_turn::TurnReport;
 pub use opening::{Caller, DeviceSeat, HostFault, OperatorSeat, host};
+pub use seats::Settled;
 pub use settling::{CoreEnd, NotSettled, settle};
 pub use turns::Core;

@@ -5,6 +5,7 @@ ghost use Rattle.plain_machine.specs.Step.{of_sizes};
 ghost use Rattle.core_desks.specs.Opened.{AreOpened};
 ghost use Rattle.host_rings.specs.Cores.{pages, seats_of, has_ended};
 ghost use Rattle.host_rings.specs.Opening.{are_bad_workers, is_bad_workers, ArePaired, IsIdle, AreIdle};
+ghost use Rattle.host_rings.specs.Settling.{AreCallersOf, AreDevicesOf, IsOperatorOf};
 
 use crate::turns::Core;
 use core_desks::Desks;
@@ -64,6 +65,7 @@ pub fn host(
         × ((pages r.0).most ≡ config.history_max) × (has_ended r.0 ≡ false)) }
     ensures idle { IfOk result (λ r. AreIdle r.1.items × AreIdle r.2.items × IsIdle r.3) }
     ensures pairs { IfOk result (λ r. ArePaired workers r.0 r.1.items r.2.items r.3) }
+    ensures seated { IfOk result (λ r. AreCallersOf r.0 r.1.items × AreDevicesOf r.0 r.2.items × IsOperatorOf r.0 r.3) }
 {
     if workers == 0 || workers > MOST_WORKERS {
         return Err(HostFault::BadWorkers);
@@ -87,6 +89,7 @@ fn open_host(
         × ((pages r.0).most ≡ config.history_max) × (has_ended r.0 ≡ false)) }
     ensures idle { IfOk result (λ r. AreIdle r.1.items × AreIdle r.2.items × IsIdle r.3) }
     ensures pairs { IfOk result (λ r. ArePaired workers r.0 r.1.items r.2.items r.3) }
+    ensures seated { IfOk result (λ r. AreCallersOf r.0 r.1.items × AreDevicesOf r.0 r.2.items × IsOperatorOf r.0 r.3) }
 {
     let book = Book::new(alloc, config, sectors)?;
     let bell = Bell::new(alloc)?;

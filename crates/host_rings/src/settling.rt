@@ -20,6 +20,15 @@ pub struct CoreEnd {
 #[error("what is left of the seat is not known")]
 pub struct NotSettled;
 
+impl Core {
+    /// Ends its work.
+    pub fn finish(self) -> CoreEnd
+        ensures { core_of result ≡ self }
+    {
+        CoreEnd { core: self }
+    }
+}
+
 impl CoreEnd {
     /// The core, to look at.
     pub fn core(&self) -> &Core

@@ -1,7 +1,7 @@
 use Rattle.std.proofs.Common.{arith}
 use Rattle.std.proofs.lemmas.Bool.{false≢true}
 use Rattle.core_desks.specs.Desks.{rows}
-use Rattle.host_rings.proofs.Fresh.{kept-fresh, ready-fresh, named-fresh, idle-fresh}
+use Rattle.host_rings.proofs.Fresh.{kept-fresh, ready-fresh, named-fresh, idle-fresh, seated-fresh, beside-fresh}
 use Rattle.host_rings.proofs.opening.open_host.Goals as goal
 
 pub invariant_of-core : goal.invariant_of-core
@@ -24,4 +24,14 @@ returns-clause-idle c =
       idle-fresh 16 seats.callers.items desks.callers.items pairs.callers,
       idle-fresh c.args.workers seats.devices.items desks.devices.items pairs.devices,
       (pairs.operator.staged, pairs.operator.collected, pairs.operator.unclosed),
+    )
+
+pub returns-clause-seated : goal.returns-clause-seated
+returns-clause-seated c =
+    let pairs = c.in_ok-desks.ensures.pairs in
+    let seats = c.in_ok-desks.seats in
+    let desks = c.in_ok-desks.desks in (
+      seated-fresh 16 seats.callers.items desks.callers.items pairs.callers,
+      seated-fresh c.args.workers seats.devices.items desks.devices.items pairs.devices,
+      beside-fresh 0 seats.operator desks.operator pairs.operator,
     )
