@@ -1,0 +1,21 @@
+-- Four clients and the operator that work in threads of their own.
+use Rattle.seats.specs.Seats.{SameSeat}
+use Rattle.host_rings.specs.Opening.{IsIdle}
+use Rattle.host_rings.specs.Settling.{IsCallerOf, IsOperatorOf}
+use Rattle.host_rings.specs.declared.turns.Core.{Core}
+use Rattle.ring_tests.specs.declared.threads.Fresh.{Fresh}
+use Rattle.ring_tests.specs.declared.threads.Done.{Done}
+
+-- nothing has come to them
+abbrev pub AreFresh : Fresh → Type 0
+AreFresh s = IsIdle s.first × IsIdle s.second × IsIdle s.third × IsIdle s.fourth × IsIdle s.operator
+
+-- they are the same seats as these, which have worked
+abbrev pub AreSame : Fresh → Done → Type 0
+AreSame s d = SameSeat s.first d.first.0.seat × SameSeat s.second d.first.1.seat × SameSeat s.third d.second.0.seat × SameSeat s.fourth d.second.1.seat
+    × SameSeat s.operator d.operator
+
+-- all are of this core's host
+abbrev pub AreOf : Core → Done → Type 0
+AreOf core d = IsCallerOf core d.first.0.seat × IsCallerOf core d.first.1.seat × IsCallerOf core d.second.0.seat × IsCallerOf core d.second.1.seat
+    × IsOperatorOf core d.operator
