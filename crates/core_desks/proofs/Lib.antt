@@ -6,3 +6,4 @@ pub mod Served
 pub mod Fresh
 pub mod Same
 pub mod Settled
+pub mod Waiting

@@ -191,6 +191,10 @@ pub seen-replay : (k : State) (p : Pages) (names : List SeatName) (len capacity 
 seen-replay k p names len capacity v h = h.replays ∙ ap (replay k.limits k.most) (sym (calls_of-entries names k.journal h.even))
     ∙ ap (λ q. replay q.limits q.most (calls_of q.entries)) (sym v)
 
+pub seen-journal : (k : State) (p : Pages) (names : List SeatName) (len capacity : ℕ)
+    → p ≡ record { limits = k.limits; most = k.most; entries = entries names k.journal } → IsBook k names len capacity → k.journal ≡ calls_of p.entries
+seen-journal k p names len capacity v h = sym (calls_of-entries names k.journal h.even) ∙ ap (λ q. calls_of q.entries) (sym v)
+
 pub name-at : (names : List SeatName) (at : ℕ) (name : SeatName) → at < length names → name ≡ get_or names at name → slice_get names at ≡ Some name
 name-at [] at name within is = absurd (omega (arith, within))
 name-at (m ∷ names) zero name within is = ap Some (sym is)

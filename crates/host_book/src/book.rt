@@ -76,6 +76,7 @@ impl Book {
     pub fn view(&self) -> KeeperView<'_>
         ensures state { result.state ≡ replay self.now.limits self.now.most (calls_of self.now.entries) }
         ensures limits { result.state.limits ≡ self.now.limits }
+        ensures journal { result.state.journal ≡ calls_of self.now.entries }
     {
         let _replayed = self.keeper.journal_len();
         self.keeper.view()

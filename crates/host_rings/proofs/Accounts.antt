@@ -1,5 +1,5 @@
 -- The accounts of all seats after a turn.
-use Rattle.std.proofs.Common.{true, false, Bool, ◌≡◌, ℕ, List, [], ◌++◌, refl, sym, ap, ◌∙◌, subst, Option, None, Some, inl, inr}
+use Rattle.std.proofs.Common.{true, false, Bool, ◌≡◌, ℕ, ◌≤◌, List, [], ◌++◌, length, refl, sym, ap, ◌∙◌, subst, Option, None, Some, inl, inr}
 use Rattle.std.specs.List.{slice_get, filter}
 use Rattle.std.proofs.lemmas.List.{append-nil}
 use Rattle.std.proofs.lemmas.Option.{same_Some}
@@ -73,24 +73,26 @@ all-kept-still p q xs ys a s h = all-kept-took p q [] xs ys a (s.entries ∙ sym
 
 -- the accounts where one seat was answered
 all-kept-serves : (lasts : List (Option ℕ)) (place : ℕ) (p q : Pages) (xs ys : List Row) → Changes place (λ r s. Serves lasts p r q s) xs ys
-    → AreNamed xs → AreKept p xs → AreKept q ys
-all-kept-serves lasts place p q xs ys c named h = λ i s at. elim (same-place i place) [
+    → length lasts ≤ 4 → AreNamed xs → AreKept p xs → AreKept q ys
+all-kept-serves lasts place p q xs ys c few named h = λ i s at. elim (same-place i place) [
   | inl e ↦ subst (λ t. IsKept q t) (same_Some c.after s (sym c.stands ∙ ap (slice_get ys) (sym e) ∙ at))
-      (kept-serves lasts p q c.before c.after c.related (h place c.before c.stood))
+      (kept-serves lasts p q c.before c.after few c.related (h place c.before c.stood))
   | inr n ↦ let v = c.related in
       kept-took p q (added c.before.name v.call v.answer) s s (took-none s) (v.entries ∙ entered-added p.entries c.before.name v.call v.answer) v.limits v.most
       (added-others c.before.name s.name v.call (is_entry v.call v.answer) (named.0 i place s c.before (sym (c.others i n) ∙ at) c.stood n))
       (h i s (sym (c.others i n) ∙ at))
 ]
 
-all-kept-answers : (lasts : List (Option ℕ)) (place : ℕ) (p q : Pages) (xs ys : List Row) → Answers lasts place p xs q ys → AreNamed xs → AreKept p xs → AreKept q ys
-all-kept-answers lasts place p q xs ys a named h =
-    all-kept-serves lasts place p q a.between ys a.changes (named-same xs a.between (names-took xs a.between a.took) named)
+all-kept-answers : (lasts : List (Option ℕ)) (place : ℕ) (p q : Pages) (xs ys : List Row) → Answers lasts place p xs q ys → length lasts ≤ 4 → AreNamed xs
+    → AreKept p xs → AreKept q ys
+all-kept-answers lasts place p q xs ys a few named h =
+    all-kept-serves lasts place p q a.between ys a.changes few (named-same xs a.between (names-took xs a.between a.took) named)
     (all-kept-still p p xs a.between a.took (record { entries = refl; limits = refl; most = refl }) h)
 
-kept-round : (lasts : List (Option ℕ)) (p q : Pages) (xs ys : List Row) (answered : Option SeatName) → RoundBy lasts p xs q ys answered → AreNamed xs → AreKept p xs → AreKept q ys
-kept-round lasts p q xs ys None r named h = all-kept-still p q xs ys r.took r.pages h
-kept-round lasts p q xs ys (Some name) r named h = all-kept-answers lasts r.0 p q xs ys r.1 named h
+kept-round : (lasts : List (Option ℕ)) (p q : Pages) (xs ys : List Row) (answered : Option SeatName) → RoundBy lasts p xs q ys answered → length lasts ≤ 4
+    → AreNamed xs → AreKept p xs → AreKept q ys
+kept-round lasts p q xs ys None r few named h = all-kept-still p q xs ys r.took r.pages h
+kept-round lasts p q xs ys (Some name) r few named h = all-kept-answers lasts r.0 p q xs ys r.1 few named h
 
 kept-dispatch : (p q : Pages) (xs : List Row) (dispatched : Bool) → Dispatches p q dispatched → AreNamed xs → AreKept p xs → AreKept q xs
 kept-dispatch p q xs dispatched d named h = all-kept-took p q (added Core (Ask (Do Dispatch)) d.answer) xs xs (all-none xs)
@@ -103,9 +105,9 @@ kept-end p q place xs ys e h = all-kept-still p q xs ys
 
 -- every turn keeps the account of every seat
 kept-turn : (lasts : List (Option ℕ)) (p q : Pages) (xs ys : List Row) (answered : Option SeatName) (dispatched : Bool) → IsTurn lasts p xs q ys answered dispatched
-    → AreNamed xs → AreKept p xs → AreKept q ys
-kept-turn lasts p q xs ys answered dispatched t named h =
-    kept-dispatch t.between q ys dispatched t.dispatch (named-same xs ys (names-turn lasts p q xs ys answered dispatched t) named) (kept-round lasts p t.between xs ys answered t.round named h)
+    → length lasts ≤ 4 → AreNamed xs → AreKept p xs → AreKept q ys
+kept-turn lasts p q xs ys answered dispatched t few named h =
+    kept-dispatch t.between q ys dispatched t.dispatch (named-same xs ys (names-turn lasts p q xs ys answered dispatched t) named) (kept-round lasts p t.between xs ys answered t.round few named h)
 
 kept-last : (p q : Pages) (xs ys : List Row) (answered : Option SeatName) (dispatched : Bool) → IsLastTurn p xs q ys answered dispatched → AreKept p xs → AreKept q ys
 kept-last p q xs ys answered dispatched t h = λ i s at. let c = t.closes.closes i s at in
@@ -114,9 +116,9 @@ kept-last p q xs ys answered dispatched t h = λ i s at. let c = t.closes.closes
 -- and so after either turn
 pub kept-any : (lasts : List (Option ℕ)) (p q : Pages) (xs ys : List Row) (answered : Option SeatName) (dispatched ended : Bool)
     → (ended ≡ false → IsTurn lasts p xs q ys answered dispatched) → (ended ≡ true → IsLastTurn p xs q ys answered dispatched)
-    → AreNamed xs → AreKept p xs → AreKept q ys
-kept-any lasts p q xs ys answered dispatched false t l named h = kept-turn lasts p q xs ys answered dispatched (t refl) named h
-kept-any lasts p q xs ys answered dispatched true t l named h = kept-last p q xs ys answered dispatched (l refl) h
+    → length lasts ≤ 4 → AreNamed xs → AreKept p xs → AreKept q ys
+kept-any lasts p q xs ys answered dispatched false t l few named h = kept-turn lasts p q xs ys answered dispatched (t refl) few named h
+kept-any lasts p q xs ys answered dispatched true t l few named h = kept-last p q xs ys answered dispatched (l refl) h
 
 pub named-any : (lasts : List (Option ℕ)) (p q : Pages) (xs ys : List Row) (answered : Option SeatName) (dispatched ended : Bool)
     → (ended ≡ false → IsTurn lasts p xs q ys answered dispatched) → (ended ≡ true → IsLastTurn p xs q ys answered dispatched)

@@ -23,9 +23,9 @@ one-closing false = omega arith
 -- it is the first part of the account that the core keeps of the seat
 first-row : (p : Pages) (r : Row) (name : SeatName) (calls : List Asked) (replies : List RingReply) (left uncollected : ℕ) → r.name ≡ name
     → AreSettled calls replies r left uncollected → IsKept p r
-    → IsFirstPart (judges p.limits p.most name) is_entry (entry_under name) (is_own name) Answered p.entries calls replies (closing r.closed)
+    → IsFirstPart (judges p.limits p.most name) is_entry (entry_under name) (is_own name) Answered p.entries r.taken r.waiting r.replied calls replies (closing r.closed)
 first-row p r name calls replies left uncollected named s h =
-    subst (λ n. IsFirstPart (judges p.limits p.most n) is_entry (entry_under n) (is_own n) Answered p.entries calls replies (closing r.closed)) named
+    subst (λ n. IsFirstPart (judges p.limits p.most n) is_entry (entry_under n) (is_own n) Answered p.entries r.taken r.waiting r.replied calls replies (closing r.closed)) named
     (account-first (judges p.limits p.most r.name) is_entry (entry_under r.name) (is_own r.name) Answered p.entries r.taken r.waiting calls s.untaken replies s.rest
     r.replied (closing r.closed) h s.replies_are s.calls_are (one-closing r.closed))
 

@@ -1,5 +1,5 @@
 -- What keeps the account of a seat.
-use Rattle.std.proofs.Common.{true, false, Bool, ◌≡◌, ℕ, ◌==◌, List, [], ◌∷◌, ◌++◌, refl, sym, subst, arith, Option, if◌then◌else◌}
+use Rattle.std.proofs.Common.{true, false, Bool, ◌≡◌, ℕ, ◌==◌, ◌≤◌, length, List, [], ◌∷◌, ◌++◌, refl, sym, subst, arith, Option, if◌then◌else◌}
 use Rattle.std.specs.List.{filter}
 use Rattle.std.proofs.lemmas.List.{append-nil}
 use Rattle.plain_machine.specs.declared.answer.Answer.{Answer}
@@ -59,11 +59,11 @@ kept-took p q more r s t e l m others h =
     p.entries more r.taken r.waiting s.taken s.waiting r.replied (closing r.closed) others t.taken_is h)
 
 -- the seat that was answered
-pub kept-serves : (lasts : List (Option ℕ)) (p q : Pages) (r s : Row) → Serves lasts p r q s → IsKept p r → IsKept q s
-kept-serves lasts p q r s v h =
+pub kept-serves : (lasts : List (Option ℕ)) (p q : Pages) (r s : Row) → length lasts ≤ 4 → Serves lasts p r q s → IsKept p r → IsKept q s
+kept-serves lasts p q r s few v h =
     rw (v.entries, entered-added p.entries r.name v.call v.answer, v.limits, v.most, v.name, v.replied, v.closed, v.waiting)
     (account-answers (judges p.limits p.most r.name) is_entry (entry_under r.name) (is_own r.name) Answered p.entries r.taken r.waiting s.taken r.replied v.call v.answer
-    (λ c. own-name r.name) v.taken_is (lasts, v.judged) (open-account p r v.was_open h))
+    (λ c. own-name r.name) v.taken_is (lasts, few, v.judged) (open-account p r v.was_open h))
 
 -- the seat that hears the end
 pub kept-closes : (p : Pages) (r s : Row) → Closes r s → IsKept p r → IsKept p s

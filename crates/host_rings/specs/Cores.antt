@@ -21,6 +21,10 @@ last_works core = lasts core.desks
 abbrev pub has_ended : Core → Bool
 has_ended core = core.ended
 
+-- whether its last Dispatch found no memory
+abbrev pub is_starving : Core → Bool
+is_starving core = core.starved
+
 -- it speaks to the same seats
 abbrev pub SameSeats : Core → Core → Type 0
 SameSeats a b = SameDesks a.desks b.desks

@@ -1,5 +1,5 @@
 -- The accounts of all seats against one journal.
-use Rattle.std.specs.Prelude.{◌≡◌, ℕ, Bool, true, false, List, [], ◌∷◌, Option, Some, slice_get}
+use Rattle.std.specs.Prelude.{◌≡◌, ℕ, ◌≤◌, Bool, true, false, List, [], ◌∷◌, length, Option, Some, slice_get}
 use Rattle.plain_machine.specs.declared.call.Call.{Call}
 use Rattle.plain_machine.specs.declared.call.Call.TheVariants.{Hold}
 use Rattle.plain_machine.specs.declared.answer.Answer.{Answer}
@@ -16,9 +16,9 @@ use Rattle.core_desks.specs.Judging.{JudgedBy}
 use Rattle.core_turn.specs.Turns.{is_accepted}
 use Rattle.host_rings.specs.Names.{same_name}
 
--- an answer is right after some entries, for some choice of what the other devices took last
+-- an answer is right after some entries, for some choice of what the devices took last, of which there are at most four (our profile)
 abbrev pub judges : Limits → ℕ → SeatName → List Entry → Asked → Answer → Type 0
-judges l most name entries call answer = (lasts : List (Option ℕ)) × JudgedBy l most name lasts entries call answer
+judges l most name entries call answer = (lasts : List (Option ℕ)) × (length lasts ≤ 4) × JudgedBy l most name lasts entries call answer
 
 -- an accepted call of the keeper is an entry; a Take is none (our profile)
 abbrev pub is_entry : Asked → Answer → Bool
@@ -52,6 +52,10 @@ IsKept p r = IsAccount (judges p.limits p.most r.name) is_entry (entry_under r.n
 -- and so at each seat
 abbrev pub AreKept : Pages → List Row → Type 0
 AreKept p rows = (i : ℕ) (r : Row) → slice_get rows i ≡ Some r → IsKept p r
+
+-- at most one call of a seat was taken and is not answered yet
+abbrev pub AreSingle : List Row → Type 0
+AreSingle rows = (i : ℕ) (r : Row) → slice_get rows i ≡ Some r → length r.waiting ≤ 1
 
 -- every seat has heard the end
 abbrev pub AreShut : List Row → Type 0

@@ -1,8 +1,9 @@
 -- The turns of a core, one after the other.
 use Rattle.std.specs.Prelude.{◌≡◌, ℕ, zero, suc, Bool, true, false, Option}
 use Rattle.host_calls.specs.declared.seat.SeatName.{SeatName}
-use Rattle.core_turn.specs.Turns.{IsTurn, IsLastTurn}
-use Rattle.host_rings.specs.Cores.{pages, seats_of, last_works, has_ended}
+use Rattle.core_turn.specs.Turns.{is_starved, IsTurn, IsLastTurn}
+use Rattle.host_rings.specs.Cores.{pages, seats_of, last_works, has_ended, is_starving, SameSeats}
+use Rattle.host_rings.specs.Keeping.{AreKept}
 use Rattle.host_rings.specs.declared.turns.Core.{Core}
 
 -- a turn of a core that had not ended (our profile)
@@ -10,8 +11,11 @@ pub record Turns (a b : Core) : Type 0 where
   pub answered : Option SeatName
   pub dispatched : Bool
   pub was_open : has_ended a ≡ false
-  pub turn : has_ended b ≡ false → IsTurn (last_works a) (pages a) (seats_of a) (pages b) (seats_of b) answered dispatched
+  pub turn : has_ended b ≡ false → (t : IsTurn (last_works a) (pages a) (seats_of a) (pages b) (seats_of b) answered dispatched)
+      × (is_starving b ≡ is_starved t.dispatch.answer)
   pub last : has_ended b ≡ true → IsLastTurn (pages a) (seats_of a) (pages b) (seats_of b) answered dispatched
+  pub kept : ∥ AreKept (pages b) (seats_of b) ∥₁
+  pub same : SameSeats a b
 
 -- so many turns, one after the other
 abbrev pub AreTurns : ℕ → Core → Core → Type 0

@@ -51,4 +51,4 @@ pub record IsFirst (p : Pages) (core : Core) (end : SeatEnd) : Type 0 where
   pub stands : slice_get (seats_of core) place ≡ Some row
   pub named : row.name ≡ name_of end
   pub first : IsFirstPart (judges p.limits p.most (name_of end)) is_entry (entry_under (name_of end)) (is_own (name_of end)) Answered
-      p.entries (staged_calls end) (collected_replies end) (closing row.closed)
+      p.entries row.taken row.waiting row.replied (staged_calls end) (collected_replies end) (closing row.closed)

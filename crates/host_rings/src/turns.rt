@@ -3,7 +3,7 @@ ghost use Rattle.std.specs.Prelude.{◌≡◌, ◌<◌, length, true, false};
 ghost use Rattle.core_desks.specs.Desks.{rows};
 ghost use Rattle.core_desks.specs.Visits.{AllReady};
 ghost use Rattle.host_rings.specs.Names.{AreNamed};
-ghost use Rattle.host_rings.specs.Keeping.{AreKept, AreShut};
+ghost use Rattle.host_rings.specs.Keeping.{AreKept, AreShut, AreSingle};
 
 use core_desks::Desks;
 use core_turn::{TurnReport, Turned, take_turn};
@@ -35,14 +35,15 @@ impl Core {
     ghost use Rattle.std.specs.Option.{option_map};
     ghost use Rattle.plain_machine.specs.Keeper.{replay};
     ghost use Rattle.host_book.specs.Journal.{calls_of, shown_entry};
-    ghost use Rattle.core_turn.specs.Turns.{IsTurn, IsLastTurn};
-    ghost use Rattle.host_rings.specs.Cores.{pages, seats_of, last_works, has_ended, SameSeats};
+    ghost use Rattle.core_turn.specs.Turns.{is_starved, IsTurn, IsLastTurn};
+    ghost use Rattle.host_rings.specs.Cores.{pages, seats_of, last_works, has_ended, is_starving, SameSeats};
 
     /// Visits the seats, from the one after that which was answered last, up to the first that is answered; then it tries one Dispatch.
     /// If the operator asks for the end, every seat hears it, and from then on nothing changes.
     pub fn turn(&mut self, alloc: Global) -> TurnReport
         ensures turn { has_ended self.old ≡ false → has_ended self.new ≡ false
-            → IsTurn (last_works self.old) (pages self.old) (seats_of self.old) (pages self.new) (seats_of self.new) result.answered result.dispatched }
+            → (t : IsTurn (last_works self.old) (pages self.old) (seats_of self.old) (pages self.new) (seats_of self.new) result.answered result.dispatched)
+            × (is_starving self.new ≡ is_starved t.dispatch.answer) }
         ensures last { has_ended self.old ≡ false → has_ended self.new ≡ true
             → IsLastTurn (pages self.old) (seats_of self.old) (pages self.new) (seats_of self.new) result.answered result.dispatched }
         ensures stays { has_ended self.old ≡ true → (self.new ≡ self.old) × (result.answered ≡ None) × (result.dispatched ≡ false) }
@@ -70,9 +71,16 @@ impl Core {
         report
     }
 
-    /// What can be seen of the keeper. It is what comes of the entries' calls, one after the other.
+    /// What can be seen of the keeper. It is what comes of the entries' calls, one after the other, and each of these is accepted.
+    /// Whenever a core is seen, what was taken at each seat and answered there fits its journal.
     pub fn view(&self) -> KeeperView<'_>
-        ensures { result.state ≡ replay (pages self.now).limits (pages self.now).most (calls_of (pages self.now).entries) }
+        ensures state { result.state ≡ replay (pages self.now).limits (pages self.now).most (calls_of (pages self.now).entries) }
+        ensures journal { result.state.journal ≡ calls_of (pages self.now).entries }
+        ensures kept { ∥ AreKept (pages self.now) (seats_of self.now) ∥₁ }
+        ensures single { AreSingle (seats_of self.now) }
+        ensures named { AreNamed (seats_of self.now) }
+        ensures ready { has_ended self.now ≡ false → AllReady (seats_of self.now) }
+        ensures shut { has_ended self.now ≡ true → AreShut (seats_of self.now) }
     {
         self.book.view()
     }

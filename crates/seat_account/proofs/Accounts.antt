@@ -1,10 +1,10 @@
 -- What keeps the account of a seat: entries of others, a call that is taken, an answer, and the end.
-use Rattle.std.proofs.Common.{true, false, Bool, ◌≡◌, ℕ, zero, suc, ◌<◌, ◌≤◌, List, [], ◌∷◌, ◌++◌, length, take, drop, map, refl, sym, ap, ◌∙◌, subst, arith, inl, inr, ◌⊎◌, if◌then◌else◌}
+use Rattle.std.proofs.Common.{true, false, Bool, ◌≡◌, ℕ, zero, suc, ◌<◌, ◌≤◌, List, [], ◌∷◌, ◌++◌, length, take, drop, map, refl, sym, ap, ◌∙◌, arith, inl, inr, ◌⊎◌, if◌then◌else◌}
 use Rattle.std.specs.List.{filter}
 use Rattle.std.proofs.lemmas.List.{length-append, take-append-le, append_assoc, append-nil, map-append, take-append-drop, length-take-le, length-map, take-map}
 use Rattle.std.proofs.lemmas.List.Elements.{filter-append}
-use Rattle.seat_account.specs.Account.{Judged, call_in, answer_in, entered, made, FitsFrom, IsAccount, IsFirstPart}
-use Rattle.seat_account.proofs.Fits.{fits-more, fits-push, fits-prefix, made-push, take-whole}
+use Rattle.seat_account.specs.Account.{Judged, call_in, answer_in, entered, made, IsAccount, IsFirstPart}
+use Rattle.seat_account.proofs.Fits.{fits-more, fits-push, made-push, take-whole}
 
 module _ {C A E R : Type 0} (judges : List E → C → A → Type 0) (is_entry : C → A → Bool) (entry_of : C → E) (is_own : E → Bool) (reply_of : A → R) where
   le-or-lt : (m n : ℕ) → (m ≤ n) ⊎ (n < m)
@@ -81,13 +81,16 @@ module _ {C A E R : Type 0} (judges : List E → C → A → Type 0) (is_entry :
   first-answers : (entries : List E) (taken waiting staged left : List C) (collected rest replied ending : List R)
       → (h : IsAccount judges is_entry entry_of is_own reply_of entries taken waiting replied ending)
       → replied ≡ collected ++ rest → staged ≡ taken ++ left → length collected ≤ length h.judged
-      → IsFirstPart judges is_entry entry_of is_own reply_of entries staged collected ending
+      → IsFirstPart judges is_entry entry_of is_own reply_of entries taken waiting replied staged collected ending
   first-answers entries taken waiting staged left collected rest replied ending h r s le =
       let n = length collected in
       let j : List (Judged C A) = take n h.judged in
       let len : length j ≡ n = length-take-le n h.judged le in
       record {
+        account = h;
         judged = j;
+        later = drop n h.judged;
+        first = sym (take-append-drop n h.judged);
         ended = [];
         calls_are = ap (λ m. take m staged) len ∙ ap (take n) (s ∙ ap (λ cs. cs ++ left) h.taken_is ∙ append_assoc (map call_in h.judged) waiting left)
             ∙ take-append-le n (map call_in h.judged) (waiting ++ left) (omega (arith, le, length-map h.judged call_in)) ∙ take-map call_in n h.judged;
@@ -95,15 +98,13 @@ module _ {C A E R : Type 0} (judges : List E → C → A → Type 0) (is_entry :
             ∙ take-append-le n (map reply_of (map answer_in h.judged)) ending (omega (arith, le, length-map h.judged answer_in, length-map (map answer_in h.judged) reply_of))
             ∙ take-map reply_of n (map answer_in h.judged) ∙ ap (map reply_of) (take-map answer_in n h.judged) ∙ sym (append-nil (map reply_of (map answer_in j)));
         ended_is = inl refl;
-        fits = fits-prefix judges is_entry entry_of is_own 0 entries j (drop n h.judged)
-            (subst (λ ts. FitsFrom judges is_entry entry_of is_own 0 entries ts) (sym (take-append-drop n h.judged)) h.fits);
       }
 
   -- what was collected, where it is more
   all-answers : (entries : List E) (taken waiting staged left : List C) (collected rest replied ending : List R)
       → (h : IsAccount judges is_entry entry_of is_own reply_of entries taken waiting replied ending)
       → replied ≡ collected ++ rest → staged ≡ taken ++ left → length ending ≤ 1 → length h.judged < length collected
-      → IsFirstPart judges is_entry entry_of is_own reply_of entries staged collected ending
+      → IsFirstPart judges is_entry entry_of is_own reply_of entries taken waiting replied staged collected ending
   all-answers entries taken waiting staged left collected rest replied ending h r s one lt =
       let same : replied ≡ collected = r ∙ ap (λ rs. collected ++ rs) (none-left rest (omega (
         arith,
@@ -117,21 +118,23 @@ module _ {C A E R : Type 0} (judges : List E → C → A → Type 0) (is_entry :
         length-map (map answer_in h.judged) reply_of,
       ))) ∙ append-nil collected in
       record {
+        account = h;
         judged = h.judged;
+        later = [];
+        first = sym (append-nil h.judged);
         ended = ending;
         calls_are = ap (take (length h.judged)) (s ∙ ap (λ cs. cs ++ left) h.taken_is ∙ append_assoc (map call_in h.judged) waiting left)
             ∙ take-append-le (length h.judged) (map call_in h.judged) (waiting ++ left) (omega (arith, length-map h.judged call_in))
             ∙ take-map call_in (length h.judged) h.judged ∙ ap (map call_in) (take-length h.judged);
         collected_is = sym same ∙ h.replied_is;
         ended_is = inr refl;
-        fits = h.fits;
       }
 
   -- what was collected other than the end, beside as many first staged calls, is the first part of the account
   pub account-first : (entries : List E) (taken waiting staged left : List C) (collected rest replied ending : List R)
       → IsAccount judges is_entry entry_of is_own reply_of entries taken waiting replied ending
       → replied ≡ collected ++ rest → staged ≡ taken ++ left → length ending ≤ 1
-      → IsFirstPart judges is_entry entry_of is_own reply_of entries staged collected ending
+      → IsFirstPart judges is_entry entry_of is_own reply_of entries taken waiting replied staged collected ending
   account-first entries taken waiting staged left collected rest replied ending h r s one = elim (le-or-lt (length collected) (length h.judged)) [
     | inl le ↦ first-answers entries taken waiting staged left collected rest replied ending h r s le
     | inr lt ↦ all-answers entries taken waiting staged left collected rest replied ending h r s one lt

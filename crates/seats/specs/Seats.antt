@@ -1,6 +1,6 @@
 -- What a seat and its desk have had: calls and replies.
 use Rattle.std.specs.Prelude.{◌≡◌, ℕ, Bool, true, false, List, [], None, map, option_to_list}
-use Rattle.rtrb.specs.Ring.{sent, received, known_free, known_items, SameProducer, SameConsumer, IsPair}
+use Rattle.rtrb.specs.Ring.{sent, received, producer_capacity, known_free, known_items, SameProducer, SameConsumer, IsPair}
 use Rattle.host_calls.specs.declared.ring.RingReply.{RingReply}
 use Rattle.host_calls.specs.declared.ring.RingReply.TheVariants.{Answer as Answered, Closed as Closing}
 use Rattle.host_calls.specs.declared.seat.SeatName.{SeatName}
@@ -64,10 +64,12 @@ module _ {C P : Type 0} where
     closed = d.closed;
   }
 
-  -- a seat and its desk before the first call
+  -- a seat and its desk before the first call: four places each way (our profile)
   pub record IsFresh (s : Seat C P) (d : Desk C P) (number : ℕ) : Type 0 where
     pub calls : IsPair s.calls d.calls
     pub replies : IsPair d.replies s.replies
+    pub call_places : producer_capacity s.calls ≡ 4
+    pub reply_places : producer_capacity d.replies ≡ 4
     pub staged : staged s ≡ []
     pub collected : collected s ≡ []
     pub unclosed : is_closed s ≡ false

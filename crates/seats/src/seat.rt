@@ -1,5 +1,5 @@
 // Who sits at a seat: its calls go out, its replies come in.
-ghost use Rattle.std.specs.Prelude.{◌≡◌, [], ◌∷◌, ◌++◌, length, false, true, None, OnOk, OnErr, IfOk, IfErr, IfSome};
+ghost use Rattle.std.specs.Prelude.{◌≡◌, [], ◌∷◌, ◌++◌, length, false, true, None, OnOk, OnErr, IfOk, IfErr, IfSome, IsErr};
 ghost use Rattle.seats.specs.Seats.{seat_number, staged, collected, is_closed, closed_by, IsFull, HasNothing, SameSeat};
 ghost use Rattle.host_calls.specs.declared.ring.RingReply.TheVariants.{Answer as Answered, Closed as Closing};
 
@@ -110,6 +110,7 @@ impl<C: Drop, P: Protocol<RingReply>> Seat<C, P> {
             → (staged self.new ≡ staged self.old ++ call ∷ []) × (collected self.new ≡ collected self.old ++ Closing ∷ [])) }
         ensures open { OnOk result (is_closed self.new ≡ is_closed self.old) }
         ensures ended { OnErr result (is_closed self.new ≡ true) }
+        ensures shut { is_closed self.old ≡ true → IsErr result }
     {
         if self.closed {
             return Err(Closed);

@@ -1,6 +1,7 @@
 use Rattle.std.proofs.Math.Logic.{∥∥₁_map}
 use Rattle.core_desks.specs.Desks.{rows, lasts}
 use Rattle.core_desks.proofs.Same.{desks-none}
+use Rattle.core_desks.proofs.Waiting.{few-devices}
 use Rattle.host_rings.proofs.Accounts.{kept-any, named-any, shut-last}
 use Rattle.host_rings.proofs.turns.Core.turn.Goals as goal
 
@@ -14,7 +15,7 @@ invariant_of-self c =
     let report = c.take_turn-starved.result.report in
     let turn = c.take_turn-starved.ensures in
     record {
-      kept = ∥∥₁_map was.kept (λ h. kept-any (lasts was.desks) was.book now.book (rows was.desks) (rows now.desks) report.answered report.dispatched report.ended (λ e. (turn.turn e).0) turn.last was.named h);
+      kept = ∥∥₁_map was.kept (λ h. kept-any (lasts was.desks) was.book now.book (rows was.desks) (rows now.desks) report.answered report.dispatched report.ended (λ e. (turn.turn e).0) turn.last (few-devices was.desks) was.named h);
       named = named-any (lasts was.desks) was.book now.book (rows was.desks) (rows now.desks) report.answered report.dispatched report.ended (λ e. (turn.turn e).0) turn.last was.named;
       ready = turn.ready;
       shut = λ e. shut-last was.book now.book (rows was.desks) (rows now.desks) report.answered report.dispatched (turn.last e);
