@@ -19,6 +19,9 @@ use std::thread::{self, Threads};
 // How many times a client asks.
 const ASKS: u64 = 1000;
 
+// So often a client gives its processor away before it collects. A core that has nothing to do sleeps long before that.
+const YIELDS: u32 = 100_000;
+
 // What came of it all: how many calls of clients were answered, and how many of those accepted; how many were left, and how many
 // replies not collected; whether the operator heard of the end; and how many entries of the journal are a client's, and another's.
 #[derive(Clone, Copy, Debug, PartialEq)]
@@ -278,5 +281,50 @@ fn four_clients_at_once(rt: HostRuntime) -> Result<(), Fail> {
         entries: (4, 0),
     };
     assert_eq!(rt; tallied(&rt, rt.alloc())?, Some(all));
+    Ok(())
+}
+
+// Stages four calls, of which three find places for their answers; waits until the core is likely to sleep; and then collects all four.
+fn collect_late<R: Wait>(rt: &R, mut seat: Caller) {
+    for _ in 0..4u8 {
+        let _staged = seat.stage(ClientCall::Attach { group: 0, prio: 4 });
+    }
+    for _ in 0..YIELDS {
+        thread::yield_now();
+    }
+    let mut collected = 0u8;
+    for _ in rt.forever() {
+        if seat.collect().is_some() {
+            collected = collected.wrapping_add(1);
+        }
+        if collected == 4 {
+            return;
+        }
+        thread::yield_now();
+    }
+}
+
+// A core that sleeps until a reply is collected, and then the end. Gives whether the operator hears of it.
+fn woken<R: Threads + Sync + Wait>(rt: &R, alloc: Global) -> Result<bool, Fail> {
+    let config = Config::check(ConfigDraft::default())?;
+    let (core, mut callers, _devices, operator) = host(alloc, config, 64, 1)?;
+    let seat = callers.swap_remove(0);
+    let (_core, has_ended) = thread::join(
+        rt,
+        move || -> Core { run(rt, alloc, core) },
+        move || -> bool
+            requires { IsIdle operator }
+        {
+            collect_late(rt, seat);
+            stop(rt, operator).1
+        },
+    );
+    Ok(has_ended)
+}
+
+// A core that waits for a place is woken when a reply is collected.
+#[test]
+fn a_collected_reply_wakes_the_core(rt: HostRuntime) -> Result<(), Fail> {
+    assert_eq!(rt; woken(&rt, rt.alloc())?, true);
     Ok(())
 }

@@ -5,6 +5,7 @@ use host_rings::{Caller, Core, DeviceSeat, HostFault, OperatorSeat, host};
 use plain_machine::{Answer, DeviceCall, Reply};
 use sector_core::{Config, ConfigDraft, Op, Outcome, Range};
 use std::alloc::Global;
+use std::sync::Wait;
 use std::test::Fail;
 
 // Who sits at a seat.
@@ -349,6 +350,63 @@ fn a_fifth_call_comes_back(rt: HostRuntime) -> Result<(), Fail> {
         five_calls(rt.alloc())?,
         (placed, [1, 102, 102, 102, NOTHING])
     );
+    Ok(())
+}
+
+// Whom four turns answer: clients 3 and 0 have a call, then nobody has, then clients 4 and 2.
+fn order_of_visits(alloc: Global) -> Result<[Who; 4], Fail> {
+    let mut host = opened(alloc, 1)?;
+    let _third = stage(&mut host, Attach(3));
+    let _first = stage(&mut host, Attach(0));
+    let one = answered(host.core.turn(alloc).answered);
+    let two = answered(host.core.turn(alloc).answered);
+    let three = answered(host.core.turn(alloc).answered);
+    let _fourth = stage(&mut host, Attach(4));
+    let _second = stage(&mut host, Attach(2));
+    let four = answered(host.core.turn(alloc).answered);
+    Ok([one, two, three, four])
+}
+
+// The first visit is of client 0; and each turn begins after the seat that was answered last, also if one between answered nobody.
+#[test]
+fn visits_go_on_after_the_last(rt: HostRuntime) -> Result<(), Fail> {
+    assert_eq!(rt;
+        order_of_visits(rt.alloc())?,
+        [Client(0), Client(3), Nobody, Client(4)]
+    );
+    Ok(())
+}
+
+// How many entries a journal has, of the first ten.
+fn entries(core: &Core) -> u64 {
+    let mut count = 0u64;
+    for at in 0..10usize {
+        if core.entry(at).is_some() {
+            count = count.wrapping_add(1);
+        }
+    }
+    count
+}
+
+// How often a run shows its core, and how many entries it has then, added up. Three clients sit down, and the operator asks for the end.
+fn shown<R: Wait>(rt: &R, alloc: Global) -> Result<(u64, u64), Fail> {
+    let mut host = opened(alloc, 1)?;
+    for act in [Attach(0), Attach(1), Attach(2), Stop] {
+        let _staged = stage(&mut host, act);
+    }
+    let mut times = 0u64;
+    let mut sum = 0u64;
+    host.core.run_watched(rt, alloc, |core| {
+        times = times.wrapping_add(1);
+        sum = sum.wrapping_add(entries(core));
+    });
+    Ok((times, sum))
+}
+
+// After each turn, the last too: 1, 2, 3 and 3 entries.
+#[test]
+fn a_run_shows_its_core_after_each_turn(rt: HostRuntime) -> Result<(), Fail> {
+    assert_eq!(rt; shown(&rt, rt.alloc())?, (4, 9));
     Ok(())
 }
 
