@@ -1,7 +1,7 @@
 use Rattle.std.proofs.Common.{sym, subst}
 use Rattle.host_rings.specs.Settling.{core_of, IsCallerOf}
 use Rattle.host_rings.proofs.Seated.{caller-stays}
-use Rattle.ring_tests.proofs.threads.settle_all.Goals as goal
+use Rattle.ring_rounds.proofs.rounds.settle_all.Goals as goal
 
 pub settle_one-requires : goal.settle_one-requires
 settle_one-requires c = subst (λ core. IsCallerOf core c.args.done.first.0.seat) (sym c.finish-end.ensures) c.requires.0

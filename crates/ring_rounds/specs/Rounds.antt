@@ -3,8 +3,8 @@ use Rattle.seats.specs.Seats.{SameSeat}
 use Rattle.host_rings.specs.Opening.{IsIdle}
 use Rattle.host_rings.specs.Settling.{IsCallerOf, IsOperatorOf}
 use Rattle.host_rings.specs.declared.turns.Core.{Core}
-use Rattle.ring_tests.specs.declared.threads.Fresh.{Fresh}
-use Rattle.ring_tests.specs.declared.threads.Done.{Done}
+use Rattle.ring_rounds.specs.declared.rounds.Fresh.{Fresh}
+use Rattle.ring_rounds.specs.declared.rounds.Done.{Done}
 
 -- nothing has come to them
 abbrev pub AreFresh : Fresh → Type 0
