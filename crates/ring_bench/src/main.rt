@@ -12,7 +12,7 @@
 //! Words that are no numbers are passed over; with none, each of the four asks 25 times.
 //!
 //! ```text
-//! ring_bench               // 100 4 0 4
+//! ring_bench               // 100 4 0 18
 //! ring_bench 1000 16       // 16000
 //! ```
 

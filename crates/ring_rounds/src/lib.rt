@@ -11,7 +11,7 @@
 //!
 //! ```text
 //! four_clients(&rt, alloc, 25, 100)
-//!     // Some(Tally { answered: 100, accepted: 4, left: 0, uncollected: 4, has_ended: true, entries: (4, 0) })
+//!     // Some(Tally { answered: 100, accepted: 4, left: 0, uncollected: 18, has_ended: true, entries: (4, 0) })
 //! ```
 
 mod bare;
@@ -19,6 +19,7 @@ mod busy;
 mod held;
 mod opening;
 mod rounds;
+mod settling;
 
 pub use bare::bare_calls;
 pub use busy::{Round, many_clients};

@@ -1,7 +1,7 @@
 // A host over 64 sectors.
 ghost use Rattle.std.specs.Prelude.{IfSome};
 ghost use Rattle.host_rings.specs.Opening.{IsIdle, AreIdle};
-ghost use Rattle.host_rings.specs.Settling.{AreCallersOf, IsOperatorOf};
+ghost use Rattle.host_rings.specs.Settling.{AreCallersOf, AreDevicesOf, IsOperatorOf};
 
 use host_rings::{Caller, Core, DeviceSeat, OperatorSeat, host};
 use sector_core::{Config, ConfigDraft};
@@ -16,7 +16,7 @@ pub fn opened(
     history: u64,
 ) -> Option<(Core, Vec<Caller>, Vec<DeviceSeat>, OperatorSeat)>
     ensures idle { IfSome result (λ r. AreIdle r.1.items × AreIdle r.2.items × IsIdle r.3) }
-    ensures seated { IfSome result (λ r. AreCallersOf r.0 r.1.items × IsOperatorOf r.0 r.3) }
+    ensures seated { IfSome result (λ r. AreCallersOf r.0 r.1.items × AreDevicesOf r.0 r.2.items × IsOperatorOf r.0 r.3) }
 {
     let mut draft = ConfigDraft::default();
     draft.history_max = history;

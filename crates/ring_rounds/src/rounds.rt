@@ -4,12 +4,13 @@ ghost use Rattle.std.specs.Thread.{IsSync};
 ghost use Rattle.seats.specs.Seats.{SameSeat};
 ghost use Rattle.host_rings.specs.Cores.{SameSeats};
 ghost use Rattle.host_rings.specs.Opening.{IsIdle, AreIdle};
-ghost use Rattle.host_rings.specs.Settling.{AreCallersOf, IsCallerOf, IsOperatorOf, core_of};
-ghost use Rattle.ring_rounds.specs.Rounds.{AreFresh, AreSame, AreOf};
+ghost use Rattle.host_rings.specs.Settling.{AreCallersOf, IsCallerOf};
+ghost use Rattle.ring_rounds.specs.Rounds.{AreFresh, AreSame};
 
 use crate::opening::opened;
-use host_calls::{ClientCall, OperatorCall, SeatName};
-use host_rings::{Caller, Core, CoreEnd, OperatorSeat, SeatEnd, settle};
+use crate::settling::settle_all;
+use host_calls::{ClientCall, OperatorCall};
+use host_rings::{Caller, Core, OperatorSeat};
 use plain_machine::Answer;
 use std::alloc::Global;
 use std::sync::Wait;
@@ -34,10 +35,10 @@ pub struct Tally {
 
 // A seat that has asked, with how many answers it heard, and how many of those accepted.
 #[derive(Drop)]
-struct Asked {
-    seat: Caller,
-    answered: u64,
-    accepted: u64,
+pub struct Asked {
+    pub seat: Caller,
+    pub answered: u64,
+    pub accepted: u64,
 }
 
 // Asks again and again to sit down.
@@ -119,11 +120,11 @@ struct Fresh {
 
 // The same after their work; and whether the operator heard of the end.
 #[derive(Drop)]
-struct Done {
-    first: (Asked, Asked),
-    second: (Asked, Asked),
-    operator: OperatorSeat,
-    has_ended: bool,
+pub struct Done {
+    pub first: (Asked, Asked),
+    pub second: (Asked, Asked),
+    pub operator: OperatorSeat,
+    pub has_ended: bool,
 }
 
 // Four seats ask at once, and then the operator asks for the end.
@@ -176,64 +177,6 @@ fn work<R: Threads + Sync + Wait>(rt: &R, alloc: Global, core: Core, seats: Fres
     )
 }
 
-// Settles a client's seat with its core.
-fn settle_one(core: &mut CoreEnd, tally: &mut Tally, asked: Asked)
-    requires { IsCallerOf (core_of core.old) asked.seat }
-    ensures { SameSeats (core_of core.old) (core_of core.new) }
-{
-    tally.answered = tally.answered.wrapping_add(asked.answered);
-    tally.accepted = tally.accepted.wrapping_add(asked.accepted);
-    if let Ok(settled) = settle(SeatEnd::Caller(asked.seat.finish()), core) {
-        tally.left = tally.left.saturating_add(settled.left);
-        tally.uncollected = tally.uncollected.saturating_add(settled.uncollected);
-    }
-}
-
-fn settle_operator(core: &mut CoreEnd, tally: &mut Tally, seat: OperatorSeat)
-    requires { IsOperatorOf (core_of core.old) seat }
-{
-    if let Ok(settled) = settle(SeatEnd::Operator(seat.finish()), core) {
-        tally.left = tally.left.saturating_add(settled.left);
-        tally.uncollected = tally.uncollected.saturating_add(settled.uncollected);
-    }
-}
-
-// How many of the first ten entries of the journal are a client's, and how many another's.
-fn whose(core: &Core) -> (u64, u64) {
-    let mut clients = 0u64;
-    let mut others = 0u64;
-    for at in 0..10usize {
-        match core.entry(at) {
-            Some((SeatName::Client(_), _)) => clients = clients.wrapping_add(1),
-            Some(_) => others = others.wrapping_add(1),
-            None => {}
-        }
-    }
-    (clients, others)
-}
-
-// Settles all seats.
-fn settle_all(core: Core, done: Done) -> Tally
-    requires { AreOf core done }
-{
-    let entries = whose(&core);
-    let mut end = core.finish();
-    let mut tally = Tally {
-        answered: 0,
-        accepted: 0,
-        left: 0,
-        uncollected: 0,
-        has_ended: done.has_ended,
-        entries,
-    };
-    settle_one(&mut end, &mut tally, done.first.0);
-    settle_one(&mut end, &mut tally, done.first.1);
-    settle_one(&mut end, &mut tally, done.second.0);
-    settle_one(&mut end, &mut tally, done.second.1);
-    settle_operator(&mut end, &mut tally, done.operator);
-    tally
-}
-
 // A seat to which nothing has come, the last of these.
 fn last_of(core: &Core, callers: &mut Vec<Caller>) -> Option<Caller>
     requires idle { AreIdle callers.old.items }
@@ -254,7 +197,7 @@ pub fn four_clients<R: Threads + Sync + Wait>(
     asks: u64,
     history: u64,
 ) -> Option<Tally> {
-    let (core, mut callers, _devices, operator) = opened(alloc, history)?;
+    let (core, mut callers, devices, operator) = opened(alloc, history)?;
     let first = last_of(&core, &mut callers)?;
     let second = last_of(&core, &mut callers)?;
     let third = last_of(&core, &mut callers)?;
@@ -268,5 +211,5 @@ pub fn four_clients<R: Threads + Sync + Wait>(
         asks,
     };
     let (core, done) = work(rt, alloc, core, seats);
-    Some(settle_all(core, done))
+    Some(settle_all(core, done, callers, devices))
 }

@@ -17,14 +17,14 @@ const ASKS: u64 = 1000;
 const YIELDS: u32 = 100_000;
 
 // Each client sits down once; the other 999 times its seat is taken. So the journal has four entries, each a client's. What is not
-// collected is that the core has ended, once at each of the four.
+// collected is that the core has ended, once at each of 16 clients and 2 devices.
 #[test]
 fn four_clients_at_once(rt: HostRuntime) -> Result<(), Fail> {
     let all = Tally {
         answered: 4 * ASKS,
         accepted: 4,
         left: 0,
-        uncollected: 4,
+        uncollected: 18,
         has_ended: true,
         entries: (4, 0),
     };
