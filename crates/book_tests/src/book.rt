@@ -30,10 +30,14 @@ enum Act {
 
 use Act::{Attach, Dispatch, Entry, Hold, Read, Release, Requeue, Take, Undo};
 
+// The usual configuration. This has no clauses, so that nothing carries the limits of its numbers.
+fn usual() -> Result<Config, Fail> {
+    Ok(Config::check(ConfigDraft::default())?)
+}
+
 // A book before its first call.
 fn opened(alloc: Global) -> Result<Book, Fail> {
-    let config = Config::check(ConfigDraft::default())?;
-    Ok(Book::new(alloc, config, 64)?)
+    Ok(Book::new(alloc, usual()?, 64)?)
 }
 
 fn read(sector: u64) -> Call {

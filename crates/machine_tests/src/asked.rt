@@ -1,17 +1,18 @@
 // The calls of clients and of the operator, asked of a keeper.
+use crate::host::checked;
 use bytes::Bytes;
 use dispatch_core::{Answer, Reply, Step, Why};
 use history::{Call, ClientCall, Keeper, OperatorCall};
-use sector_core::{Config, ConfigDraft, Op, Range, Scheduler};
+use sector_core::{ConfigDraft, Op, Range, Scheduler};
 use std::alloc::Global;
+use std::process::Abort;
 use std::test::Fail;
 
 const TWO: Range = Range { start: 4, count: 2 };
 
 // A keeper before its first call.
 fn opened(alloc: Global) -> Result<Keeper, Fail> {
-    let config = Config::check(ConfigDraft::default())?;
-    Ok(Keeper::new(alloc, config, 8)?)
+    Ok(Keeper::new(alloc, checked(ConfigDraft::default())?, 8)?)
 }
 
 // The number of what was accepted, or of a refusal after 100, or of a wait after 200.
@@ -29,59 +30,80 @@ fn told(answer: &Answer) -> u64 {
     }
 }
 
-fn client(keeper: &mut Keeper, alloc: Global, seat: u8, call: ClientCall) -> u64 {
-    told(&keeper.call(alloc, &call.of_seat(seat)))
+// A client's call, in short.
+#[derive(Clone, Copy, Debug)]
+enum Ask {
+    // Sits down in the root group, with this priority.
+    Attach(u8),
+    // Stores two sectors in this session, and the same with one byte too few.
+    Store(u64),
+    StoreShort(u64),
+    // Reaps in this session.
+    Reap(u64),
+    Leave,
 }
 
-// Stop is 300.
-fn operator(keeper: &mut Keeper, alloc: Global, call: OperatorCall) -> u64 {
-    match call.into_call() {
-        Some(call) => told(&keeper.call(alloc, &call)),
-        None => 300,
-    }
+fn call_of(alloc: Global, ask: Ask) -> Result<ClientCall, Fail> {
+    Ok(match ask {
+        Ask::Attach(prio) => ClientCall::Attach { group: 0, prio },
+        Ask::Store(session) => store(alloc, session)?,
+        Ask::StoreShort(session) => store_of(session, Bytes::from_static(&[65; 1023])),
+        Ask::Reap(session) => ClientCall::Reap { session },
+        Ask::Leave => ClientCall::Leave { why: Why::Ended },
+    })
 }
 
 fn store(alloc: Global, session: u64) -> Result<ClientCall, Fail> {
-    store_of(session, Bytes::from_vec(vec![in alloc; 65u8; 1024]?)?)
+    Ok(store_of(session, Bytes::from_vec(vec![in alloc; 65u8; 1024]?)?))
 }
 
-fn store_of(session: u64, payload: Bytes) -> Result<ClientCall, Fail> {
-    Ok(ClientCall::Submit {
+fn store_of(session: u64, payload: Bytes) -> ClientCall {
+    ClientCall::Submit {
         session,
         op: Op::Store,
         range: TWO,
         payload,
-    })
+    }
+}
+
+fn client(keeper: &mut Keeper, alloc: Global, seat: u8, ask: Ask) -> Result<u64, Fail> {
+    Ok(told(&keeper.call(alloc, &call_of(alloc, ask)?.of_seat(seat))))
+}
+
+// Clients at these seats ask a new keeper so, one after the other, and each is answered so.
+fn clients(rt: &(impl Abort + AllocGlobal), all: &[(u8, Ask, u64)]) -> Result<(), Fail> {
+    let mut keeper = opened(rt.alloc())?;
+    for (seat, ask, answer) in all {
+        assert_eq!(rt;
+            client(&mut keeper, rt.alloc(), *seat, *ask)?,
+            *answer,
+            "{seat} {ask:?}"
+        );
+    }
+    Ok(())
 }
 
 #[test]
 fn clients_at_their_seats(rt: HostRuntime) -> Result<(), Fail> {
-    let alloc = rt.alloc();
-    let mut keeper = opened(alloc)?;
-    let attach = ClientCall::Attach { group: 0, prio: 8 };
-    assert_eq!(rt; client(&mut keeper, alloc, 5, attach), 108);
-    let attach = ClientCall::Attach { group: 0, prio: 7 };
-    assert_eq!(rt; client(&mut keeper, alloc, 5, attach), 1);
-    let reap = ClientCall::Reap { session: 1 };
-    assert_eq!(rt; client(&mut keeper, alloc, 2, reap), 103);
-    let leave = ClientCall::Leave { why: Why::Ended };
-    assert_eq!(rt; client(&mut keeper, alloc, 5, leave), 0);
-    Ok(())
+    let all = [
+        (5, Ask::Attach(8), 108),
+        (5, Ask::Attach(7), 1),
+        (2, Ask::Reap(1), 103),
+        (5, Ask::Leave, 0),
+    ];
+    clients(&rt, &all)
 }
 
 #[test]
 fn client_stores(rt: HostRuntime) -> Result<(), Fail> {
-    let alloc = rt.alloc();
-    let mut keeper = opened(alloc)?;
-    let attach = ClientCall::Attach { group: 0, prio: 4 };
-    assert_eq!(rt; client(&mut keeper, alloc, 0, attach), 1);
-    assert_eq!(rt; client(&mut keeper, alloc, 0, store(alloc, 2)?), 104);
-    let short = store_of(1, Bytes::from_static(&[65; 1023]))?;
-    assert_eq!(rt; client(&mut keeper, alloc, 0, short), 113);
-    assert_eq!(rt; client(&mut keeper, alloc, 0, store(alloc, 1)?), 2);
-    let reap = ClientCall::Reap { session: 1 };
-    assert_eq!(rt; client(&mut keeper, alloc, 0, reap), 244);
-    Ok(())
+    let all = [
+        (0, Ask::Attach(4), 1),
+        (0, Ask::Store(2), 104),
+        (0, Ask::StoreShort(1), 113),
+        (0, Ask::Store(1), 2),
+        (0, Ask::Reap(1), 244),
+    ];
+    clients(&rt, &all)
 }
 
 // The payload of a store is that of its call.
@@ -102,59 +124,68 @@ fn payload_in_the_call(rt: HostRuntime) -> Result<(), Fail> {
     Ok(())
 }
 
+// Stop is 300.
+fn operator(keeper: &mut Keeper, alloc: Global, call: OperatorCall) -> u64 {
+    match call.into_call() {
+        Some(call) => told(&keeper.call(alloc, &call)),
+        None => 300,
+    }
+}
+
+// The operator asks a new keeper so, one call after the other, and each is answered so.
+fn operators(rt: &(impl Abort + AllocGlobal), all: &[(OperatorCall, u64)]) -> Result<(), Fail> {
+    let mut keeper = opened(rt.alloc())?;
+    for (call, answer) in all {
+        assert_eq!(rt;
+            operator(&mut keeper, rt.alloc(), *call),
+            *answer,
+            "{call:?}"
+        );
+    }
+    Ok(())
+}
+
 #[test]
 fn operator_makes_a_group(rt: HostRuntime) -> Result<(), Fail> {
-    let alloc = rt.alloc();
-    let mut keeper = opened(alloc)?;
     let make = OperatorCall::GroupMake {
         parent: 0,
         weight: 1000,
     };
-    assert_eq!(rt; operator(&mut keeper, alloc, make), 1);
     let weigh = OperatorCall::SetWeight {
         group: 1,
         weight: 1001,
     };
-    assert_eq!(rt; operator(&mut keeper, alloc, weigh), 107);
     let drop = OperatorCall::GroupDrop { group: 1 };
-    assert_eq!(rt; operator(&mut keeper, alloc, drop), 0);
-    assert_eq!(rt; operator(&mut keeper, alloc, drop), 105);
-    Ok(())
+    operators(&rt, &[(make, 1), (weigh, 107), (drop, 0), (drop, 105)])
 }
 
 #[test]
 fn operator_freezes_and_switches(rt: HostRuntime) -> Result<(), Fail> {
-    let alloc = rt.alloc();
-    let mut keeper = opened(alloc)?;
     let switch = OperatorCall::Switch {
         scheduler: Scheduler::Plain,
     };
-    assert_eq!(rt; operator(&mut keeper, alloc, switch), 123);
-    assert_eq!(rt; operator(&mut keeper, alloc, OperatorCall::Freeze), 0);
-    assert_eq!(rt; operator(&mut keeper, alloc, switch), 0);
-    assert_eq!(rt; operator(&mut keeper, alloc, OperatorCall::Thaw), 0);
-    assert_eq!(rt; operator(&mut keeper, alloc, OperatorCall::Tick), 126);
-    Ok(())
+    let all = [
+        (switch, 123),
+        (OperatorCall::Freeze, 0),
+        (switch, 0),
+        (OperatorCall::Thaw, 0),
+        (OperatorCall::Tick, 126),
+    ];
+    operators(&rt, &all)
 }
 
 #[test]
 fn operator_rewinds(rt: HostRuntime) -> Result<(), Fail> {
-    let alloc = rt.alloc();
-    let mut keeper = opened(alloc)?;
-    assert_eq!(rt; operator(&mut keeper, alloc, OperatorCall::Freeze), 0);
-    assert_eq!(rt; operator(&mut keeper, alloc, OperatorCall::Hold), 11);
-    assert_eq!(rt; operator(&mut keeper, alloc, OperatorCall::Thaw), 241);
-    assert_eq!(rt;
-        operator(&mut keeper, alloc, OperatorCall::Undo { k: 1 }),
-        1
-    );
-    assert_eq!(rt;
-        operator(&mut keeper, alloc, OperatorCall::Redo { k: 1 }),
-        11
-    );
-    assert_eq!(rt; operator(&mut keeper, alloc, OperatorCall::Release), 0);
-    assert_eq!(rt; operator(&mut keeper, alloc, OperatorCall::Stop), 300);
-    Ok(())
+    let all = [
+        (OperatorCall::Freeze, 0),
+        (OperatorCall::Hold, 11),
+        (OperatorCall::Thaw, 241),
+        (OperatorCall::Undo { k: 1 }, 1),
+        (OperatorCall::Redo { k: 1 }, 11),
+        (OperatorCall::Release, 0),
+        (OperatorCall::Stop, 300),
+    ];
+    operators(&rt, &all)
 }
 
 // Calls are compared by their fields.

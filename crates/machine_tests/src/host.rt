@@ -7,7 +7,16 @@ use std::test::Fail;
 
 // The configuration of a draft. This has no clauses, so that nothing carries the limits of its numbers.
 pub fn checked(draft: ConfigDraft) -> Result<Config, Fail> {
-    Ok(Config::check(draft)?)
+    match Config::check(draft) {
+        Ok(config) => Ok(config),
+        Err(_) => Err(Fail::from("a draft within the limits")),
+    }
+}
+
+// A keeper over an image of so many sectors.
+fn opened(alloc: Global, sectors: u32) -> Result<Keeper, Fail> {
+    let config = checked(ConfigDraft::default())?;
+    Ok(Keeper::new(alloc, config, u64::from(sectors))?)
 }
 
 #[derive(Drop)]
@@ -18,9 +27,9 @@ pub struct Host {
 impl Host {
     // Before its first step, with the default configuration, over an image of so many sectors.
     pub fn new(alloc: Global, sectors: u32) -> Result<Host, Fail> {
-        let config = checked(ConfigDraft::default())?;
-        let keeper = Keeper::new(alloc, config, u64::from(sectors))?;
-        Ok(Host { keeper })
+        Ok(Host {
+            keeper: opened(alloc, sectors)?,
+        })
     }
 
     // Makes a step, and tells the number of what was accepted, or of a refusal after 100, or of a wait after 200.

@@ -30,12 +30,17 @@ enum Staged {
     Operator(OperatorCall),
 }
 
+// The usual configuration, which is within its limits. This has no clauses, so that nothing carries the limits of its numbers.
+fn usual() -> Result<Config, AllocError> {
+    match Config::check(ConfigDraft::default()) {
+        Ok(config) => Ok(config),
+        Err(_) => Err(AllocError),
+    }
+}
+
 /// A host of 1,024 sectors, with two workers.
 pub fn opened(alloc: Global) -> Result<Host, AllocError> {
-    let Ok(config) = Config::check(ConfigDraft::default()) else {
-        return Err(AllocError);
-    };
-    let Ok((core, mut callers, mut devices, operator)) = host(alloc, config, 1024, 2) else {
+    let Ok((core, mut callers, mut devices, operator)) = host(alloc, usual()?, 1024, 2) else {
         return Err(AllocError);
     };
     Ok(Host {

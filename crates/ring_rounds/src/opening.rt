@@ -10,6 +10,17 @@ use std::alloc::Global;
 // How many workers it has.
 const WORKERS: u8 = 2;
 
+// The usual configuration, but with a history of so many calls; none if so many are no history. This has no clauses, so that nothing
+// carries the limits of its numbers.
+fn checked(history: u64) -> Option<Config> {
+    let mut draft = ConfigDraft::default();
+    draft.history_max = history;
+    match Config::check(draft) {
+        Ok(config) => Some(config),
+        Err(_) => None,
+    }
+}
+
 /// A host and its seats, with a history of so many calls; none if there is no memory for it, or so many are no history.
 pub fn opened(
     alloc: Global,
@@ -18,10 +29,7 @@ pub fn opened(
     ensures idle { IfSome result (λ r. AreIdle r.1.items × AreIdle r.2.items × IsIdle r.3) }
     ensures seated { IfSome result (λ r. AreCallersOf r.0 r.1.items × AreDevicesOf r.0 r.2.items × IsOperatorOf r.0 r.3) }
 {
-    let mut draft = ConfigDraft::default();
-    draft.history_max = history;
-    let config = Config::check(draft).ok()?;
-    match host(alloc, config, 64, WORKERS) {
+    match host(alloc, checked(history)?, 64, WORKERS) {
         Ok(made) => Some(made),
         Err(_) => None,
     }

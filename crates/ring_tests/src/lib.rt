@@ -6,7 +6,11 @@
 //! | `turns` | what each call of each kind of seat is answered, whom a turn answers, and when it dispatches, in one thread |
 //! | `settling` | what is left of a seat that ends before all is answered and collected |
 //! | `threads` | a core, four clients and the operator, each in a thread of its own |
+//!
+//! `config` has the configuration of their hosts.
 
+#[cfg(test)]
+mod config;
 #[cfg(test)]
 mod settling;
 #[cfg(test)]

@@ -1,9 +1,10 @@
 // Calls of all kinds of seat, one turn after each.
+use crate::config::usual;
 use bytes::Bytes;
 use host_calls::{ClientCall, OperatorCall, RingReply, SeatName};
 use host_rings::{Caller, Core, DeviceSeat, HostFault, OperatorSeat, host};
 use plain_machine::{Answer, DeviceCall, Reply};
-use sector_core::{Config, ConfigDraft, Op, Outcome, Range};
+use sector_core::{Op, Outcome, Range};
 use std::alloc::Global;
 use std::sync::Wait;
 use std::test::Fail;
@@ -53,8 +54,7 @@ struct Host {
 }
 
 fn opened(alloc: Global, workers: u8) -> Result<Host, Fail> {
-    let config = Config::check(ConfigDraft::default())?;
-    let (core, callers, devices, operator) = host(alloc, config, 64, workers)?;
+    let (core, callers, devices, operator) = host(alloc, usual()?, 64, workers)?;
     Ok(Host {
         core,
         callers,
@@ -412,8 +412,7 @@ fn a_run_shows_its_core_after_each_turn(rt: HostRuntime) -> Result<(), Fail> {
 
 // Whether a host with so many workers is refused for them.
 fn is_bad(alloc: Global, workers: u8) -> Result<bool, Fail> {
-    let config = Config::check(ConfigDraft::default())?;
-    match host(alloc, config, 64, workers) {
+    match host(alloc, usual()?, 64, workers) {
         Ok(_) => Ok(false),
         Err(why) => Ok(why == HostFault::BadWorkers),
     }

@@ -52,12 +52,17 @@ fn stream(alloc: Global, frames: u64) -> Result<Vec<u8>, AllocError> {
     Ok(stream)
 }
 
-// A keeper of 1,024 sectors. The usual configuration is within its limits.
+// The usual configuration, which is within its limits. This has no clauses, so that nothing carries the limits of its numbers.
+fn usual() -> Result<Config, AllocError> {
+    match Config::check(ConfigDraft::default()) {
+        Ok(config) => Ok(config),
+        Err(_) => Err(AllocError),
+    }
+}
+
+// A keeper of 1,024 sectors.
 fn solo(alloc: Global) -> Result<Solo, AllocError> {
-    let Ok(config) = Config::check(ConfigDraft::default()) else {
-        return Err(AllocError);
-    };
-    match Keeper::new(alloc, config, 1024) {
+    match Keeper::new(alloc, usual()?, 1024) {
         Ok(keeper) => Ok(Solo(keeper)),
         Err(OutOfMemory) => Err(AllocError),
     }

@@ -1,10 +1,10 @@
 // Over a keeper itself, and frames that are longer than a piece.
-use crate::run::front;
+use crate::run::{checked, front};
 use bytes::Bytes;
 use failing_io::{Narrow, Pieces};
 use history::{Call, ClientCall, Closed, Keeper};
 use plain_machine::{Answer, Reply, Step};
-use sector_core::{Config, ConfigDraft, Op, Outcome, Range};
+use sector_core::{ConfigDraft, Op, Outcome, Range};
 use session_serve::{Asks, EndCause, serve};
 use session_solo::Solo;
 use std::alloc::Global;
@@ -19,8 +19,11 @@ const ATTACHED: [u8; 13] = [0, 0, 0, 9, 0x81, 0, 0, 0, 0, 0, 0, 0, 1];
 const MOST_BYTES: usize = 32_768;
 
 fn opened(alloc: Global) -> Result<Solo, Fail> {
-    let config = Config::check(ConfigDraft::default())?;
-    Ok(Solo(Keeper::new(alloc, config, 1024)?))
+    Ok(Solo(Keeper::new(
+        alloc,
+        checked(ConfigDraft::default())?,
+        1024,
+    )?))
 }
 
 // A keeper with a read of 64 sectors that is completed, as bio 2 of session 1.

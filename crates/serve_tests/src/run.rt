@@ -73,14 +73,18 @@ pub fn front(bytes: &[u8], count: usize) -> &[u8] {
     }
 }
 
+// The configuration of a draft. This has no clauses, so that nothing carries the limits of its numbers.
+pub fn checked(draft: ConfigDraft) -> Result<Config, Fail> {
+    Ok(Config::check(draft)?)
+}
+
 // A keeper of 1,024 sectors.
 fn opened(alloc: Global, setup: &Setup) -> Result<Heard, Fail> {
     let draft = ConfigDraft {
         history_max: setup.history,
         ..ConfigDraft::default()
     };
-    let config = Config::check(draft)?;
-    let mut keeper = Keeper::new(alloc, config, 1024)?;
+    let mut keeper = Keeper::new(alloc, checked(draft)?, 1024)?;
     if setup.is_seated {
         let attach = ClientCall::Attach { group: 0, prio: 4 };
         keeper.call(alloc, &attach.of_seat(0));
