@@ -31,8 +31,12 @@ enum Act {
 use Act::{Attach, Dispatch, Entry, Hold, Read, Release, Requeue, Take, Undo};
 
 // The usual configuration. This has no clauses, so that nothing carries the limits of its numbers.
+// A match costs a proof less than `?`, which makes a text of the fault.
 fn usual() -> Result<Config, Fail> {
-    Ok(Config::check(ConfigDraft::default())?)
+    match Config::check(ConfigDraft::default()) {
+        Ok(config) => Ok(config),
+        Err(_) => Err(Fail::from("a configuration within its limits")),
+    }
 }
 
 // A book before its first call.

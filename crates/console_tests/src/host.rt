@@ -18,8 +18,12 @@ pub fn opened(alloc: Global, sectors: u64) -> Result<Keeper, Fail> {
 }
 
 // The configuration of a draft. This has no clauses, so that nothing carries the limits of its numbers.
+// A match costs a proof less than `?`, which makes a text of the fault.
 fn checked(draft: ConfigDraft) -> Result<Config, Fail> {
-    Ok(Config::check(draft)?)
+    match Config::check(draft) {
+        Ok(config) => Ok(config),
+        Err(_) => Err(Fail::from("a configuration within its limits")),
+    }
 }
 
 /// A keeper that a script is run at.

@@ -6,10 +6,11 @@ use std::alloc::Global;
 use std::test::Fail;
 
 // The configuration of a draft. This has no clauses, so that nothing carries the limits of its numbers.
+// A match costs a proof less than `?`, which makes a text of the fault.
 pub fn checked(draft: ConfigDraft) -> Result<Config, Fail> {
     match Config::check(draft) {
         Ok(config) => Ok(config),
-        Err(_) => Err(Fail::from("a draft within the limits")),
+        Err(_) => Err(Fail::from("a configuration within its limits")),
     }
 }
 

@@ -7,10 +7,10 @@
 //! | `settling` | what is left of a seat that ends before all is answered and collected |
 //! | `threads` | a core, four clients and the operator, each in a thread of its own |
 //!
-//! `config` has the configuration of their hosts.
+//! `opening` has their hosts.
 
 #[cfg(test)]
-mod config;
+mod opening;
 #[cfg(test)]
 mod settling;
 #[cfg(test)]

@@ -2,10 +2,10 @@
 ghost use Rattle.seats.specs.Seats.{SameSeat};
 ghost use Rattle.host_rings.specs.Cores.{SameSeats};
 
-use crate::config::usual;
+use crate::opening::opened;
 use bytes::Bytes;
 use host_calls::{ClientCall, OperatorCall};
-use host_rings::{Caller, Core, SeatEnd, Settled, host, settle};
+use host_rings::{Caller, Core, SeatEnd, Settled, settle};
 use plain_machine::DeviceCall;
 use sector_core::{Op, Range};
 use std::alloc::Global;
@@ -50,7 +50,7 @@ fn collect_all(seat: &mut Caller, collects: u8)
 
 // What is left of client 0, which sat down and asked for two reads, after so many turns and so many collected replies.
 fn left(alloc: Global, turns: u8, collects: u8) -> Result<Option<Settled>, Fail> {
-    let (mut core, mut callers, _devices, _operator) = host(alloc, usual()?, 64, 1)?;
+    let (mut core, mut callers, _devices, _operator) = opened(alloc, 1)?;
     let mut seat = callers.swap_remove(0);
     stage_all(&mut seat);
     take_turns(alloc, &mut core, turns);
@@ -60,7 +60,7 @@ fn left(alloc: Global, turns: u8, collects: u8) -> Result<Option<Settled>, Fail>
 
 // What is left of device 0, which asked for the work of another, after so many turns.
 fn left_of_device(alloc: Global, turns: u8) -> Result<Option<Settled>, Fail> {
-    let (mut core, _callers, mut devices, _operator) = host(alloc, usual()?, 64, 1)?;
+    let (mut core, _callers, mut devices, _operator) = opened(alloc, 1)?;
     let mut seat = devices.swap_remove(0);
     let _staged = seat.stage(DeviceCall::Take { worker: 1 });
     take_turns(alloc, &mut core, turns);
@@ -69,7 +69,7 @@ fn left_of_device(alloc: Global, turns: u8) -> Result<Option<Settled>, Fail> {
 
 // What is left of the operator's seat, which asked for the end, after so many turns.
 fn left_of_operator(alloc: Global, turns: u8) -> Result<Option<Settled>, Fail> {
-    let (mut core, _callers, _devices, mut seat) = host(alloc, usual()?, 64, 1)?;
+    let (mut core, _callers, _devices, mut seat) = opened(alloc, 1)?;
     let _staged = seat.stage(OperatorCall::Stop);
     take_turns(alloc, &mut core, turns);
     Ok(settle(SeatEnd::Operator(seat.finish()), &mut core.finish()).ok())

@@ -1,9 +1,9 @@
 // A core with its clients and the operator, each in a thread of its own.
 ghost use Rattle.host_rings.specs.Opening.{IsIdle};
 
-use crate::config::usual;
+use crate::opening::opened;
 use host_calls::ClientCall;
-use host_rings::{Caller, Core, host};
+use host_rings::{Caller, Core};
 use ring_rounds::{Tally, four_clients, run, stop};
 use std::alloc::Global;
 use std::sync::Wait;
@@ -54,7 +54,7 @@ fn collect_late<R: Wait>(rt: &R, mut seat: Caller) {
 
 // A core that sleeps until a reply is collected, and then the end. Gives whether the operator hears of it.
 fn woken<R: Threads + Sync + Wait>(rt: &R, alloc: Global) -> Result<bool, Fail> {
-    let (core, mut callers, _devices, operator) = host(alloc, usual()?, 64, 1)?;
+    let (core, mut callers, _devices, operator) = opened(alloc, 1)?;
     let seat = callers.swap_remove(0);
     let (_core, has_ended) = thread::join(
         rt,

@@ -1,5 +1,5 @@
 // Calls of all kinds of seat, one turn after each.
-use crate::config::usual;
+use crate::opening::{opened, usual};
 use bytes::Bytes;
 use host_calls::{ClientCall, OperatorCall, RingReply, SeatName};
 use host_rings::{Caller, Core, DeviceSeat, HostFault, OperatorSeat, host};
@@ -53,8 +53,8 @@ struct Host {
     operator: OperatorSeat,
 }
 
-fn opened(alloc: Global, workers: u8) -> Result<Host, Fail> {
-    let (core, callers, devices, operator) = host(alloc, usual()?, 64, workers)?;
+fn seated(alloc: Global, workers: u8) -> Result<Host, Fail> {
+    let (core, callers, devices, operator) = opened(alloc, workers)?;
     Ok(Host {
         core,
         callers,
@@ -228,7 +228,7 @@ fn first_other(
     acts: &[(Act, Row)],
     more: &[(Act, Row)],
 ) -> Result<Option<(usize, Row)>, Fail> {
-    let mut host = opened(alloc, workers)?;
+    let mut host = seated(alloc, workers)?;
     for (number, (act, wanted)) in acts.iter().chain(more).enumerate() {
         let got = after_turn(&mut host, alloc, *act);
         if got != *wanted {
@@ -330,7 +330,7 @@ fn calls_of_all_seats(rt: HostRuntime) -> Result<(), Fail> {
 
 // Whether each of five calls of one client finds a place, and what the client collects after so many turns.
 fn five_calls(alloc: Global) -> Result<([bool; 5], [u64; 5]), Fail> {
-    let mut host = opened(alloc, 1)?;
+    let mut host = seated(alloc, 1)?;
     let mut placed = [true; 5];
     for place in &mut placed {
         *place = stage(&mut host, Attach(2));
@@ -355,7 +355,7 @@ fn a_fifth_call_comes_back(rt: HostRuntime) -> Result<(), Fail> {
 
 // Whom four turns answer: clients 3 and 0 have a call, then nobody has, then clients 4 and 2.
 fn order_of_visits(alloc: Global) -> Result<[Who; 4], Fail> {
-    let mut host = opened(alloc, 1)?;
+    let mut host = seated(alloc, 1)?;
     let _third = stage(&mut host, Attach(3));
     let _first = stage(&mut host, Attach(0));
     let one = answered(host.core.turn(alloc).answered);
@@ -390,7 +390,7 @@ fn entries(core: &Core) -> u64 {
 
 // How often a run shows its core, and how many entries it has then, added up. Three clients sit down, and the operator asks for the end.
 fn shown<R: Wait>(rt: &R, alloc: Global) -> Result<(u64, u64), Fail> {
-    let mut host = opened(alloc, 1)?;
+    let mut host = seated(alloc, 1)?;
     for act in [Attach(0), Attach(1), Attach(2), Stop] {
         let _staged = stage(&mut host, act);
     }

@@ -74,8 +74,12 @@ pub fn front(bytes: &[u8], count: usize) -> &[u8] {
 }
 
 // The configuration of a draft. This has no clauses, so that nothing carries the limits of its numbers.
+// A match costs a proof less than `?`, which makes a text of the fault.
 pub fn checked(draft: ConfigDraft) -> Result<Config, Fail> {
-    Ok(Config::check(draft)?)
+    match Config::check(draft) {
+        Ok(config) => Ok(config),
+        Err(_) => Err(Fail::from("a configuration within its limits")),
+    }
 }
 
 // A keeper of 1,024 sectors.
