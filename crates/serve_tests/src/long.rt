@@ -19,11 +19,7 @@ const ATTACHED: [u8; 13] = [0, 0, 0, 9, 0x81, 0, 0, 0, 0, 0, 0, 0, 1];
 const MOST_BYTES: usize = 32_768;
 
 fn opened(alloc: Global) -> Result<Solo, Fail> {
-    Ok(Solo(Keeper::new(
-        alloc,
-        checked(ConfigDraft::default())?,
-        1024,
-    )?))
+    Ok(Solo(Keeper::new(alloc, checked(ConfigDraft::default())?, 1024)?))
 }
 
 // A keeper with a read of 64 sectors that is completed, as bio 2 of session 1.
