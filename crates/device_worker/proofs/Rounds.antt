@@ -1,0 +1,90 @@
+-- Rounds, one after the other.
+use Rattle.std.proofs.Common.{◌≡◌, ℕ, List, [], ◌∷◌, ◌++◌, Option, None, Some, map, refl, ap, sym, subst, ◌∙◌, append_assoc, append-nil}
+use Rattle.std.proofs.lemmas.List.{map-append}
+use Rattle.base_image.specs.Image.{Disk}
+use Rattle.device_engine.specs.Work.{Works}
+use Rattle.host_calls.specs.declared.ring.RingReply.{RingReply}
+use Rattle.host_calls.specs.declared.ring.RingReply.TheVariants.{Answer as Answered}
+use Rattle.plain_machine.specs.declared.answer.Answer.TheVariants.{Accepted}
+use Rattle.plain_machine.specs.declared.answer.Reply.TheVariants.{Taken}
+use Rattle.plain_machine.specs.declared.answer.Work.{Work}
+use Rattle.plain_machine.specs.declared.call.DeviceCall.{DeviceCall}
+use Rattle.plain_machine.specs.declared.call.DeviceCall.TheVariants.{Take, Finish, Requeue}
+use Rattle.seats.specs.Seats.{SameSeat, seat_number, staged, collected}
+use Rattle.device_worker.specs.Working.{Device, Exchange, Does, DoesAll, HasDone, IsRound, IsMade, handed_out}
+
+-- the work that was handed out last
+abbrev last_taken : Option Work → List Exchange → Option Work
+last_taken taken [] = taken
+last_taken taken (e ∷ rest) = last_taken (handed_out e.1) rest
+
+does-more : (number : ℕ) (taken : Option Work) (before middle after : Disk) (xs ys : List Exchange) → DoesAll number taken before xs middle
+    → DoesAll number (last_taken taken xs) middle ys after → DoesAll number taken before (xs ++ ys) after
+does-more number taken before middle after [] ys first then = subst (λ d. DoesAll number taken d ys after) first then
+does-more number taken before middle after (e ∷ rest) ys first then =
+    (first.0, first.1, does-more number (handed_out e.1) first.0 middle after rest ys first.2 then)
+
+-- what is added at the end of a list, and then of that
+added : {A : Type 0} (one two three xs ys : List A) → two ≡ one ++ xs → three ≡ two ++ ys → three ≡ one ++ (xs ++ ys)
+added one two three xs ys first then = then ∙ ap (λ l. l ++ ys) first ∙ append_assoc one xs ys
+
+-- what a call does where its work was taken last
+works-does : (number : ℕ) (work : Work) (before after : Disk) (call : DeviceCall) → Works before work call after → Does number (Some work) before call after
+works-does number work before after (Take worker) works = elim works [ ]
+works-does number work before after (Finish tag issue outcome) works = works
+works-does number work before after (Requeue tag issue) works = works
+
+-- a worker goes on with one more round
+module _ (taken : Option Work) (s t u : Device) (before middle after : Disk) where
+  pub done-more : HasDone taken s before t middle → IsRound t middle u after → seat_number t ≡ seat_number s → HasDone taken s before u after
+  done-more was round same =
+      let more = round (last_taken taken was.exchanges) in record {
+        exchanges = was.exchanges ++ more.exchanges;
+        calls = added (staged s) (staged t) (staged u) (map (λ e. e.0) was.exchanges) (map (λ e. e.0) more.exchanges) was.calls more.calls
+            ∙ ap (λ xs. staged s ++ xs) (sym (map-append (λ e. e.0) was.exchanges more.exchanges));
+        replies = added (collected s) (collected t) (collected u) (map (λ e. e.1) was.exchanges) (map (λ e. e.1) more.exchanges) was.replies more.replies
+            ∙ ap (λ xs. collected s ++ xs) (sym (map-append (λ e. e.1) was.exchanges more.exchanges));
+        does = does-more (seat_number s) taken before middle after was.exchanges more.exchanges was.does
+            (subst (λ n. DoesAll n (last_taken taken was.exchanges) middle more.exchanges after) same more.does);
+      }
+
+-- a worker that has done nothing yet
+pub nothing-done : (s : Device) (disk : Disk) → HasDone None s disk s disk
+nothing-done s disk = record {
+  exchanges = [];
+  calls = sym (append-nil (staged s));
+  replies = sym (append-nil (collected s));
+  does = refl;
+}
+
+-- work was told
+pub told : (s t : Device) (work : Work) (call : DeviceCall) (before after : Disk) → Works before work call after → IsMade call s t → HasDone (Some work) s before t after
+told s t work call before after works made = record {
+  exchanges = (call, made.0) ∷ [];
+  calls = made.1;
+  replies = made.2;
+  does = (after, works-does (seat_number s) work before after call works, refl);
+}
+
+-- work was asked for, and not told
+module _ (s m t : Device) (number : ℕ) (reply : RingReply) (before after : Disk) where
+  pub asked : number ≡ seat_number s → staged m ≡ staged s ++ Take number ∷ [] → collected m ≡ collected s ++ reply ∷ [] → IsRound s before m before
+  asked own calls replies = λ taken. record {
+    exchanges = (Take number, reply) ∷ [];
+    calls = calls;
+    replies = replies;
+    does = (before, (own, refl), refl);
+  }
+
+  -- and then told
+  pub asked-told : number ≡ seat_number s → staged m ≡ staged s ++ Take number ∷ [] → collected m ≡ collected s ++ reply ∷ []
+      → seat_number m ≡ seat_number s → HasDone (handed_out reply) m before t after → IsRound s before t after
+  asked-told own calls replies same then = λ taken. record {
+    exchanges = (Take number, reply) ∷ then.exchanges;
+    calls = added (staged s) (staged m) (staged t) (Take number ∷ []) (map (λ e. e.0) then.exchanges) calls then.calls;
+    replies = added (collected s) (collected m) (collected t) (reply ∷ []) (map (λ e. e.1) then.exchanges) replies then.replies;
+    does = (before, (own, refl), subst (λ n. DoesAll n (handed_out reply) before then.exchanges after) same then.does);
+  }
+
+pub seat-twice : (a b c : Device) → SameSeat a b → SameSeat b c → SameSeat a c
+seat-twice a b c first then = search

@@ -1,0 +1,24 @@
+use Rattle.std.proofs.Common.{None, subst, sym}
+use Rattle.device_worker.specs.Working.{IsGoing}
+use Rattle.device_worker.proofs.Rounds.{done-more, seat-twice}
+use Rattle.device_worker.proofs.worker.run_worker.Goals as goal
+
+pub loop-preserved-in-Told : goal.loop-preserved-in-Told
+loop-preserved-in-Told g c = (
+  c.work.ensures.open (subst IsGoing (sym c.in-Told.is) tt),
+  seat-twice c.args.seat.now c.loop.seat c.work.new.seat c.loop.invariant.1 c.work.ensures.seat,
+  done-more None c.args.seat.now c.loop.seat c.work.new.seat (g.I.Image.disk c.args.image.now) (g.I.Image.disk c.loop.image)
+      (g.I.Image.disk c.work.new.image) c.loop.invariant.2 c.work.ensures.round c.loop.invariant.1.2,
+)
+
+pub loop-preserved : goal.loop-preserved
+loop-preserved g c = (
+  c.work.ensures.open (subst IsGoing (sym c.in-Waits.is) tt),
+  seat-twice c.args.seat.now c.loop.seat c.work.new.seat c.loop.invariant.1 c.work.ensures.seat,
+  done-more None c.args.seat.now c.loop.seat c.work.new.seat (g.I.Image.disk c.args.image.now) (g.I.Image.disk c.loop.image)
+      (g.I.Image.disk c.work.new.image) c.loop.invariant.2 c.work.ensures.round c.loop.invariant.1.2,
+)
+
+pub returns-in-Ended-clause-works : goal.returns-in-Ended-clause-works
+returns-in-Ended-clause-works g c = done-more None c.args.seat.now c.loop.seat c.work.new.seat (g.I.Image.disk c.args.image.now)
+    (g.I.Image.disk c.loop.image) (g.I.Image.disk c.work.new.image) c.loop.invariant.2 c.work.ensures.round c.loop.invariant.1.2

@@ -1,0 +1,23 @@
+use Rattle.std.proofs.Common.{[], ◌∷◌, ◌++◌, ap, ◌∙◌}
+use Rattle.host_calls.specs.declared.ring.RingReply.TheVariants.{Answer as Answered}
+use Rattle.plain_machine.specs.declared.answer.Answer.TheVariants.{Accepted}
+use Rattle.plain_machine.specs.declared.answer.Reply.TheVariants.{Taken}
+use Rattle.seats.specs.Seats.{collected}
+use Rattle.device_worker.proofs.Rounds.{asked, asked-told}
+use Rattle.device_worker.proofs.worker.work.Goals as goal
+
+pub returns-in-Answer-Accepted-Taken-clause-round : goal.returns-in-Answer-Accepted-Taken-clause-round
+returns-in-Answer-Accepted-Taken-clause-round g c =
+    let work = c.in-Answer-Accepted-Taken in
+    let is = work.is ∙ ap Answered (work.field-0-is ∙ ap Accepted work.field-0-0-is) in
+    asked-told c.args.seat.now c.exchange.new.seat c.done.new.seat c.number-worker.result (Answered (Accepted (Taken work.work)))
+    (g.I.Image.disk c.args.image.now) (g.I.Image.disk c.done.new.image) c.number-worker.ensures c.exchange.ensures.made.0
+    (c.exchange.ensures.made.1 ∙ ap (λ r. collected c.args.seat.now ++ r ∷ []) is) c.exchange.ensures.seat.2 c.done.ensures.told
+
+pub returns-in-Answer-clause-round : goal.returns-in-Answer-clause-round
+returns-in-Answer-clause-round g c = asked c.args.seat.now c.exchange.new.seat c.exchange.new.seat c.number-worker.result c.exchange.result
+    (g.I.Image.disk c.args.image.now) (g.I.Image.disk c.args.image.now) c.number-worker.ensures c.exchange.ensures.made.0 c.exchange.ensures.made.1
+
+pub returns-clause-round : goal.returns-clause-round
+returns-clause-round g c = asked c.args.seat.now c.exchange.new.seat c.exchange.new.seat c.number-worker.result c.exchange.result
+    (g.I.Image.disk c.args.image.now) (g.I.Image.disk c.args.image.now) c.number-worker.ensures c.exchange.ensures.made.0 c.exchange.ensures.made.1

@@ -1,0 +1,85 @@
+-- What a worker of a device does, call after call (our profile).
+use Rattle.std.specs.Prelude.{◌≡◌, ℕ, ◌-◌, ◌^◌, Bool, true, false, List, [], ◌∷◌, ◌++◌, length, Option, None, Some, map}
+use Rattle.rtrb.specs.declared.AnyItems.{AnyItems}
+use Rattle.base_image.specs.Image.{Disk}
+use Rattle.device_engine.specs.Work.{Works}
+use Rattle.host_calls.specs.declared.ring.RingReply.{RingReply}
+use Rattle.host_calls.specs.declared.ring.RingReply.TheVariants.{Answer as Answered, Closed as Closing}
+use Rattle.plain_machine.specs.declared.answer.Answer.TheVariants.{Accepted, Refused}
+use Rattle.plain_machine.specs.declared.answer.Code.TheVariants.{HistoryFull as NoHistory}
+use Rattle.device_worker.specs.declared.worker.WorkerEnd.{WorkerEnd}
+use Rattle.device_worker.specs.declared.worker.WorkerEnd.TheVariants.{Closed, Faults, HistoryFull}
+use Rattle.device_worker.specs.declared.worker.Round.{Round}
+use Rattle.device_worker.specs.declared.worker.Round.TheVariants.{Ended}
+use Rattle.plain_machine.specs.declared.answer.Reply.TheVariants.{Taken}
+use Rattle.plain_machine.specs.declared.answer.Work.{Work}
+use Rattle.plain_machine.specs.declared.call.DeviceCall.{DeviceCall}
+use Rattle.plain_machine.specs.declared.call.DeviceCall.TheVariants.{Take}
+use Rattle.seats.specs.Seats.{staged, collected, is_closed, seat_number}
+use Rattle.seats.specs.declared.seat.Seat.{Seat}
+
+-- the seat of a device
+abbrev pub Device : Type 0
+Device = Seat DeviceCall AnyItems
+
+-- the host has not ended, and every call was answered: so the next may be made
+abbrev pub IsOpen : Device → Type 0
+IsOpen s = (is_closed s ≡ false) × (length (staged s) ≡ length (collected s))
+
+-- the work that a reply hands out
+abbrev pub handed_out : RingReply → Option Work
+handed_out (Answered (Accepted (Taken work))) = Some work
+handed_out reply = None
+
+-- a call and its reply
+abbrev pub Exchange : Type 0
+Exchange = DeviceCall × RingReply
+
+-- where the seat's number is this and this work was taken last: a call asks for work under that number, and the image stays;
+-- or it tells what the image gave for that work
+abbrev pub Does : ℕ → Option Work → Disk → DeviceCall → Disk → Type 0
+Does number taken before (Take worker) after = (worker ≡ number) × (after ≡ before)
+Does number (Some work) before call after = Works before work call after
+Does number None before call after = ⊥
+
+-- so are all calls, one after the other
+abbrev pub DoesAll : ℕ → Option Work → Disk → List Exchange → Disk → Type 0
+DoesAll number taken before [] after = after ≡ before
+DoesAll number taken before (e ∷ rest) after =
+    (middle : Disk) × Does number taken before e.0 middle × DoesAll number (handed_out e.1) middle rest after
+
+-- from one state of a seat and of its image to another, where this work was taken last
+pub record HasDone (taken : Option Work) (s : Device) (before : Disk) (t : Device) (after : Disk) : Type 0 where
+  pub exchanges : List Exchange
+  pub calls : staged t ≡ staged s ++ map (λ e. e.0) exchanges
+  pub replies : collected t ≡ collected s ++ map (λ e. e.1) exchanges
+  pub does : DoesAll (seat_number s) taken before exchanges after
+
+-- why it ended: the host has; or its last call was refused, as the history is full
+abbrev pub IsEndOf : WorkerEnd → Device → Type 0
+IsEndOf Closed s = is_closed s ≡ true
+IsEndOf Faults s = ⊥
+IsEndOf HistoryFull s = (before : List RingReply) × (collected s ≡ before ++ Answered (Refused NoHistory) ∷ [])
+
+-- or its image has counted as many faults as it can
+abbrev pub IsWhy : WorkerEnd → Device → Disk → Type 0
+IsWhy Closed s disk = IsEndOf Closed s
+IsWhy Faults s disk = disk.faults ≡ 2 ^ 64 - 1
+IsWhy HistoryFull s disk = IsEndOf HistoryFull s
+
+-- whether a round is followed by another
+abbrev pub IsGoing : Round → Type 0
+IsGoing (Ended end) = ⊥
+IsGoing round = Unit {0}
+
+abbrev pub IfEnded : Round → (WorkerEnd → Type 0) → Type 0
+IfEnded (Ended end) P = P end
+IfEnded round P = Unit {0}
+
+-- one round, whatever was taken before it
+abbrev pub IsRound : Device → Disk → Device → Disk → Type 0
+IsRound s before t after = (taken : Option Work) → HasDone taken s before t after
+
+-- one call was made, and got a reply
+abbrev pub IsMade : DeviceCall → Device → Device → Type 0
+IsMade call s t = (reply : RingReply) × (staged t ≡ staged s ++ call ∷ []) × (collected t ≡ collected s ++ reply ∷ [])

@@ -1,0 +1,23 @@
+// How long a worker sleeps before it tries again.
+ghost use Rattle.std.specs.Prelude.{◌≤◌};
+
+use std::thread;
+use std::time::{Clock, Duration};
+
+/// The first pause, in milliseconds.
+pub const FIRST: u64 = 1;
+
+// The longest. A busy image then makes at most ten tries a second.
+const LONGEST: u64 = 100;
+
+/// The pause after one of so many milliseconds: twice as long, and no longer than the longest.
+pub fn longer(pause: u64) -> u64
+    ensures { result ≤ 100 }
+{
+    pause.saturating_mul(2).min(LONGEST)
+}
+
+/// Sleeps so many milliseconds.
+pub fn sleep(clock: &impl Clock, pause: u64) {
+    thread::sleep(clock, Duration::from_millis(pause));
+}
