@@ -55,16 +55,16 @@ pub record HasDone (taken : Option Work) (s : Device) (before : Disk) (t : Devic
   pub replies : collected t ≡ collected s ++ map (λ e. e.1) exchanges
   pub does : DoesAll (seat_number s) taken before exchanges after
 
--- why it ended: the host has; or its last call was refused, as the history is full
+-- why it ended: the host has; or its last call was refused, as the history is full, and the next may be made
 abbrev pub IsEndOf : WorkerEnd → Device → Type 0
 IsEndOf Closed s = is_closed s ≡ true
 IsEndOf Faults s = ⊥
-IsEndOf HistoryFull s = (before : List RingReply) × (collected s ≡ before ++ Answered (Refused NoHistory) ∷ [])
+IsEndOf HistoryFull s = IsOpen s × ((before : List RingReply) × (collected s ≡ before ++ Answered (Refused NoHistory) ∷ []))
 
--- or its image has counted as many faults as it can
+-- or its image has counted as many faults as it can, and the next call may be made
 abbrev pub IsWhy : WorkerEnd → Device → Disk → Type 0
 IsWhy Closed s disk = IsEndOf Closed s
-IsWhy Faults s disk = disk.faults ≡ 2 ^ 64 - 1
+IsWhy Faults s disk = IsOpen s × (disk.faults ≡ 2 ^ 64 - 1)
 IsWhy HistoryFull s disk = IsEndOf HistoryFull s
 
 -- whether a round is followed by another

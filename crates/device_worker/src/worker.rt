@@ -1,7 +1,6 @@
 // The rounds of a worker.
 ghost use Rattle.std.specs.Prelude.{◌≡◌, ◌-◌, ◌^◌, ◌<◌, [], ◌∷◌, ◌++◌, true, false, None, Some};
 ghost use Rattle.seats.specs.Seats.{staged, collected, is_closed, closed_by, SameSeat};
-ghost use Rattle.host_rings.specs.Opening.{IsIdle};
 ghost use Rattle.device_worker.specs.Working.{HasDone, IsOpen, IsRound, IsMade, IsGoing, IsWhy, IfEnded, IsEndOf};
 
 use crate::pauses::{FIRST, longer, sleep};
@@ -35,14 +34,15 @@ pub enum Round {
     Ended(WorkerEnd),
 }
 
-/// Takes work, does it and tells how it ended, again and again.
+/// Takes work, does it and tells how it ended, again and again. It asks that the host has not ended and no call of the seat is open. So it
+/// is then, too, if it ends for another reason than that the host has.
 pub fn run_worker<R: Wait + Clock, I: Image>(
     rt: &R,
     alloc: Global,
     seat: &mut DeviceSeat,
     image: &mut I,
 ) -> WorkerEnd
-    requires { IsIdle seat.old }
+    requires { IsOpen seat.old }
     ensures seat { SameSeat seat.old seat.new }
     ensures works { HasDone None seat.old (I.disk image.old) seat.new (I.disk image.new) }
     ensures why { IsWhy result seat.new (I.disk image.new) }
