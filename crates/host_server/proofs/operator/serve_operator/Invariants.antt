@@ -1,0 +1,10 @@
+use Rattle.std.proofs.Common.{◌≡◌, length}
+use Rattle.seats.specs.Seats.{SameSeat}
+use Rattle.host_server.specs.Operating.{IsBetween}
+use Rattle.host_server.proofs.operator.serve_operator.Given as goal
+
+abbrev pub invariant-loop : goal.invariant-loop
+invariant-loop g l = SameSeat l.initial.seat l.seat × IsBetween l.seat × (length l.piece ≡ 4096)
+
+abbrev pub invariant-loop-call : goal.invariant-loop-call
+invariant-loop-call g l = SameSeat l.initial.seat l.seat × IsBetween l.seat

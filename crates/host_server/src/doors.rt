@@ -1,0 +1,117 @@
+// The sockets of a server: their files are made when it starts, and removed when it ends.
+ghost use Rattle.std.specs.Prelude.{◌≡◌, ◌≤◌, length};
+
+use crate::server::ServeEnd;
+use std::alloc::{AllocError, Global};
+use std::fs::{self, Permissions};
+use std::io::{self, ErrorKind};
+use std::net::Net;
+use std::os::unix::fs::{FileTypeExt, PermissionsExt};
+use std::os::unix::net::{UnixListener, UnixStream};
+use std::rt::Files;
+
+// Who made a socket may use it, and nobody else.
+const OWNER_ALONE: u32 = 0o600;
+
+/// The sockets at which a server listens.
+#[derive(Drop)]
+pub struct Doors {
+    /// The operator's.
+    pub operator: UnixListener,
+    /// The clients', in the order of their seats.
+    pub clients: Vec<UnixListener>,
+}
+
+/// Opens the socket of the operator and those of so many clients in a folder. Each file that is made is noted, also if a later one
+/// fails. The operator's path comes first: a running server is met there, and there alone its clients don't notice.
+///
+/// # Errors
+///
+/// A path cannot be had, or there is no memory.
+pub fn open_doors<R: Files + Net>(
+    rt: &R,
+    alloc: Global,
+    dir: &str,
+    clients: u8,
+    made: &mut Vec<String>,
+) -> Result<Doors, ServeEnd> {
+    // Else the sockets would stand at the root of all files.
+    if dir.is_empty() {
+        return Err(ServeEnd::Socket);
+    }
+    let operator = open_door(rt, format!(in alloc; "{dir}/operator"), made)?;
+    let mut listeners = Vec::new(alloc);
+    for number in 0..clients {
+        let listener = open_door(rt, format!(in alloc; "{dir}/client{number}"), made)?;
+        if listeners.push(listener).is_err() {
+            return Err(ServeEnd::OutOfMemory);
+        }
+    }
+    Ok(Doors {
+        operator,
+        clients: listeners,
+    })
+}
+
+/// Removes the files that were made.
+pub fn remove_all(files: &impl Files, made: &[String]) {
+    for path in made {
+        // A file that is gone already is as it should be.
+        let _ = fs::remove_file(files, path.as_str());
+    }
+}
+
+fn open_door<R: Files + Net>(
+    rt: &R,
+    path: Result<String, AllocError>,
+    made: &mut Vec<String>,
+) -> Result<UnixListener, ServeEnd> {
+    let Ok(path) = path else {
+        return Err(ServeEnd::OutOfMemory);
+    };
+    // There is room for the note before there is a file.
+    if made.reserve(1).is_err() {
+        return Err(ServeEnd::OutOfMemory);
+    }
+    match listen(rt, path, made) {
+        Ok(listener) => Ok(listener),
+        Err(error) if error.kind() == ErrorKind::OutOfMemory => Err(ServeEnd::OutOfMemory),
+        Err(_) => Err(ServeEnd::Socket),
+    }
+}
+
+// Makes the socket, notes its file, and lets its owner alone use it.
+fn listen<R: Files + Net>(
+    rt: &R,
+    path: String,
+    made: &mut Vec<String>,
+) -> io::Result<UnixListener> {
+    make_way(rt, path.as_str())?;
+    let listener = UnixListener::bind(rt, path.as_str())?;
+    made.push(path)?;
+    match made.last() {
+        Some(path) => {
+            fs::set_permissions(rt, path.as_str(), Permissions::from_mode(OWNER_ALONE))?
+        }
+        None => {}
+    }
+    Ok(listener)
+}
+
+// Removes a socket at which nobody listens any more, as a server that was killed leaves it. Anything else stays as it is, and the path
+// cannot be had.
+fn make_way<R: Files + Net>(rt: &R, path: &str) -> io::Result<()> {
+    let found = match fs::symlink_metadata(rt, path) {
+        Ok(found) => found.file_type(),
+        Err(error) if error.kind() == ErrorKind::NotFound => return Ok(()),
+        Err(error) => return Err(error),
+    };
+    if !found.is_socket() {
+        return Err(ErrorKind::AlreadyExists.into());
+    }
+    match UnixStream::connect(rt, path) {
+        Ok(_) => Err(ErrorKind::AddrInUse.into()),
+        Err(error) if error.kind() == ErrorKind::ConnectionRefused => fs::remove_file(rt, path),
+        Err(error) => Err(error),
+    }
+}

@@ -1,0 +1,124 @@
+// The connections of the operator's path, one after the other.
+ghost use Rattle.std.specs.Prelude.{◌≡◌, length, false};
+ghost use Rattle.host_rings.specs.Opening.{IsIdle};
+ghost use Rattle.host_server.specs.Operating.{IsBetween, Asks};
+ghost use Rattle.seats.specs.Seats.{SameSeat, is_closed};
+
+use crate::clients::FRAME_LIMIT;
+use crate::threads::breathe;
+use frame_stream::{Feeder, encode};
+use host_calls::{OperatorCall, RingReply};
+use host_rings::OperatorSeat;
+use session_proto::{Host, Operator};
+use std::alloc::Global;
+use std::io::{Read, Write};
+use std::os::unix::net::{UnixListener, UnixStream};
+use std::sync::Wait;
+use std::time::Clock;
+
+// A read takes at most this many bytes.
+const PIECE_BYTES: usize = 4096;
+
+/// Serves the operator at a path, one connection after the other, until the host has ended. Gives the connection on which he is still to
+/// be told so.
+pub fn serve_operators<R: Wait + Clock>(
+    rt: &R,
+    alloc: Global,
+    listener: &UnixListener,
+    mut seat: OperatorSeat,
+) -> UnixStream
+    requires { IsIdle seat }
+{
+    for _ in rt.forever() {
+        match listener.accept() {
+            Ok((stream, _)) => {
+                serve_operator(
+                    rt,
+                    alloc,
+                    &mut &stream,
+                    &mut &stream,
+                    &mut seat,
+                    FRAME_LIMIT,
+                );
+                if seat.is_closed() {
+                    return stream;
+                }
+            }
+            Err(_) => breathe(rt),
+        }
+    }
+    unreachable!()
+}
+
+/// Tells the operator that the host has ended. If he has gone away, he does not want to know.
+pub fn tell_closed<W: Write>(alloc: Global, writer: &mut W) {
+    if let Ok(frame) = encode(alloc, &Host(RingReply::Closed)) {
+        let _ = writer.write_all(frame.as_slice());
+    }
+}
+
+/// Serves one connection of the operator: reads his frames, asks their calls one after the other, and writes each answer before the next
+/// call is asked. At most so many frames are answered.
+///
+/// It ends as a client's session does: at the end of the input, at a read or a write that fails, at a fault, at the limit, if the host has
+/// ended, or for want of memory. That the host has ended is not written here. It makes no call of its own. It asks that each call of the
+/// seat was answered, if the host has not ended.
+pub fn serve_operator<T: Wait, R: Read, W: Write>(
+    rt: &T,
+    alloc: Global,
+    reader: &mut R,
+    writer: &mut W,
+    seat: &mut OperatorSeat,
+    frame_limit: u32,
+)
+    requires { IsBetween seat.old }
+    ensures seat { SameSeat seat.old seat.new }
+    ensures between { IsBetween seat.new }
+{
+    let mut feeder = Feeder::<Operator>::new(alloc);
+    let mut piece = [0u8; PIECE_BYTES];
+    let mut left = frame_limit;
+    for _ in rt.forever() {
+        // The limit comes first: at it nothing more is read.
+        if left == 0 {
+            return;
+        }
+        let Ok(count) = reader.read(&mut piece) else {
+            return;
+        };
+        let Ok(fed) = feeder.feed(alloc, &piece[..count]) else {
+            return;
+        };
+        for call in fed.values {
+            if left == 0 || !answer(rt, alloc, writer, seat, call.0) {
+                return;
+            }
+            left -= 1;
+        }
+        if count == 0 || fed.fault.is_some() {
+            return;
+        }
+    }
+}
+
+// Asks a call, and writes its answer. Whether the connection goes on.
+fn answer<T: Wait, W: Write>(
+    rt: &T,
+    alloc: Global,
+    writer: &mut W,
+    seat: &mut OperatorSeat,
+    call: OperatorCall,
+) -> bool
+    requires { IsBetween seat.old }
+    ensures seat { SameSeat seat.old seat.new }
+    ensures between { IsBetween seat.new }
+    ensures asked { is_closed seat.old ≡ false → Asks call seat.old seat.new }
+{
+    let Ok(answer) = seat.ask(rt, call) else {
+        return false;
+    };
+    let Ok(frame) = encode(alloc, &Host(RingReply::Answer(answer))) else {
+        return false;
+    };
+    writer.write_all(frame.as_slice()).is_ok()
+}

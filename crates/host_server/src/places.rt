@@ -1,0 +1,23 @@
+// The seats of a host, given out from the last.
+ghost use Rattle.std.specs.Prelude.{IfSome};
+ghost use Rattle.host_rings.specs.Opening.{IsIdle, AreIdle};
+
+use host_rings::{Caller, DeviceSeat};
+
+/// The last client's seat, to which nothing has come.
+pub fn last_caller(callers: &mut Vec<Caller>) -> Option<Caller>
+    requires { AreIdle callers.old.items }
+    ensures rest { AreIdle callers.new.items }
+    ensures seat { IfSome result (λ s. IsIdle s) }
+{
+    callers.pop()
+}
+
+/// The last device's seat, to which nothing has come.
+pub fn last_device(devices: &mut Vec<DeviceSeat>) -> Option<DeviceSeat>
+    requires { AreIdle devices.old.items }
+    ensures rest { AreIdle devices.new.items }
+    ensures seat { IfSome result (λ s. IsIdle s) }
+{
+    devices.pop()
+}

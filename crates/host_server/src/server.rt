@@ -1,0 +1,117 @@
+// A host that is served.
+ghost use Rattle.std.specs.Prelude.{◌≤◌, length};
+ghost use Rattle.host_rings.specs.Opening.{IsIdle};
+
+use crate::doors::{Doors, open_doors, remove_all};
+use crate::operator::{serve_operators, tell_closed};
+use crate::threads::{start_clients, start_core, start_workers};
+use base_image::Image;
+use host_rings::{OperatorSeat, host};
+use sector_core::Config;
+use std::alloc::Global;
+use std::io::Eprint;
+use std::net::Net;
+use std::os::unix::net::{UnixListener, UnixStream};
+use std::rt::Files;
+use std::sync::Wait;
+use std::thread::{self, JoinHandle, Threads};
+use std::time::Clock;
+
+/// Where a host serves, and how many clients.
+#[derive(Clone, Copy, Debug, PartialEq, Eq)]
+pub struct ServeOptions<'a> {
+    /// The folder of the sockets.
+    pub dir: &'a str,
+    /// How many clients have a path, 1 to 16.
+    pub clients: u8,
+}
+
+/// How a server ended.
+#[derive(Clone, Copy, Debug, PartialEq, Eq)]
+pub enum ServeEnd {
+    /// The operator has stopped the host.
+    Stopped,
+    /// A path cannot be had, or a thread cannot be started.
+    Socket,
+    /// There is no memory for the host or its sockets.
+    OutOfMemory,
+}
+
+/// Serves a host over the images, one worker for each. The images are to tell one number of sectors; the host has as many as the first
+/// tells. Once the operator has stopped the host, the files of its sockets are removed, and then he is told: so he may start another host
+/// in the same folder. Threads that still meet a peer are left to the end of the process.
+///
+/// On standard error it says when it serves, and once when nine tenths of the history are used.
+pub fn run_server<
+    R: Threads + Wait + Net + Files + Clock + Eprint + Copy + Drop + Send + 'static,
+    I: Image + Drop + Send + 'static,
+>(rt: R, alloc: Global, config: Config, images: Vec<I>, options: ServeOptions<'_>) -> ServeEnd
+    requires workers { 1 ≤ length images.items × length images.items ≤ 4 }
+    requires clients { 1 ≤ options.clients × options.clients ≤ 16 }
+{
+    let mut made = Vec::new(alloc);
+    let served = match open_doors(&rt, alloc, options.dir, options.clients, &mut made) {
+        Ok(doors) => serve_at(rt, alloc, config, images, doors, options),
+        Err(end) => Err(end),
+    };
+    remove_all(&rt, made.as_slice());
+    match served {
+        Ok(stream) => {
+            tell_closed(alloc, &mut &stream);
+            ServeEnd::Stopped
+        }
+        Err(end) => end,
+    }
+}
+
+// Makes the host, starts its threads, and waits for the operator's. Gives the connection on which he is to be told that the host has ended.
+fn serve_at<
+    R: Threads + Wait + Net + Files + Clock + Eprint + Copy + Drop + Send + 'static,
+    I: Image + Drop + Send + 'static,
+>(
+    rt: R,
+    alloc: Global,
+    config: Config,
+    images: Vec<I>,
+    doors: Doors,
+    options: ServeOptions<'_>,
+) -> Result<UnixStream, ServeEnd>
+    requires { length images.items ≤ 4 }
+{
+    let sectors = match images.first() {
+        Some(image) => image.sectors(),
+        None => return Err(ServeEnd::OutOfMemory),
+    };
+    let workers = images.len() as u8;
+    let Ok((core, callers, devices, operator)) = host(alloc, config, sectors, workers) else {
+        return Err(ServeEnd::OutOfMemory);
+    };
+    start_core(rt, alloc, core, config.history_max)?;
+    start_workers(rt, alloc, devices, images)?;
+    start_clients(rt, alloc, callers, doors.clients)?;
+    let serving = start_operator(rt, alloc, doors.operator, operator)?;
+    let ServeOptions { dir, clients } = options;
+    let _ = eprintln!(rt; "serving {dir}, {clients} clients, {workers} workers");
+    Ok(serving.join(&rt))
+}
+
+// Starts the operator's thread.
+fn start_operator<R: Threads + Wait + Clock + Copy + Drop + Send + 'static>(
+    rt: R,
+    alloc: Global,
+    listener: UnixListener,
+    seat: OperatorSeat,
+) -> Result<JoinHandle<UnixStream>, ServeEnd>
+    requires { IsIdle seat }
+{
+    let serving = thread::spawn(
+        &rt,
+        move || -> UnixStream
+            requires { IsIdle seat }
+        { serve_operators(&rt, alloc, &listener, seat) },
+    );
+    match serving {
+        Ok(serving) => Ok(serving),
+        Err(_) => Err(ServeEnd::Socket),
+    }
+}

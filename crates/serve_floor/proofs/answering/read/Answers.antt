@@ -1,0 +1,6 @@
+use Rattle.std.proofs.Common.{arith}
+use Rattle.serve_floor.proofs.answering.read.Goals as goal
+
+-- 8 sectors
+pub returns : goal.returns
+returns c = (8, omega arith, omega arith, c.zeros.ensures)

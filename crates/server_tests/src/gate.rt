@@ -1,0 +1,80 @@
+// Images that share a gate.
+ghost use Rattle.std.specs.Prelude.{◌≡◌, None};
+
+use base_image::{Image, ImageFault};
+use std::alloc::{AllocError, Global};
+use std::sync::Arc;
+use std::sync::atomic::{AtomicU64, Ordering};
+
+// So often a read looks whether another has begun. Then it fails.
+const MOST_TURNS: u64 = 100_000_000;
+
+// An image of 64 sectors, each of which has its number in all of its bytes. A read at the gate waits until so many have begun, at this
+// image or another. So with two it ends only if two devices work at once.
+#[derive(Drop)]
+pub struct Gated {
+    begun: Arc<AtomicU64, Global>,
+    least: u64,
+    faults: u64,
+    last: Option<ImageFault>,
+}
+
+impl Gated {
+    // Two images at one gate, which opens at the second read.
+    pub fn two(alloc: Global) -> Result<(Gated, Gated), AllocError> {
+        let begun = Arc::new(alloc, AtomicU64::new(0))?;
+        let same = Arc::try_clone(&begun)?;
+        Ok((Gated::new(begun, 2), Gated::new(same, 2)))
+    }
+
+    // An image alone, at a gate that is open.
+    pub fn open(alloc: Global) -> Result<Gated, AllocError> {
+        Ok(Gated::new(Arc::new(alloc, AtomicU64::new(0))?, 0))
+    }
+
+    fn new(begun: Arc<AtomicU64, Global>, least: u64) -> Gated {
+        Gated {
+            begun,
+            least,
+            faults: 0,
+            last: None,
+        }
+    }
+
+    // Whether enough reads have begun in time.
+    fn opens(&self) -> bool {
+        for _ in 0..MOST_TURNS {
+            if self.begun.load(Ordering::SeqCst) >= self.least {
+                return true;
+            }
+        }
+        false
+    }
+}
+
+impl Image for Gated {
+    ghost disk = { λ image. record { sectors = 64; bytes = None; faults = image.faults; last = image.last } };
+
+    fn sectors(&self) -> u64 {
+        64
+    }
+
+    fn read_at(&mut self, offset: u64, buffer: &mut [u8]) -> Result<usize, ImageFault> {
+        self.begun.fetch_add(1, Ordering::SeqCst);
+        if !self.opens() {
+            self.faults += 1;
+            self.last = Some(ImageFault::Device);
+            return Err(ImageFault::Device);
+        }
+        // A sector at most, so that a longer range takes several reads.
+        let count = buffer.len().min(512 - (offset % 512) as usize);
+        for place in 0..count {
+            buffer[place] = (offset / 512 % 256) as u8;
+        }
+        Ok(count)
+    }
+
+    fn faults(&self) -> u64 {
+        self.faults
+    }
+}

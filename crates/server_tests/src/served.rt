@@ -1,0 +1,230 @@
+// A host that serves clients and the operator over sockets.
+ghost use Rattle.std.specs.Prelude.{◌≡◌, length};
+
+use crate::gate::Gated;
+use crate::peer::{Frame, Talk, answers, connected, has_ended};
+use host_calls::{OperatorCall, RingReply};
+use host_server::{ServeEnd, ServeOptions, run_server};
+use operator_asking::ask_host;
+use plain_machine::{Answer, Reply};
+use sector_core::{Config, ConfigDraft};
+use std::alloc::Global;
+use std::os::unix::net::UnixStream;
+use std::test::Fail;
+use std::{fs, process, thread};
+
+// The place of the operator, behind those of the two clients.
+const OPERATOR: usize = 2;
+
+// Client 0 writes sector 5 and reads it, client 1 reads sector 9. Both reads are asked before one is reaped: neither ends until the other
+// has begun. Then the operator stops the host.
+const AT_ONCE: [Talk; 9] = [
+    Talk(
+        0,
+        Frame("00000003 01 00 04", None),
+        Frame("00000009 81 0000000000000001", None),
+    ),
+    Talk(
+        1,
+        Frame("00000003 01 00 04", None),
+        Frame("00000009 81 0000000000000002", None),
+    ),
+    Talk(
+        0,
+        Frame(
+            "00000213 03 0000000000000001 0000000000000005 0001",
+            Some(0x41),
+        ),
+        Frame("00000009 82 0000000000000003", None),
+    ),
+    Talk(
+        0,
+        Frame("00000009 04 0000000000000001", None),
+        Frame("00000009 84 0000000000000003", None),
+    ),
+    Talk(
+        0,
+        Frame("00000013 02 0000000000000001 0000000000000005 0001", None),
+        Frame("00000009 82 0000000000000007", None),
+    ),
+    Talk(
+        1,
+        Frame("00000013 02 0000000000000002 0000000000000009 0001", None),
+        Frame("00000009 82 0000000000000009", None),
+    ),
+    Talk(
+        0,
+        Frame("00000009 04 0000000000000001", None),
+        Frame("00000209 83 0000000000000007", Some(0x41)),
+    ),
+    Talk(
+        1,
+        Frame("00000009 04 0000000000000002", None),
+        Frame("00000209 83 0000000000000009", Some(9)),
+    ),
+    Talk(
+        OPERATOR,
+        Frame("00000001 1c", None),
+        Frame("00000001 9f", None),
+    ),
+];
+
+// Client 0 writes sector 5 and reads it. Then 9 steps stand, of which the operator undoes one and redoes it.
+const STEPPED: [Talk; 9] = [
+    Talk(
+        0,
+        Frame("00000003 01 00 04", None),
+        Frame("00000009 81 0000000000000001", None),
+    ),
+    Talk(
+        0,
+        Frame(
+            "00000213 03 0000000000000001 0000000000000005 0001",
+            Some(0x41),
+        ),
+        Frame("00000009 82 0000000000000002", None),
+    ),
+    Talk(
+        0,
+        Frame("00000009 04 0000000000000001", None),
+        Frame("00000009 84 0000000000000002", None),
+    ),
+    Talk(
+        0,
+        Frame("00000013 02 0000000000000001 0000000000000005 0001", None),
+        Frame("00000009 82 0000000000000006", None),
+    ),
+    Talk(
+        0,
+        Frame("00000009 04 0000000000000001", None),
+        Frame("00000209 83 0000000000000006", Some(0x41)),
+    ),
+    Talk(
+        OPERATOR,
+        Frame("00000001 18", None),
+        Frame("00000009 93 00000009 00000009", None),
+    ),
+    Talk(
+        OPERATOR,
+        Frame("00000005 1a 00000001", None),
+        Frame("00000009 93 00000008 00000009", None),
+    ),
+    Talk(
+        OPERATOR,
+        Frame("00000005 1b 00000001", None),
+        Frame("00000009 93 00000009 00000009", None),
+    ),
+    Talk(
+        OPERATOR,
+        Frame("00000001 19", None),
+        Frame("00000001 92", None),
+    ),
+];
+
+// The usual configuration. This has no clauses, so that nothing carries the limits of its numbers.
+fn usual() -> Result<Config, Fail> {
+    match Config::check(ConfigDraft::default()) {
+        Ok(config) => Ok(config),
+        Err(_) => Err(Fail::from("a configuration within its limits")),
+    }
+}
+
+// Serves two clients in a folder.
+fn two_in(dir: &str) -> ServeOptions<'_>
+    ensures { result.clients ≡ 2 }
+{
+    ServeOptions { dir, clients: 2 }
+}
+
+// A new folder for sockets.
+fn folder(rt: HostRuntime, name: &str) -> Result<String, Fail> {
+    let process = process::id(rt.process());
+    let path = format!(in rt.alloc(); "/tmp/bfq-server-{name}-{process}")?;
+    fs::create_dir(&rt, path.as_str())?;
+    Ok(path)
+}
+
+// Connections of both clients and the operator to the host that serves in a folder.
+fn peers(rt: HostRuntime, dir: &str) -> Result<[UnixStream; 3], Fail> {
+    // The operator's path is there first, and a client's may be not there yet.
+    let zero = connected(&rt, format!(in rt.alloc(); "{dir}/client0")?.as_str())?;
+    let one = connected(&rt, format!(in rt.alloc(); "{dir}/client1")?.as_str())?;
+    let operator = connected(&rt, format!(in rt.alloc(); "{dir}/operator")?.as_str())?;
+    Ok([zero, one, operator])
+}
+
+// Whether the host does what it is asked by the way of the operator's command, and then says that it has ended. This has no clauses, so
+// that nothing carries what an ask promises.
+fn freezes_and_stops(alloc: Global, stream: &UnixStream) -> bool {
+    let mut peer = stream;
+    let is_frozen = match ask_host(alloc, &mut &*stream, &mut peer, OperatorCall::Freeze) {
+        Ok(reply) => matches!(reply, RingReply::Answer(Answer::Accepted(Reply::Done))),
+        Err(_) => false,
+    };
+    let is_stopped = match ask_host(alloc, &mut &*stream, &mut peer, OperatorCall::Stop) {
+        Ok(reply) => matches!(reply, RingReply::Closed),
+        Err(_) => false,
+    };
+    is_frozen && is_stopped
+}
+
+// Two clients are served at once, by two workers at once.
+#[test]
+fn two_clients_at_once(rt: HostRuntime) -> Result<(), Fail> {
+    let dir = folder(rt, "two")?;
+    let (first, second) = Gated::two(rt.alloc())?;
+    let images = vec![in rt.alloc(); first, second]?;
+    let config = usual()?;
+    let theirs = format!(in rt.alloc(); "{dir}")?;
+    let serving = thread::spawn(
+        &rt,
+        move || -> ServeEnd
+            requires { length images.items ≡ 2 }
+        { run_server(rt, rt.alloc(), config, images, two_in(theirs.as_str())) },
+    )?;
+    let peers = peers(rt, dir.as_str())?;
+    for talk in AT_ONCE {
+        assert!(rt; answers(rt.alloc(), &peers[talk.0], talk), "{talk:?}");
+    }
+    assert!(rt; has_ended(&peers[OPERATOR]));
+    assert_eq!(rt; serving.join(&rt), ServeEnd::Stopped);
+    // The sockets are gone, so the folder is empty.
+    fs::remove_dir(&rt, dir.as_str())?;
+    Ok(())
+}
+
+// The operator steps the host back and forth over one connection, and freezes and stops it by what his command does.
+#[test]
+fn stepped_and_frozen(rt: HostRuntime) -> Result<(), Fail> {
+    let alloc = rt.alloc();
+    let dir = folder(rt, "stepped")?;
+    let images = vec![in alloc; Gated::open(alloc)?]?;
+    let config = usual()?;
+    let theirs = format!(in alloc; "{dir}")?;
+    let serving = thread::spawn(
+        &rt,
+        move || -> ServeEnd
+            requires { length images.items ≡ 1 }
+        { run_server(rt, alloc, config, images, two_in(theirs.as_str())) },
+    )?;
+    let [zero, one, operator] = peers(rt, dir.as_str())?;
+    for talk in STEPPED {
+        let stream = if talk.0 == OPERATOR { &operator } else { &zero };
+        assert!(rt; answers(alloc, stream, talk), "{talk:?}");
+    }
+    assert!(rt; freezes_and_stops(alloc, &operator));
+    assert_eq!(rt; serving.join(&rt), ServeEnd::Stopped);
+    // A client that never said anything was in nobody's way.
+    drop(one);
+    fs::remove_dir(&rt, dir.as_str())?;
+    Ok(())
+}
+
+// No folder, so no socket.
+#[test]
+fn no_folder(rt: HostRuntime) -> Result<(), Fail> {
+    let images = vec![in rt.alloc(); Gated::open(rt.alloc())?]?;
+    let end = run_server(rt, rt.alloc(), usual()?, images, two_in("/nowhere"));
+    assert_eq!(rt; end, ServeEnd::Socket);
+    Ok(())
+}
