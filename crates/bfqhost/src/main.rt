@@ -1,5 +1,5 @@
 #![tactic(auto)]
-//! `bfqhost`: a block I/O host whose every step can be undone, run from a script.
+//! `bfqhost`: a block I/O host whose every step can be undone, run from a script, or served over sockets.
 //!
 //! | call | rule that it meets |
 //! |---|---|
@@ -8,19 +8,24 @@
 //! ```text
 //! bfqhost sim < SCRIPT
 //! bfqhost sim --image FILE < SCRIPT
+//! bfqhost serve --image FILE --dir DIR
 //! ```
 //!
 //! | status | |
 //! |---|---|
-//! | 0 | the input has no more lines |
+//! | 0 | the input has no more lines, or the operator has stopped the host |
 //! | 2 | a bad line; its number stands last on standard output |
 //! | 3 | a read of standard input failed |
 //! | 4 | a write to standard output failed |
 //! | 5 | no memory |
 //! | 6 | bad words, configuration or image; standard output is empty |
+//! | 7 | a socket or a thread cannot be had |
 
+mod faults;
 mod host;
+mod images;
 mod script;
+mod serving;
 mod start;
 
 use start::start;

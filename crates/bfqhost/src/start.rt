@@ -1,32 +1,27 @@
 // From the words of the command line to the status.
-ghost use Rattle.std.specs.Prelude.{◌≡◌, ◌≤◌, ◌<◌, ◌^◌, ◌↔◌, IsSome, is_some, IfOk, None};
-ghost use Rattle.base_image.specs.Kinds.{fresh};
+ghost use Rattle.std.specs.Prelude.{◌≡◌, ◌≤◌, ◌<◌, ◌^◌, ◌↔◌, IsSome, is_some};
 ghost use Rattle.sector_core.specs.Config.{fault_of};
 ghost use Rattle.script_run.specs.declared.ending.ScriptEnd.{ScriptEnd};
 ghost use Rattle.bfqhost.specs.Status.{status_of, IsRefused, IsSimStatus, IsStatus};
 
+use crate::faults::{
+    BAD_LINE, DONE, NO_MEMORY, READ_FAULT, REFUSED, WRITE_FAULT, bad_field, no_image, no_memory,
+};
+use crate::images::file_image;
 use crate::script::run_script;
-use base_image::{FileImage, Image, ZeroImage};
+use crate::serving::serve;
+use base_image::{Image, ZeroImage};
 use host_options::{Request, WordFault, help_text, request_of};
 use script_run::ScriptEnd;
 use sector_core::{Config, ConfigDraft};
-use std::fs::{self, File};
+use std::env;
+use std::fs::File;
 use std::io::{self, BufWriter, ErrorKind, Write};
-use std::os::unix::fs::FileTypeExt;
+use std::net::Net;
 use std::rt::{Env, Files};
-use std::{env, fmt};
-
-const DONE: u8 = 0;
-
-const BAD_LINE: u8 = 2;
-
-const READ_FAULT: u8 = 3;
-
-const WRITE_FAULT: u8 = 4;
-
-const NO_MEMORY: u8 = 5;
-
-const REFUSED: u8 = 6;
+use std::sync::Wait;
+use std::thread::Threads;
+use std::time::Clock;
 
 // The most sectors of a device of zeros.
 const MOST_SECTORS: u64 = 65_536;
@@ -35,7 +30,11 @@ const MOST_SECTORS: u64 = 65_536;
 const OUTPUT_BYTES: usize = 65_536;
 
 /// Does what the words ask for, and gives the status.
-pub fn start(rt: &(impl Env + Files<File = File> + AllocGlobal + Input + Print + Eprint)) -> u8 {
+pub fn start<R>(rt: &R) -> u8
+where
+    R: Env + Files<File = File> + AllocGlobal + Input + Print + Eprint,
+    R: Threads + Wait + Net + Clock + Copy + Drop + Send + 'static,
+{
     match asked(rt) {
         Ok(Request::Help) => help(rt),
         Ok(
@@ -45,6 +44,15 @@ pub fn start(rt: &(impl Env + Files<File = File> + AllocGlobal + Input + Print +
                 image,
             },
         ) => sim(rt, draft, sectors, image),
+        Ok(
+            Request::Serve {
+                draft,
+                image,
+                dir,
+                clients,
+                workers,
+            },
+        ) => serve(rt, draft, image.as_str(), dir.as_str(), clients, workers),
         Err(WordFault::Usage) => {
             let _ = rt.eprintln("words: refused");
             REFUSED
@@ -112,37 +120,8 @@ fn over_file(
     match file_image(rt, path) {
         Ok(image) => simulate(rt, config, image),
         Err(error) if error.kind() == ErrorKind::OutOfMemory => no_memory(rt),
-        Err(_) => {
-            let _ = rt.eprintln("image: cannot be read");
-            REFUSED
-        }
+        Err(_) => no_image(rt),
     }
-}
-
-// The image in a regular file or on a block device. It is looked at before it is opened, since the open of a FIFO waits, and
-// since a character device has no length.
-fn file_image(rt: &impl Files<File = File>, path: &str) -> io::Result<FileImage>
-    ensures { IfOk result (λ image. image ≡ fresh image.sectors None) }
-{
-    let found = fs::metadata(rt, path)?.file_type();
-    if !found.is_file() && !found.is_block_device() {
-        return Err(ErrorKind::InvalidInput.into());
-    }
-    File::open(rt, path).and_then(FileImage::from_file)
-}
-
-fn bad_field(rt: &impl Eprint, field: impl fmt::Display + Drop) -> u8
-    ensures { result ≡ REFUSED }
-{
-    let _ = eprintln!(rt; "config: {field}");
-    REFUSED
-}
-
-fn no_memory(rt: &impl Eprint) -> u8
-    ensures { result ≡ NO_MEMORY }
-{
-    let _ = rt.eprintln("memory: none");
-    NO_MEMORY
 }
 
 // Runs the script over the image, from standard input to standard output.

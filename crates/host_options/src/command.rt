@@ -10,8 +10,9 @@ fn option<'a>(alloc: Global, name: &'a str) -> Arg<'a> {
         .num_args(1)
 }
 
-fn sim<'a>(alloc: Global) -> Result<Command<'a>, Error> {
-    let command = Command::new(alloc, "sim")
+// A subcommand with the options of a configuration.
+fn configured<'a>(alloc: Global, name: &'a str) -> Result<Command<'a>, Error> {
+    let command = Command::new(alloc, name)
         .arg(option(alloc, "scheduler"))?
         .arg(option(alloc, "nr-requests"))?
         .arg(option(alloc, "tags"))?
@@ -20,16 +21,29 @@ fn sim<'a>(alloc: Global) -> Result<Command<'a>, Error> {
         .arg(option(alloc, "timeout"))?
         .arg(option(alloc, "history"))?
         .arg(option(alloc, "first-vtime"))?
-        .arg(option(alloc, "sectors"))?
         .arg(option(alloc, "image"))?;
     Ok(command)
 }
 
-/// The command with its one subcommand, `sim`.
+fn sim<'a>(alloc: Global) -> Result<Command<'a>, Error> {
+    let command = configured(alloc, "sim")?.arg(option(alloc, "sectors"))?;
+    Ok(command)
+}
+
+fn serve<'a>(alloc: Global) -> Result<Command<'a>, Error> {
+    let command = configured(alloc, "serve")?
+        .arg(option(alloc, "dir"))?
+        .arg(option(alloc, "clients"))?
+        .arg(option(alloc, "workers"))?;
+    Ok(command)
+}
+
+/// The command with its subcommands, `sim` and `serve`.
 pub fn bfqhost<'a>(alloc: Global) -> Result<Command<'a>, Error> {
     let command = Command::new(alloc, "bfqhost")
         .disable_help_subcommand(true)
         .subcommand_required(true)
-        .subcommand(sim(alloc)?)?;
+        .subcommand(sim(alloc)?)?
+        .subcommand(serve(alloc)?)?;
     Ok(command)
 }

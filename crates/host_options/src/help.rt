@@ -11,6 +11,7 @@ NAME
 
 SYNOPSIS
     bfqhost sim [OPTION]... < SCRIPT
+    bfqhost serve --image FILE --dir DIR [OPTION]...
     bfqhost --help
 
 EXAMPLE
@@ -21,7 +22,7 @@ EXAMPLE
     finished 1
     completed 2 written
 
-OPTIONS
+OPTIONS of sim and serve
     --scheduler NAME     the scheduler: bfq or none (bfq)
     --nr-requests N      requests at most, 1 to 256 (64)
     --tags N             tags of the device, 1 to 64 (4)
@@ -30,9 +31,21 @@ OPTIONS
     --timeout N          ticks until a queue in service expires, 1 to 1000 (8)
     --history N          accepted calls at most, 1 to 16777216 (65536)
     --first-vtime N      virtual time at the start, 0 to 2^62 (0)
-    --sectors N          sectors of a device of zeros, 0 to 65536 (1024)
-    --image FILE         the device is this file, which is read and never written; --sectors is not used then
+    --image FILE         the device is this file, which is read and never written
     --help, -h           print this help
+
+OPTION of sim
+    --sectors N          sectors of a device of zeros, 0 to 65536 (1024); not used if there is an image
+
+OPTIONS of serve
+    --dir DIR            the folder of the sockets: client0, client1 and so on, and operator
+    --clients N          clients that have a socket, 1 to 16 (4)
+    --workers N          workers of the device, 1 to 4 (2)
+
+SERVE
+    It serves until the operator stops it (bfqctl --socket DIR/operator stop). Each read or write makes four calls:
+    so the usual history holds 16384 of them, and then nothing more is accepted. Say --history 16777216 for a long run.
+    A line on standard error says when it serves, and another when nine tenths of the history are used.
 
 SCRIPT: one call a line, words joined by one space; an empty line or one that begins with # is skipped
     attach SEAT GROUP PRIO               read SEAT SESSION START COUNT
@@ -90,6 +103,6 @@ CAUSES: what 'notyet N' says; nothing has changed, and the same line may be acce
     44 NotCompleted: of the reads and writes that the session has not reaped, none is finished yet
 
 EXIT STATUS
-    0 end of input    2 bad line    3 read fault    4 write fault    5 no memory
-    6 bad words, configuration or image
+    0 end of input, or the operator's stop    2 bad line    3 read fault    4 write fault    5 no memory
+    6 bad words, configuration or image       7 a socket or a thread cannot be had
 ";

@@ -3,7 +3,7 @@
 //!
 //! | call | what it answers |
 //! |---|---|
-//! | `request_of` | help, or a configuration and a number of sectors that are still to be checked, and the file of an image |
+//! | `request_of` | help; or a run of a script or a server, with a configuration and numbers that are still to be checked, and files |
 //! | `help_text` | what `--help` prints |
 //!
 //! The scheduler is `bfq` or `none`, and `bfq` where none is named. A number is in decimal and below 2^64, with no
@@ -14,6 +14,7 @@
 //! bfqhost sim --scheduler none --tags 8 --sectors=64
 //! bfqhost sim --first-budget 512
 //! bfqhost sim --image disk.img
+//! bfqhost serve --image disk.img --dir /run/bfq --clients 2
 //! ```
 
 mod command;

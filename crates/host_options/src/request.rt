@@ -20,6 +20,19 @@ pub enum Request {
         /// The file that is the image of the device, where one is named.
         image: Option<String>,
     },
+    /// Serve clients and the operator over sockets.
+    Serve {
+        /// The configuration as it was given, its numbers not yet checked.
+        draft: ConfigDraft,
+        /// The file that is the image of the device.
+        image: String,
+        /// The folder of the sockets.
+        dir: String,
+        /// How many clients have a path; not yet checked.
+        clients: u64,
+        /// How many workers the device has; not yet checked.
+        workers: u64,
+    },
 }
 
 /// Why the words ask for nothing.
@@ -42,10 +55,16 @@ pub fn request_of(alloc: Global, words: &[String]) -> Result<Request, WordFault>
         Err(error) if error.kind() == ErrorKind::DisplayHelp => return Ok(Request::Help),
         Err(error) => return Err(fault(&error)),
     };
-    match found.subcommand_matches("sim") {
-        // Nothing may stand after the options, so no word ends them.
-        Some(options) if words.iter().all(|word| word.as_str() != "--") => sim(alloc, options),
-        _ => Err(WordFault::Usage),
+    // Nothing may stand after the options, so no word ends them.
+    if words.iter().any(|word| word.as_str() == "--") {
+        return Err(WordFault::Usage);
+    }
+    if let Some(options) = found.subcommand_matches("sim") {
+        return sim(alloc, options);
+    }
+    match found.subcommand_matches("serve") {
+        Some(options) => serve(alloc, options),
+        None => Err(WordFault::Usage),
     }
 }
 
@@ -59,9 +78,9 @@ fn fault(error: &Error) -> WordFault {
 }
 
 // The configuration that the options ask for.
-fn sim(alloc: Global, options: &ArgMatches<'_>) -> Result<Request, WordFault> {
+fn draft_of(options: &ArgMatches<'_>) -> Result<ConfigDraft, WordFault> {
     let usual = ConfigDraft::default();
-    let draft = ConfigDraft {
+    Ok(ConfigDraft {
         scheduler: scheduler_or(options, usual.scheduler)?,
         nr_requests: number_or(options, "nr-requests", usual.nr_requests)?,
         tags: number_or(options, "tags", usual.tags)?,
@@ -70,13 +89,33 @@ fn sim(alloc: Global, options: &ArgMatches<'_>) -> Result<Request, WordFault> {
         timeout: number_or(options, "timeout", usual.timeout)?,
         history_max: number_or(options, "history", usual.history_max)?,
         first_vtime: number_or(options, "first-vtime", usual.first_vtime)?,
-    };
+    })
+}
+
+fn sim(alloc: Global, options: &ArgMatches<'_>) -> Result<Request, WordFault> {
+    let draft = draft_of(options)?;
     let sectors = number_or(options, "sectors", 1024)?;
     let image = text_of(alloc, options, "image")?;
     Ok(Request::Sim {
         draft,
         sectors,
         image,
+    })
+}
+
+// A server needs an image and a folder.
+fn serve(alloc: Global, options: &ArgMatches<'_>) -> Result<Request, WordFault> {
+    let draft = draft_of(options)?;
+    let clients = number_or(options, "clients", 4)?;
+    let workers = number_or(options, "workers", 2)?;
+    let image = text_of(alloc, options, "image")?.ok_or(WordFault::Usage)?;
+    let dir = text_of(alloc, options, "dir")?.ok_or(WordFault::Usage)?;
+    Ok(Request::Serve {
+        draft,
+        image,
+        dir,
+        clients,
+        workers,
     })
 }
 

@@ -1,0 +1,55 @@
+// The image in a file.
+ghost use Rattle.std.specs.Prelude.{◌≡◌, length, IfOk, IsTrue, None};
+ghost use Rattle.base_image.specs.Kinds.{fresh};
+ghost use Rattle.bfqhost.specs.Serving.{AreAlike};
+
+use base_image::{FileImage, Image};
+use std::alloc::Global;
+use std::fs::{self, File};
+use std::io::{self, ErrorKind};
+use std::os::unix::fs::FileTypeExt;
+use std::rt::Files;
+
+/// The image in a regular file or on a block device. It is looked at before it is opened, since the open of a FIFO waits, and
+/// since a character device has no length.
+pub fn file_image(rt: &impl Files<File = File>, path: &str) -> io::Result<FileImage>
+    ensures { IfOk result (λ image. image ≡ fresh image.sectors None) }
+{
+    let found = fs::metadata(rt, path)?.file_type();
+    if !found.is_file() && !found.is_block_device() {
+        return Err(ErrorKind::InvalidInput.into());
+    }
+    File::open(rt, path).and_then(FileImage::from_file)
+}
+
+/// The image in a file, opened once for each of so many workers. Each tells the same number of sectors.
+pub fn file_images(
+    rt: &impl Files<File = File>,
+    alloc: Global,
+    path: &str,
+    workers: u8,
+) -> io::Result<Vec<FileImage>>
+    ensures many { IfOk result (λ images. length images.items ≡ workers) }
+    ensures alike { IfOk result (λ images. AreAlike images.items) }
+{
+    let mut images = Vec::new(alloc);
+    for _opened in 0..workers {
+        images.push(file_image(rt, path)?)?;
+    }
+    if !are_alike(images.as_slice()) {
+        return Err(ErrorKind::InvalidData.into());
+    }
+    Ok(images)
+}
+
+// Whether all tell as many sectors as the first.
+fn are_alike(images: &[FileImage]) -> bool
+    ensures { IsTrue result → AreAlike images.now }
+{
+    for number in 0..images.len() {
+        if images[number].sectors() != images[0].sectors() {
+            return false;
+        }
+    }
+    true
+}
