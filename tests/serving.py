@@ -1,0 +1,474 @@
+"""Runs of `bfqhost serve`, by its sockets: what it does, and what comes of each kind of bad input.
+
+Each run has a folder of its own. The expected frames, texts and statuses come from the rules of frames, words and sockets
+(docs/FORMATS.md), and not from the program's own output.
+"""
+
+import os
+import resource
+import shutil
+import signal
+import socket
+import stat
+import subprocess
+import tempfile
+import time
+
+from served import (ATTACH, CLOSED, DONE, FREEZE, FULL, HOLD, LEAVE, LEFT, NOT_HELD, RELEASE, SECONDS, STOP, TAKEN, THAW, Served, Talk, Wrong,
+                    attached, fetch, image_of, moved, queued, read, reap, redo, same, sector_of, store, undo, written)
+
+REFUSED = b"words: refused\n"
+NO_IMAGE = b"image: cannot be read\n"
+NO_SOCKET = b"socket: failed\n"
+BAD_WORDS, SOCKET_FAULT, NO_MEMORY, DONE_STATUS = 6, 7, 5, 0
+
+# Words of a run that is refused before it serves, and what it says; IMAGE and DIR are a good image and a good folder.
+GOOD = ["serve", "--image", "IMAGE", "--dir", "DIR"]
+WORDS = [
+    ("no image", ["serve", "--dir", "DIR"], REFUSED),
+    ("no folder", ["serve", "--image", "IMAGE"], REFUSED),
+    ("sectors", [*GOOD, "--sectors", "10"], REFUSED),
+    ("another option", [*GOOD, "--record", "x"], REFUSED),
+    ("an option twice", [*GOOD, "--dir", "DIR"], REFUSED),
+    ("clients with a leading zero", [*GOOD, "--clients", "04"], REFUSED),
+    ("clients with a sign", [*GOOD, "--clients", "+4"], REFUSED),
+    ("workers that are no number", [*GOOD, "--workers", "two"], REFUSED),
+    ("workers past 2^64", [*GOOD, "--workers", str(2**64)], REFUSED),
+    ("a word behind", [*GOOD, "now"], REFUSED),
+    ("two dashes behind", [*GOOD, "--"], REFUSED),
+    ("another scheduler", [*GOOD, "--scheduler", "kyber"], REFUSED),
+    ("clients of sim", ["sim", "--clients", "4"], REFUSED),
+    ("no clients", [*GOOD, "--clients", "0"], b"config: clients\n"),
+    ("17 clients", [*GOOD, "--clients", "17"], b"config: clients\n"),
+    ("2^64 - 1 clients", [*GOOD, "--clients", str(2**64 - 1)], b"config: clients\n"),
+    ("257 clients", [*GOOD, "--clients", "257"], b"config: clients\n"),
+    ("no workers", [*GOOD, "--workers", "0"], b"config: workers\n"),
+    ("5 workers", [*GOOD, "--workers", "5"], b"config: workers\n"),
+    ("257 workers", [*GOOD, "--workers", "257"], b"config: workers\n"),
+    ("workers before clients", [*GOOD, "--clients", "0", "--workers", "0"], b"config: workers\n"),
+    ("first-vtime before workers", [*GOOD, "--workers", "0", "--first-vtime", str(2**62 + 1)], b"config: first_vtime\n"),
+    ("tags", [*GOOD, "--tags", "65"], b"config: tags\n"),
+    ("no history", [*GOOD, "--history", "0"], b"config: history_max\n"),
+    ("configuration before the image", ["serve", "--image", "/nowhere", "--dir", "DIR", "--clients", "0"], b"config: clients\n"),
+    ("words before the configuration", [*GOOD, "--clients", "0", "--workers", "x"], REFUSED),
+    ("no such image", ["serve", "--image", "/nowhere", "--dir", "DIR"], NO_IMAGE),
+    ("a folder as image", ["serve", "--image", "/", "--dir", "DIR"], NO_IMAGE),
+    ("a character device as image", ["serve", "--image", "/dev/zero", "--dir", "DIR"], NO_IMAGE),
+    ("the image before the folder", ["serve", "--image", "/nowhere", "--dir", "/nowhere"], NO_IMAGE),
+    ("no such folder", ["serve", "--image", "IMAGE", "--dir", "/nowhere"], NO_SOCKET),
+    ("a file as folder", ["serve", "--image", "IMAGE", "--dir", "IMAGE"], NO_SOCKET),
+    ("an empty folder name", ["serve", "--image", "IMAGE", "--dir", ""], NO_SOCKET),
+] + [(f"{field} before all behind it", [*GOOD, *(f"{words} --clients 0 --workers 0").split()], f"config: {field}\n".encode())
+     for field, words in [("nr_requests", "--nr-requests 0 --tags 0"), ("tags", "--tags 0 --max-budget 1"),
+                          ("max_budget", "--max-budget 1 --first-budget 1"), ("first_budget", "--first-budget 1 --timeout 0"),
+                          ("timeout", "--timeout 0 --history 0"), ("history_max", f"--history 0 --first-vtime {2**63}"),
+                          ("first_vtime", f"--first-vtime {2**63}")]]
+
+
+def refused(program, words, said, folder):
+    """A run that must say so, do nothing, and leave nothing."""
+    image, sockets = image_of(folder), os.path.join(folder, "sockets")
+    os.mkdir(sockets)
+    given = [word.replace("IMAGE", image).replace("DIR", sockets) for word in words]
+    ended = subprocess.run([program, *given], stdin=subprocess.DEVNULL, capture_output=True, timeout=SECONDS, check=False)
+    same("standard error", ended.stderr, said)
+    same("standard output", ended.stdout, b"")
+    same("the status", ended.returncode, SOCKET_FAULT if said == NO_SOCKET else BAD_WORDS)
+    same("the folder", os.listdir(sockets), [])
+
+
+def two_clients(host):
+    """Two clients, each at its own socket, at once: one writes and reads back, the other reads the image. Then Stop."""
+    with host.talk(0) as first, host.talk(1) as second:
+        first.asks((ATTACH, attached(1)))
+        second.asks((ATTACH, attached(2)))
+        first.send(store(1, 5, 1, 0x41))
+        first.hears(queued(3))
+        first.send(reap(1))
+        first.hears(written(3))
+        # Attach, Attach, Submit, Dispatch, Finish and Reap took six serials.
+        first.asks((fetch(1, 5, 1), queued(7)))
+        first.send(reap(1))
+        first.hears(read(7, b"\x41" * 512))
+        second.asks((fetch(2, 9, 2), queued(11)))
+        second.send(reap(2))
+        second.hears(read(11, sector_of(9) + sector_of(10)))
+    host.stop()
+
+
+def stepped(host):
+    """The operator holds, undoes, redoes and releases while a client waits; then he undoes for good, and the client reads the image."""
+    with host.talk(0) as client, host.operator() as operator:
+        client.asks((ATTACH, attached(1)), (store(1, 5, 1, 7), queued(2)), (reap(1), written(2)))
+        operator.asks((RELEASE, NOT_HELD), (HOLD, moved(5, 5)), (undo(1), moved(4, 5)), (redo(1), moved(5, 5)), (FREEZE, "e1 29"))
+        client.send(fetch(1, 5, 1))
+        operator.asks((RELEASE, DONE))
+        client.hears(queued(6))
+        client.asks((reap(1), read(6, b"\x07" * 512)))
+        # Undone are the store's Reap and Finish and all that came after.
+        operator.asks((HOLD, moved(9, 9)), (undo(6), moved(3, 9)), (RELEASE, DONE))
+        # The request in flight was Taken and answered before, so its worker takes it again.
+        client.asks((reap(1), written(2)), (fetch(1, 6, 1), queued(12)), (reap(1), read(12, sector_of(6))))
+    host.stop()
+
+
+def by_bfqctl(host, bfqctl):
+    """The operator's command meets the host: each call on a connection of its own."""
+    for words, text, status in [(["freeze"], "done\n", 0), (["freeze"], "refused 22\n", 1), (["thaw"], "done\n", 0),
+                                (["group-make", "0", "100"], "group 1\n", 0), (["hold"], "moved 3 3\n", 0), (["undo", "3"], "moved 0 3\n", 0),
+                                (["thaw"], "notyet 41\n", 1), (["redo", "1"], "moved 1 3\n", 0), (["release"], "done\n", 0),
+                                (["stop"], "closed\n", 0)]:
+        ended = subprocess.run([bfqctl, "--socket", host.path("operator"), *words], stdin=subprocess.DEVNULL, capture_output=True, text=True,
+                               timeout=SECONDS, check=False)
+        same(" ".join(words), (ended.stdout, ended.stderr, ended.returncode), (text, "", status))
+    host.ended()
+
+
+def bad_frames(host):
+    """Whatever a client sends that is no frame, it gets no answer to it and one Leave, and its path serves the next. So the serial of the
+    next session is two higher each time. Another client does not notice."""
+    with host.talk(1) as other:
+        other.asks((ATTACH, attached(1)))
+        serial = 2
+        for bad in ["00000000", "00008014", "ffffffff", "00000001 14", "00000002 05 00", "00000001 70", "00000003 01 00"]:
+            with host.talk(0) as client:
+                client.asks((ATTACH, attached(serial)))
+                client.send(bad)
+                if bad == "00000003 01 00":
+                    client.socket.shutdown(socket.SHUT_WR)
+                client.ends()
+            serial += 2
+        for size in range(23):
+            # A peer that goes away between two frames, or inside one.
+            with host.talk(0) as client:
+                client.asks((ATTACH, attached(serial)))
+                client.socket.sendall(bytes.fromhex(fetch(serial, 0, 1))[:size])
+            serial += 2
+        # Once the next is met the last Leave was made.
+        with host.talk(0) as client:
+            client.asks((ATTACH, attached(serial)))
+            other.asks((fetch(1, 3, 1), queued(serial + 1)), (reap(1), read(serial + 1, sector_of(3))))
+    with host.operator() as operator:
+        operator.send("00000003 01 00 04")
+        operator.ends()
+    host.stop()
+
+
+def peer_that_never_reads(host):
+    """It stands still alone. Once it goes away there is one Leave, and its path serves the next."""
+    with host.talk(0) as client, host.talk(1) as other:
+        client.asks((ATTACH, attached(1)))
+        client.socket.settimeout(0.5)
+        sent = 0
+        try:
+            while sent < 1 << 24:
+                sent += client.socket.send(4096 * bytes.fromhex(reap(9)))
+        except TimeoutError:
+            pass
+        same("whether the socket is full", sent < 1 << 24, True)
+        other.asks((ATTACH, attached(2)), (fetch(2, 3, 1), queued(3)), (reap(2), read(3, sector_of(3))))
+        host.operates((FREEZE, DONE), (THAW, DONE))
+        # Once the next client is met there, the one Leave of the first was made: serials 7 and 8 are the freeze and the thaw.
+        client.socket.close()
+        with host.talk(0) as after:
+            after.asks((ATTACH, attached(10)))
+    with host.talk(0) as client:
+        client.send(ATTACH)
+        client.reply()
+        client.socket.settimeout(0.5)
+        try:
+            while True:
+                client.socket.send(4096 * bytes.fromhex(reap(9)))
+        except TimeoutError:
+            pass
+        host.stop()
+
+
+def second_connection(host):
+    """It waits until the first ends."""
+    with host.talk(0) as first, host.talk(0) as second:
+        second.send(ATTACH)
+        first.asks((ATTACH, attached(1)))
+        second.socket.settimeout(0.3)
+        try:
+            raise Wrong(f"the second connection was answered {second.reply().hex()}")
+        except TimeoutError:
+            second.socket.settimeout(SECONDS)
+        first.asks((LEAVE, LEFT))
+        first.socket.close()
+        second.hears(attached(3))
+    host.stop()
+
+
+def bad_frame_while_held(host):
+    """The connection closes at Release, as its Leave waits till then."""
+    with host.talk(0) as client, host.operator() as operator:
+        client.asks((ATTACH, attached(1)))
+        operator.asks((HOLD, moved(1, 1)))
+        client.send("00000000")
+        client.socket.settimeout(0.3)
+        try:
+            raise Wrong(f"the connection ended while held: {client.take(1)!r}")
+        except TimeoutError:
+            client.socket.settimeout(SECONDS)
+        operator.asks((RELEASE, DONE))
+        client.ends()
+    host.stop()
+
+
+def stopped_with_clients(host):
+    """Clients that wait when the host ends hear nothing more, and are let go."""
+    with host.talk(0) as waiting, host.talk(1) as idle:
+        waiting.asks((ATTACH, attached(1)), (fetch(1, 0, 1), queued(2)), (reap(1), read(2, sector_of(0))))
+        host.operates((FREEZE, DONE))
+        waiting.send(fetch(1, 1, 1))
+        idle.asks((ATTACH, attached(7)))
+        with host.operator() as operator:
+            operator.asks((STOP, CLOSED))
+            waiting.ends()
+            idle.ends()
+    host.ended()
+
+
+def seats_of_their_paths(host):
+    """Each path has the seat of its number. When many clients wait the seats are visited from seat 0 on, once the operator was answered."""
+    with host.operator() as operator:
+        operator.asks((HOLD, moved(0, 0)))
+        talks = [host.talk(number) for number in range(4)]
+        for talk in reversed(talks):
+            talk.send(ATTACH)
+        # Their calls are to be staged before the host goes on.
+        time.sleep(0.2)
+        operator.asks((RELEASE, DONE))
+        for number, talk in enumerate(talks):
+            talk.hears(attached(number + 1))
+            talk.socket.close()
+    host.stop()
+
+
+def restarted(program, image, folder):
+    """Whoever hears that the host has ended may start another in the same folder."""
+    for _ in range(20):
+        host = Served(program, image, folder)
+        with host.operator() as operator:
+            operator.asks((STOP, CLOSED))
+            with Served(program, image, folder) as after:
+                after.stop()
+        same("the status", host.process.wait(SECONDS), 0)
+        host.kill()
+
+
+def owner_alone(host):
+    """Only the owner may use the sockets."""
+    for name in ("operator", "client0", "client1", "client2", "client3"):
+        found = os.stat(host.path(name)).st_mode
+        same(f"the mode of {name}", (stat.S_ISSOCK(found), stat.S_IMODE(found)), (True, 0o600))
+    same("the folder", sorted(os.listdir(host.folder)), ["client0", "client1", "client2", "client3", "operator"])
+    host.stop()
+
+
+# What is done with a host of four clients and two workers.
+DONE_WITH = [two_clients, stepped, bad_frames, peer_that_never_reads, second_connection, bad_frame_while_held, stopped_with_clients, seats_of_their_paths,
+             owner_alone]
+
+
+def history_nearly_full(program, image, folder):
+    """Nine tenths of 20 calls are 18. It says so once, and goes on till the history is full; then even Hold is refused, and Stop is not."""
+    with Served(program, image, folder, "--history", "20") as host, host.talk(0) as client:
+        client.asks((ATTACH, attached(1)))
+        for serial in (2, 6, 10, 14):
+            client.asks((fetch(1, 0, 1), queued(serial)), (reap(1), read(serial, sector_of(0))))
+        client.asks((fetch(1, 0, 1), queued(18)))
+        same("standard error", host.line(), "history: 18 of 20 calls")
+        # The read is dispatched, and its Finish is the last call: the Reap waits for it.
+        client.asks((reap(1), FULL))
+        host.operates((HOLD, FULL))
+        host.stop()
+
+
+def sockets_left_behind(program, image, folder):
+    """Those of a killed host are replaced, and those of a running one are not."""
+    with Served(program, image, folder) as first:
+        first.process.send_signal(signal.SIGTERM)
+        same("the status after SIGTERM", first.process.wait(SECONDS), -signal.SIGTERM)
+        same("the folder", sorted(os.listdir(folder)), ["client0", "client1", "client2", "client3", "operator"])
+    with Served(program, image, folder) as host, host.talk(0) as client:
+        client.asks((ATTACH, attached(1)))
+        fails(program, image, folder)
+        client.asks((fetch(1, 1, 1), queued(2)), (reap(1), read(2, sector_of(1))))
+        host.stop()
+
+
+def fails(program, image, folder, *words, status=SOCKET_FAULT, said=NO_SOCKET, limits=None):
+    """A run that must not come to serve."""
+    words = ["serve", "--image", image, "--dir", folder, *words]
+    ended = subprocess.run([program, *words], stdin=subprocess.DEVNULL, capture_output=True, timeout=SECONDS, check=False, preexec_fn=limits)
+    same("the end", (ended.stdout, ended.stderr, ended.returncode), (b"", said, status))
+
+
+def paths_of_the_user(program, image, folder):
+    """A file, a folder, a link or a FIFO at a path stays as it is, and all sockets of the run are removed."""
+    for name in ("operator", "client2"):
+        path = os.path.join(folder, name)
+        with open(path, "w", encoding="ascii") as file:
+            file.write("mine")
+        fails(program, image, folder)
+        same("the folder", os.listdir(folder), [name])
+        with open(path, encoding="ascii") as file:
+            same("the file", file.read(), "mine")
+        os.unlink(path)
+        os.mkdir(path)
+        fails(program, image, folder)
+        os.rmdir(path)
+        os.symlink("nowhere", path)
+        fails(program, image, folder)
+        same("the link", os.readlink(path), "nowhere")
+        os.unlink(path)
+        os.mkfifo(path)
+        fails(program, image, folder)
+        same("the folder", os.listdir(folder), [name])
+        os.unlink(path)
+
+
+def clients_of_another(program, image, folder):
+    """A host with more clients does not take the place of a running one. It meets the operator's path first, so it makes no connection to a
+    client's path: that would end in a Leave, and free a seat whose session has none."""
+    with Served(program, image, folder, clients=1) as host, host.operator() as operator:
+        with host.talk(0) as client:
+            client.asks((ATTACH, attached(1)), (LEAVE, LEFT))
+        operator.asks((HOLD, moved(2, 2)), (undo(1), moved(1, 2)), (RELEASE, DONE))
+        fails(program, image, folder, "--clients", "16")
+        same("the folder", sorted(os.listdir(folder)), ["client0", "operator"])
+        with host.talk(0) as client:
+            client.asks((ATTACH, TAKEN))
+        operator.asks((STOP, CLOSED))
+        host.ended()
+
+
+def long_path(program, image, folder):
+    """A path has at most 107 bytes: with a longer one there is no socket, and with one as long there is."""
+    for size, is_good in [(107, True), (108, False)]:
+        # The longest is DIR/operator.
+        inner = os.path.join(folder, (size - len(os.path.join(folder, "", "operator")) - 1) * "x")
+        os.mkdir(inner)
+        if is_good:
+            with Served(program, image, inner, clients=1) as host:
+                host.stop()
+        else:
+            fails(program, image, inner)
+        same("the folder", os.listdir(inner), [])
+        os.rmdir(inner)
+
+
+def no_threads(program, image, folder):
+    """Under limits of its address space the host finds no memory, or not all of its threads can be started, or it serves. Whatever it
+    finds wanting, it says so and no more, and leaves nothing behind."""
+    found = set()
+    for limit in range(24 << 20, 400 << 20, 8 << 20):
+        words = ["serve", "--image", image, "--dir", folder, "--clients", "16", "--workers", "4"]
+        with subprocess.Popen([program, *words], stdin=subprocess.DEVNULL, stdout=subprocess.PIPE, stderr=subprocess.PIPE,
+                              preexec_fn=lambda: resource.setrlimit(resource.RLIMIT_AS, (limit, limit))) as process:
+            said = process.stderr.readline()
+            if said.startswith(b"serving "):
+                found.add(DONE_STATUS)
+                with Talk(os.path.join(folder, "operator")) as operator:
+                    operator.asks((STOP, CLOSED))
+            status = process.wait(SECONDS)
+            found.add(status)
+            same(f"with {limit} bytes what is said", (said, status) if status else status,
+                 {SOCKET_FAULT: (NO_SOCKET, status), NO_MEMORY: (b"memory: none\n", status)}.get(status, DONE_STATUS))
+            same("what is said after it", process.stderr.read(), b"")
+        same("the folder", os.listdir(folder), [])
+    same("the statuses that were met", {SOCKET_FAULT, DONE_STATUS} <= found, True)
+
+
+def little_memory(program, image, folder):
+    """There is none for the names of the greatest history; then nothing is left behind."""
+
+    def limits():
+        resource.setrlimit(resource.RLIMIT_AS, (1 << 25, 1 << 25))
+
+    fails(program, image, folder, "--history", "16777216", status=NO_MEMORY, said=b"memory: none\n", limits=limits)
+    same("the folder", os.listdir(folder), [])
+
+
+# What starts hosts of its own.
+STARTS = [history_nearly_full, sockets_left_behind, paths_of_the_user, clients_of_another, long_path, restarted, no_threads, little_memory]
+
+
+def idle(program, image, folder):
+    """It uses less than one processor in a hundred: when nothing has come, after some load, held with calls that wait, and with a full
+    history and a request in flight."""
+
+    def rests(host, what):
+        before = host.used()
+        time.sleep(2)
+        used = host.used() - before
+        # The system counts in hundredths of a second.
+        if used > 0.02:
+            raise Wrong(f"{what} it used {used:.2f} s of processor time in 2 s")
+
+    with Served(program, image, folder) as host:
+        rests(host, "fresh")
+        with host.talk(0) as client, host.operator() as operator:
+            client.asks((ATTACH, attached(1)))
+            for serial in range(2, 2002, 4):
+                client.asks((fetch(1, 0, 1), queued(serial)), (reap(1), read(serial, sector_of(0))))
+            rests(host, "after load")
+            operator.asks((HOLD, moved(2001, 2001)))
+            waiting = [host.talk(number) for number in (1, 2, 3)]
+            for talk in waiting:
+                talk.send(ATTACH)
+            client.send(fetch(1, 2, 1))
+            rests(host, "held with four calls that wait")
+            operator.asks((RELEASE, DONE))
+            for talk in [*waiting, client]:
+                talk.reply()
+                talk.socket.close()
+        host.stop()
+    with Served(program, image, folder, "--history", "19") as host, host.talk(0) as client:
+        client.asks((ATTACH, attached(1)))
+        for serial in (2, 6, 10, 14):
+            client.asks((fetch(1, 0, 1), queued(serial)), (reap(1), read(serial, sector_of(0))))
+        client.asks((fetch(1, 0, 1), queued(18)))
+        same("standard error", host.line(), "history: 17 of 19 calls")
+        # The last call was its Dispatch.
+        host.operates((HOLD, FULL))
+        rests(host, "with a full history and a request in flight")
+        host.stop()
+
+
+def runs(program, bfqctl):
+    """Each run's name, and the call that makes it in a new folder."""
+    for name, words, said in WORDS:
+        yield f"serve: {name}", lambda folder, words=words, said=said: refused(program, words, said, folder)
+    for act in [*STARTS, idle]:
+        yield f"serve: {act.__name__}", lambda folder, act=act: act(program, *image_and_folder(folder))
+    for act in DONE_WITH:
+        yield f"serve: {act.__name__}", lambda folder, act=act: with_host(program, act, folder)
+    yield "serve: by_bfqctl", lambda folder: with_host(program, lambda host: by_bfqctl(host, bfqctl), folder)
+
+
+def image_and_folder(folder):
+    sockets = os.path.join(folder, "sockets")
+    os.mkdir(sockets)
+    return image_of(folder), sockets
+
+
+def with_host(program, act, folder):
+    """A host of four clients and two workers, with which this is done."""
+    with Served(program, *image_and_folder(folder)) as host:
+        act(host)
+
+
+def serving(program, bfqctl):
+    """The name of each run with what was wrong with it."""
+    for name, run in runs(program, bfqctl):
+        folder = tempfile.mkdtemp(prefix="bfq-")
+        try:
+            run(folder)
+            yield name, []
+        except (Wrong, OSError, subprocess.SubprocessError) as fault:
+            yield name, [str(fault)]
+        finally:
+            shutil.rmtree(folder)
