@@ -1,0 +1,18 @@
+"""Whether each wrong body still fits the code: a file of code that was changed may lack the text that an edit takes out of it."""
+
+from checkout import CRATES, crate_lines
+from twins import Crate, read_edit
+
+
+def edits():
+    """The name of each crate with wrong bodies, and what is wrong with those that do not fit."""
+    for name in crate_lines():
+        faults, texts = [], Crate(CRATES / name, lambda: True).texts
+        paths = sorted((CRATES / name / "wrong").glob("*.edit"))
+        for path in paths:
+            try:
+                read_edit(path.stem, path.read_text(), texts)
+            except ValueError as why:
+                faults.append(f"{path.stem}: {why}")
+        if paths:
+            yield f"{name}/wrong", faults
