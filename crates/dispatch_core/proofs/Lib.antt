@@ -51,3 +51,4 @@ pub mod Waking
 pub mod Outboxes
 pub mod Begun
 pub mod Switches
+pub mod Listing

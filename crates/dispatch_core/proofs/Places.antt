@@ -96,7 +96,7 @@ length-insert_in e (x ∷ xs) =
     ]
 
 -- a queue has no more entries than there are links
-length-placed : (seat base : ℕ) (links : List (Option Link)) → length (placed seat base links) ≤ length links
+pub length-placed : (seat base : ℕ) (links : List (Option Link)) → length (placed seat base links) ≤ length links
 length-placed seat base [] = omega arith
 length-placed seat base (None ∷ links) = let ih = length-placed seat (base + 1) links in omega arith
 length-placed seat base (Some l ∷ links) =

@@ -30,7 +30,7 @@ total_small bios slots h few = omega (arith, total-le bios slots h)
 pub capped : (bios : List (Option Bio)) (slots : List ℕ) (count : ℕ) → HasFewSectors bios → length slots ≤ 32 → count ≡ min (total_count bios slots) 4294967295 → count ≡ total_count bios slots
 capped bios slots count h few e = omega (arith, total-le bios slots h)
 
-size-cons : (bio : Bio) (bios : List Bio) → size_of (bio ∷ bios) ≡ bio.range.count + size_of bios
+pub size-cons : (bio : Bio) (bios : List Bio) → size_of (bio ∷ bios) ≡ bio.range.count + size_of bios
 size-cons bio bios = sum_by-cons (λ n. n) bio.range.count (map (λ b. b.range.count) bios)
 
 -- the bios of taken slots have the sectors of their slots

@@ -38,8 +38,8 @@ use std::marker::Model;
 /// The tables of a host, and what they were made for.
 #[derive(Drop)]
 pub struct Machine {
-    sizes: Sizes,
-    parts: Parts,
+    pub(crate) sizes: Sizes,
+    pub(crate) parts: Parts,
 }
 
 impl Model for Machine {
@@ -242,7 +242,7 @@ fn perform(
 /// A look at a machine.
 #[derive(Drop)]
 pub struct View<'a> {
-    machine: &'a Machine,
+    pub(crate) machine: &'a Machine,
 }
 
 impl<'a> Model for View<'a> {

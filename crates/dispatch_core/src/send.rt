@@ -179,8 +179,8 @@ fn start_of(pool: &RequestPool, slot: Slot) -> u64
     }
 }
 
-// How many sectors the bio in a slot has.
-fn count_of(pool: &RequestPool, slot: Slot) -> u32
+/// How many sectors the bio in a slot has, if one is there.
+pub fn count_of(pool: &RequestPool, slot: Slot) -> u32
     ensures { result ≡ count_at pool.now.bios slot }
 {
     match pool.bio(slot) {

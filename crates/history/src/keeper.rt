@@ -13,7 +13,7 @@ use crate::moves::{redo_steps, undo_steps};
 use crate::roll::Roll;
 use change_record::push_within;
 use dispatch_core::{Answer, Cause, Code, Reply, Step, View};
-use plain_machine::Call;
+use plain_machine::{Call, Stamped};
 use sector_core::{Config, OutOfMemory};
 use std::alloc::Global;
 use std::marker::Model;
@@ -311,6 +311,22 @@ impl<'a> KeeperView<'a> {
     {
         let keeper = self.keeper;
         keeper.roll.last()
+    }
+
+    /// The step at a place of the line, from 0, with its serial.
+    pub fn stamped(&self, place: u32) -> Option<&'a Stamped>
+        ensures { option_copied result ≡ slice_get self.now.state.line place }
+    {
+        let keeper = self.keeper;
+        keeper.roll.stamped(place as usize)
+    }
+
+    /// How many calls were accepted.
+    pub fn journal_len(&self) -> usize
+        ensures { result ≡ length self.now.state.journal }
+    {
+        let keeper = self.keeper;
+        keeper.journal_len()
     }
 
     /// Whether the host is held.

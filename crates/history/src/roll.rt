@@ -1,5 +1,6 @@
 // The line of steps, and the machine of those before the cursor.
-ghost use Rattle.std.specs.Prelude.{◌≡◌, ◌+◌, ◌-◌, ◌<◌, ◌≤◌, ◌^◌, ◌%◌, slice_index_or, [], ◌∷◌, ◌++◌, IfOk, OnOk, OnErr, IfSome, length, take, IsTrue, vec_len, vec_capacity};
+ghost use Rattle.std.specs.Prelude.{◌≡◌, ◌+◌, ◌-◌, ◌<◌, ◌≤◌, ◌^◌, ◌%◌, slice_get, slice_index_or, [], ◌∷◌, ◌++◌, IfOk, OnOk, OnErr, IfSome, length, take, IsTrue, vec_len, vec_capacity};
+ghost use Rattle.std.specs.Option.{option_copied};
 ghost use Rattle.plain_machine.specs.Step.{of_sizes, IsAccepted};
 ghost use Rattle.plain_machine.specs.Keeper.{fold};
 ghost use Rattle.dispatch_core.specs.Running.{plain_of, sizes_of, IsFor};
@@ -86,6 +87,13 @@ impl Roll {
         ensures lists { result ≡ length self.now.lengths }
     {
         self.line.len()
+    }
+
+    /// The step at a place of the line, from 0, with its serial.
+    pub fn stamped(&self, place: usize) -> Option<&Stamped>
+        ensures { option_copied result ≡ slice_get self.now.steps place }
+    {
+        self.line.get(place)
     }
 
     /// The last serial that was given.

@@ -31,8 +31,8 @@ pub type OperatorSeat = Seat<OperatorCall, OperatorReplies>;
 const CALLERS: u8 = 16;
 // How many workers it may have at most.
 const MOST_WORKERS: u8 = 4;
-// How often who waits looks at a ring before it sleeps. No contract depends on it.
-pub(crate) const LOOKS: u32 = 100;
+// How often who waits at a seat looks for a reply before it sleeps. No contract depends on it.
+const LOOKS: u32 = 100;
 
 /// Why there is no host.
 #[derive(Clone, Copy, Debug, PartialEq, Eq, Error)]

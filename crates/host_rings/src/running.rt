@@ -1,10 +1,13 @@
 // The core at work: it takes turns until it has ended, and sleeps while there is nothing to do.
 
-use crate::opening::LOOKS;
 use crate::turns::Core;
 use std::alloc::Global;
 use std::sync::Wait;
 use std::thread;
+
+// How many turns in a row may do nothing before the core sleeps: a peer's next call comes within some hundredths of a millisecond, and to be
+// woken costs as much. No contract depends on it.
+const IDLE_TURNS: u32 = 1000;
 
 impl Core {
     ghost use Rattle.std.specs.Prelude.{◌≡◌, ℕ, true};
@@ -46,7 +49,7 @@ impl Core {
                 // No bell tells when there is memory again.
                 thread::yield_now();
             } else {
-                self.bell.rest(rt, looks, LOOKS);
+                self.bell.rest(rt, looks, IDLE_TURNS);
                 looks = looks.saturating_add(1);
             }
         }

@@ -30,3 +30,7 @@ pub exchanged_seen : (es fs : Entries) (k : ℕ) (w : Option (List ℕ)) → ((q
 exchanged_seen es fs k w is = map.same_map nat_cmp_total map.nat_cmp-IsAntisymmetric _ _ (λ q.
     get_seen fs q ∙ is q ∙ ap (λ b. cond b w (at es q)) ((eq_by_cmp_equiv nat_cmp_total).symm k q)
     ∙ ap (cond (eq_by_cmp nat_cmp q k) w) (sym (get_seen es q)) ∙ sym (get-exchanged _ k w q))
+
+-- what a map has that shows the entries
+pub shown : (es : Entries) (m : Blocks) → map.from_entries es ≡ m → (q : ℕ) → map.get m q ≡ at es q
+shown es m is q = ap (λ n. map.get n q) (sym is) ∙ get_seen es q

@@ -5,9 +5,12 @@
 //! |---|---|
 //! | [`Overlay::get`] | the block that the map has at a sector |
 //! | [`Overlay::exchange`] | puts a block or nothing at one sector and hands back what stood there |
+//! | [`Overlay::next_run`] | the least stored sector from one on, and how many follow it without a gap |
 //!
 //! A finite map from sectors to blocks. Replacing and removing a block take no memory; adding one may
 //! be refused, and then the block comes back and nothing has changed.
+
+mod runs;
 
 ghost use Rattle.std.specs.Prelude.{◌≡◌, List, ℕ, OnErr, OnOk, IfOk, IfErr, IsNone, IsSome, IsOk, None, Some};
 ghost use Rattle.std.specs.Option.{option_copied};
@@ -22,7 +25,7 @@ use std::marker::Model;
 /// The blocks that have been stored, by sector.
 #[derive(Drop)]
 pub struct Overlay {
-    blocks: BTreeMap<u64, Block>,
+    pub(crate) blocks: BTreeMap<u64, Block>,
 }
 
 impl Model for Overlay {

@@ -1,9 +1,10 @@
 -- Runs of seats.
-use Rattle.std.proofs.Common.{◌≡◌, ℕ, zero, suc, ◌+◌, ◌-◌, ◌<◌, ◌≤◌, List, [], ◌∷◌, ◌++◌, Option, Some, None, Bool, true, false, cond, take, drop, ◌⊎◌, inl, inr, refl, sym, ap, ◌∙◌, subst, arith, rules}
+use Rattle.std.proofs.Common.{◌≡◌, ℕ, zero, suc, ◌+◌, ◌-◌, ◌<◌, ◌≤◌, List, [], ◌∷◌, ◌++◌, Option, Some, None, Bool, true, false, not, cond, take, drop, ◌⊎◌, inl, inr, refl, sym, ap, ◌∙◌, arith}
 use Rattle.std.specs.List.{find}
 use Rattle.std.specs.Option.{option_or}
 use Rattle.std.proofs.lemmas.List.Folds.{find-append}
 use Rattle.process_queue.specs.declared.Link.{Link}
+use Rattle.process_queue.specs.Queue.{queue_slots, is_empty}
 use Rattle.soft_queue.specs.Turn.{numbers, seats, is_waiting, next_seat}
 
 numbers-cons : (i n : ℕ) → 0 < n → numbers i n ≡ i ∷ numbers (i + 1) (n - 1)
@@ -65,3 +66,13 @@ pub next_seat_is : (last after : ℕ) (links : List (Option Link)) → IsAfter l
     → next_seat last links ≡ option_or (find (is_waiting links) (numbers after (16 - after))) (find (is_waiting links) (numbers 0 (after - 0)))
 next_seat_is last after links side =
     ap (find (is_waiting links)) (turn last after side) ∙ find-append (is_waiting links) (numbers after (16 - after)) (numbers 0 (after - 0))
+
+-- nothing is found of which all say no
+find_none : (p : ℕ → Bool) (xs : List ℕ) → ((x : ℕ) → p x ≡ false) → find p xs ≡ None
+find_none p [] fails = refl
+find_none p (x ∷ xs) fails = ap (λ b. cond b (Some x) (find p xs)) (fails x) ∙ find_none p xs fails
+
+-- no seat is next where all queues are empty
+pub none_next : (last : ℕ) (links : List (Option Link)) → ((seat : ℕ) → queue_slots seat links ≡ []) → None ≡ next_seat last links
+none_next last links none =
+    sym (find_none (is_waiting links) (drop (last + 1) seats ++ take (last + 1) seats) (λ seat. ap (λ slots. not (is_empty slots)) (none seat)))

@@ -15,6 +15,10 @@ use process_queue::ProcessQueue;
 pub fn pick(queues: &ProcessQueue, last_seat: u8) -> Option<u8>
     ensures { result ≡ next_seat last_seat queues.now }
 {
+    // A host that has nothing to send asks again and again, so this is told by one walk and not by one for each seat.
+    if queues.are_empty() {
+        return None;
+    }
     let after = if last_seat < 16 { last_seat + 1 } else { 16 };
     match first_waiting(queues, after, 16) {
         Some(seat) => Some(seat),

@@ -1,10 +1,13 @@
-use Rattle.std.proofs.Common.{◌≡◌, ◌-◌, inl, inr, Some, ap, sym, ◌∙◌, arith, rules}
+use Rattle.std.proofs.Common.{◌-◌, inl, inr, ap, sym, ◌∙◌, rules}
 use Rattle.std.specs.List.{find}
 use Rattle.std.specs.Option.{option_or}
 use Rattle.soft_queue.specs.Turn.{numbers, is_waiting}
-use Rattle.soft_queue.proofs.Numbers.{IsAfter, next_seat_is}
+use Rattle.soft_queue.proofs.Numbers.{IsAfter, next_seat_is, none_next}
 use Rattle.soft_queue.proofs.pick.Goals as goal
 use Rattle.soft_queue.proofs.pick.Goals.{then-last_seat-lt16, else-last_seat-lt16}
+
+pub returns-then-are_empty : goal.returns-then-are_empty
+returns-then-are_empty c = none_next c.args.last_seat c.args.queues.now (c.are_empty.ensures (search rules))
 
 pub returns-in-Some : goal.returns-in-Some
 returns-in-Some c =

@@ -1,0 +1,7 @@
+use Rattle.std.proofs.Common.{ℕ, ◌+◌, ◌<◌}
+use Rattle.overlay.specs.Runs.{IsStored}
+use Rattle.overlay.proofs.Overlay.count_from.Given as goal
+
+-- all before this one are stored
+abbrev pub invariant-loop-count : goal.invariant-loop-count
+invariant-loop-count l = (k : ℕ) → k < l.count → IsStored l.self (l.start + k)
