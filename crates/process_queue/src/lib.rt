@@ -14,9 +14,10 @@
 //!
 //! A slot is in one queue at most. A queue is the slots that are linked to its seat, in the order of their serials.
 
-ghost use Rattle.std.specs.Prelude.{◌≡◌, ◌≤◌, None, Some, IfOk, length, replicate, slice_index_or, slice_set, List, [], ℕ, IsTrue};
+ghost use Rattle.std.specs.Prelude.{◌≡◌, ◌≤◌, None, Some, IfOk, length, replicate, slice_index_or, slice_set, List, ℕ};
 ghost use Rattle.process_queue.specs.Queue.{first_in, first_slot, insert_in, is_empty, queue_slots};
 
+mod idle;
 mod merge;
 mod next;
 mod place;
@@ -124,18 +125,6 @@ impl ProcessQueue {
             Some(first) => Some(first.1),
             None => None,
         }
-    }
-
-    /// Whether no queue has a slot. One walk over the slots tells it for all seats.
-    pub fn are_empty(&self) -> bool
-        ensures { IsTrue result → (seat : ℕ) → queue_slots seat self.now ≡ [] }
-    {
-        for link in self.links.iter() {
-            if link.is_some() {
-                return false;
-            }
-        }
-        true
     }
 
     /// Whether a seat's queue has no slot.
