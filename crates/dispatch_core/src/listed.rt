@@ -10,6 +10,7 @@ use sector_core::{Bio, Op, Slot};
 use std::marker::Model;
 
 /// A request that stands somewhere in a machine. Its bios are in the order of their sectors.
+#[derive(Drop)]
 pub struct Listed<'a> {
     pub(crate) pool: &'a RequestPool,
     pub(crate) request: &'a Request,
@@ -64,6 +65,7 @@ impl<'a> Listed<'a> {
 }
 
 /// A request in flight.
+#[derive(Drop)]
 pub struct Flying<'a> {
     pub(crate) issue: u64,
     pub(crate) request: Listed<'a>,
