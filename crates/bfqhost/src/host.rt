@@ -3,8 +3,11 @@
 use dispatch_core::SectorView;
 use history::Keeper;
 use host_console::{Content, Keeps};
+use look_text::put_look;
 use plain_machine::{Answer, Call, EntityView, RequestView, Work};
+use script_line::Look;
 use std::alloc::Global;
+use std::io;
 
 /// A keeper that a script is run at.
 #[derive(Drop)]
@@ -53,6 +56,10 @@ impl Keeps for Host {
 
     fn length(&self) -> u32 {
         self.keeper.view().length()
+    }
+
+    fn put_look(&self, look: Look, out: &mut Vec<u8>) -> io::Result<()> {
+        put_look(&self.keeper.view(), look, out)
     }
 
     fn last_serial(&self) -> u64 {

@@ -5,7 +5,9 @@ ghost use Rattle.plain_machine.specs.Keeper.{opened};
 
 use host_console::{Content, Keeps};
 use plain_machine::{Answer, Call, Cause, Code, EntityView, RequestView, Work};
+use script_line::Look;
 use std::alloc::Global;
+use std::io::{self, ErrorKind};
 
 // It is held and its history is full, so that it accepts nothing. It counts its calls.
 #[derive(Drop)]
@@ -59,6 +61,11 @@ impl Keeps for Full {
 
     fn length(&self) -> u32 {
         0
+    }
+
+    // It has no memory for a text.
+    fn put_look(&self, _look: Look, _out: &mut Vec<u8>) -> io::Result<()> {
+        Err(ErrorKind::OutOfMemory.into())
     }
 
     fn last_serial(&self) -> u64 {

@@ -3,9 +3,12 @@
 use dispatch_core::SectorView;
 use history::Keeper;
 use host_console::{Content, Keeps};
+use look_text::put_look;
 use plain_machine::{Answer, Call, EntityView, RequestView, Work};
+use script_line::Look;
 use sector_core::{Config, ConfigDraft};
 use std::alloc::Global;
+use std::io;
 use std::test::Fail;
 
 /// The keeper of the default configuration, over an image of so many sectors, before its first call.
@@ -73,6 +76,10 @@ impl Keeps for Host {
 
     fn length(&self) -> u32 {
         self.keeper.view().length()
+    }
+
+    fn put_look(&self, look: Look, out: &mut Vec<u8>) -> io::Result<()> {
+        put_look(&self.keeper.view(), look, out)
     }
 
     fn last_serial(&self) -> u64 {

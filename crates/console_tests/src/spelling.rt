@@ -1,9 +1,9 @@
 // Each form of a line, the silent lines, and numbers.
-use script_line::{Ending, Line, line_of, number};
+use script_line::{Ending, Line, Look, line_of, number};
 use sector_core::Scheduler;
 
 // A line, as it is spelled and as it is.
-const FORMS: [(&[u8], Line); 39] = [
+const FORMS: [(&[u8], Line); 50] = [
     (
         b"attach 0 1 4",
         Line::Attach {
@@ -154,6 +154,62 @@ const FORMS: [(&[u8], Line); 39] = [
     (b"vtime 255", Line::Vtime { group: 255 }),
     (b"entity 47", Line::Entity { number: 47 }),
     (b"entity 255", Line::Entity { number: 255 }),
+    (
+        b"show seat 0",
+        Line::Show {
+            look: Look::Seat { seat: 0 },
+        },
+    ),
+    (
+        b"show seat 255",
+        Line::Show {
+            look: Look::Seat { seat: 255 },
+        },
+    ),
+    (
+        b"show outbox 255",
+        Line::Show {
+            look: Look::Outbox { seat: 255 },
+        },
+    ),
+    (
+        b"show queue 15",
+        Line::Show {
+            look: Look::Queue { seat: 15 },
+        },
+    ),
+    (
+        b"show requeued",
+        Line::Show {
+            look: Look::Requeued,
+        },
+    ),
+    (b"show flight", Line::Show { look: Look::Flight }),
+    (
+        b"show service",
+        Line::Show {
+            look: Look::Service,
+        },
+    ),
+    (
+        b"show tree 255",
+        Line::Show {
+            look: Look::Tree { group: 255 },
+        },
+    ),
+    (b"show host", Line::Show { look: Look::Host }),
+    (
+        b"show stored 18446744073709551615",
+        Line::Show {
+            look: Look::Stored { from: u64::MAX },
+        },
+    ),
+    (
+        b"show step 4294967295",
+        Line::Show {
+            look: Look::Step { k: u32::MAX },
+        },
+    ),
 ];
 
 #[test]

@@ -1,2 +1,4 @@
 pub mod Printed
 pub mod Texts
+pub mod Views
+pub mod Looks

@@ -9,7 +9,7 @@ use Rattle.sector_core.specs.declared.bio.Outcome.{Outcome}
 use Rattle.sector_core.specs.declared.bio.Outcome.TheVariants as outcome
 use Rattle.sector_text.specs.Hex.{hex_of}
 use Rattle.script_line.specs.declared.line.Line.{Line}
-use Rattle.script_line.specs.declared.line.Line.TheVariants.{Attach, Read, Write, Reap, Leave, Dispatch, Finish, Work, Requeue, Hold, Release, Undo, Redo, Group, Drop, Weight, Freeze, Thaw, Switch, Tick, Sector, Queue, Cursor, Vtime, Entity}
+use Rattle.script_line.specs.declared.line.Line.TheVariants.{Attach, Read, Write, Reap, Leave, Dispatch, Finish, Work, Requeue, Hold, Release, Undo, Redo, Group, Drop, Weight, Freeze, Thaw, Switch, Tick, Sector, Queue, Cursor, Vtime, Entity, Show}
 use Rattle.script_line.specs.declared.line.Ending.{Ending}
 use Rattle.script_line.specs.declared.line.Ending.TheVariants.{Stored, Fill, Short, Fault}
 use Rattle.change_record.specs.Machine.{WholeRequest}
@@ -29,6 +29,7 @@ use Rattle.plain_machine.specs.Keeper.{State, MayCall, machine_of}
 use Rattle.plain_machine.specs.Entities.{vtime_view, entity_view}
 use Rattle.answer_text.specs.Texts.{text_of}
 use Rattle.host_console.specs.Texts.{vtime_text, entity_text}
+use Rattle.host_console.specs.Looks.{Looked}
 use Rattle.host_console.specs.declared.content.Content.{Content}
 use Rattle.host_console.specs.declared.content.Content.TheVariants as content
 
@@ -161,6 +162,7 @@ asked (Queue seat) = None
 asked Cursor = None
 asked (Vtime group) = None
 asked (Entity number) = None
+asked (Show look) = None
 
 -- what such a line as makes no call of its own may print at a keeper over an image, and what both are then: only a `work` line
 -- reads the image (our profile)
@@ -174,6 +176,7 @@ Looks before (Queue seat) text after = Shows before (queue_text before.keeper se
 Looks before Cursor text after = Shows before (cursor_text before.keeper) text after
 Looks before (Vtime group) text after = Shows before (group_text before.keeper group) text after
 Looks before (Entity number) text after = Shows before (known_text before.keeper number) text after
+Looks before (Show look) text after = (shown : List ℕ) × Looked before.keeper look shown × Shows before shown text after
 Looks before line text after = ⊥
 
 -- what a line may print at a keeper over an image, and what both are then: its call is made once, and answered; or it has none

@@ -52,6 +52,7 @@ pub fn call_of(alloc: Global, line: Line) -> Result<Option<Call>, OutOfMemory>
         Line::Cursor => Ok(None),
         Line::Vtime { .. } => Ok(None),
         Line::Entity { .. } => Ok(None),
+        Line::Show { .. } => Ok(None),
     }
 }
 

@@ -1,14 +1,17 @@
 // What a console needs of a keeper.
-ghost use Rattle.std.specs.Prelude.{◌≡◌, ◌<◌, ◌^◌, length};
+ghost use Rattle.std.specs.Prelude.{◌≡◌, ◌<◌, ◌^◌, ◌++◌, List, ℕ, OnOk, length};
 ghost use Rattle.plain_machine.specs.Keeper.{State, MayCall, machine_of};
 ghost use Rattle.plain_machine.specs.Queued.{request_view};
 ghost use Rattle.plain_machine.specs.Entities.{vtime_view, entity_view};
 ghost use Rattle.plain_machine.specs.Device.{work_in_flight};
 ghost use Rattle.host_console.specs.Printed.{IsContent};
+ghost use Rattle.host_console.specs.Looks.{Looked};
 
 use crate::Content;
 use plain_machine::{Answer, Call, EntityView, RequestView, Work};
+use script_line::Look;
 use std::alloc::Global;
+use std::io;
 
 /// A keeper: it answers calls, and can be looked at.
 pub trait Keeps {
@@ -47,6 +50,10 @@ pub trait Keeps {
     /// How many steps the line has.
     fn length(&self) -> u32
         ensures { result ≡ length (state self.now).line };
+
+    /// Appends what a look shows. It fails only for want of memory.
+    fn put_look(&self, look: Look, out: &mut Vec<u8>) -> io::Result<()>
+        ensures { OnOk result ((shown : List ℕ) × Looked (state self.now) look shown × (out.new.items ≡ out.old.items ++ shown)) };
 
     /// The last serial that was given.
     fn last_serial(&self) -> u64

@@ -9,7 +9,8 @@
 //! | `Keeps` | what a keeper must offer to be run from a script |
 //!
 //! The rules stand in `specs/`: `Printed` says for each line which call it is and what it prints, and `Texts` has
-//! the texts of groups and of entities. `answer_text` has those of answers.
+//! the texts of groups and of entities. `Looks` says what a line that begins with `show` prints, and `Views` has the texts of what a
+//! machine has. `answer_text` has those of answers.
 //!
 //! ```text
 //! attach 0 0 4        // attached 1

@@ -1,6 +1,7 @@
 // A keeper over an image, run from a script.
 ghost use Rattle.std.specs.Prelude.{◌≡◌, ℕ, List, ◌++◌, None, IfOk, OnOk, OnErr, ◌⊎◌};
 ghost use Rattle.script_run.specs.Script.{MayHaveRun};
+ghost use Rattle.host_console.specs.Looks.{Looked};
 ghost use Rattle.host_console.specs.Printed.{AnswersOver, Looks, Prints, asked, outcome_of, sectors_in_flight, ended, sector_text, queue_text, cursor_text, group_text, known_text};
 
 use crate::Keeps;
@@ -10,7 +11,7 @@ use crate::query::{put_cursor, put_entity, put_queue, put_sector, put_vtime};
 use answer_text::put_answer;
 use base_image::Image;
 use plain_machine::{Call, Step};
-use script_line::{Ending, Line};
+use script_line::{Ending, Line, Look};
 use script_run::Console;
 use sector_core::{FailKind, OutOfMemory, Outcome};
 use std::alloc::Global;
@@ -59,6 +60,7 @@ impl<K: Keeps, I: Image> Teller<K, I> {
             Line::Cursor => self.tell_cursor(out),
             Line::Vtime { group } => self.tell_vtime(group, out),
             Line::Entity { number } => self.tell_entity(number, out),
+            Line::Show { look } => self.tell_look(look, out),
             // Each other line makes its call.
             _ => unreachable!(),
         }
@@ -181,6 +183,14 @@ impl<K: Keeps, I: Image> Teller<K, I> {
         ensures { OnOk result (out.new.items ≡ out.old.items ++ ended (known_text self.now.keeper number)) }
     {
         put_entity(&self.keeper, number, out).map_err(|_| OutOfMemory)?;
+        out.push(b'\n')?;
+        Ok(())
+    }
+
+    fn tell_look(&self, look: Look, out: &mut Vec<u8>) -> Result<(), OutOfMemory>
+        ensures { OnOk result ((shown : List ℕ) × Looked self.now.keeper look shown × (out.new.items ≡ out.old.items ++ ended shown)) }
+    {
+        self.keeper.put_look(look, out).map_err(|_| OutOfMemory)?;
         out.push(b'\n')?;
         Ok(())
     }

@@ -1,10 +1,15 @@
 -- A text is cut at its first space in one way only.
-use Rattle.std.proofs.Common.{◌≡◌, ◌≢◌, ℕ, ◌+◌, ◌<◌, ◌≤◌, ◌^◌, List, [], ◌∷◌, ◌++◌, length, refl, sym, ap, subst, ◌∙◌, arith, append_assoc, length-append, take, get_or}
+use Rattle.std.proofs.Common.{◌≡◌, ◌≢◌, ℕ, ◌+◌, ◌*◌, ◌<◌, ◌≤◌, ◌^◌, List, [], ◌∷◌, ◌++◌, length, refl, sym, ap, subst, ◌∙◌, arith, append_assoc, length-append, take, get_or}
 use Rattle.std.specs.Fmt.{decimal}
 use Rattle.std.proofs.lemmas.List.{take_more}
 use Rattle.std.proofs.lemmas.Fmt.{decimal_injective}
 use Rattle.script_line.specs.Words.{HasNoSpace, IsTail, AreNumbers, numbers}
 use Rattle.script_line.proofs.Decimals.{HasNoSpace-decimal, HasNoSpace-push}
+
+-- a number that differs from word to word
+abbrev pub mark : List ℕ → ℕ
+mark [] = 0
+mark (x ∷ xs) = x + 31 * mark xs
 
 pub one_cut : (a b x y : List ℕ) → HasNoSpace a → HasNoSpace b → IsTail x → IsTail y → a ++ x ≡ b ++ y → (a ≡ b) × (x ≡ y)
 one_cut [] [] x y _ _ _ _ e = (refl, e)
@@ -27,6 +32,17 @@ one_number m n x y hm hn hx hy e =
 pub IsTail-numbers : (ns : List ℕ) → IsTail (numbers ns)
 IsTail-numbers [] = tt
 IsTail-numbers (n ∷ ns) = refl
+
+pub one_numbers : (xs ys : List ℕ) → AreNumbers xs → AreNumbers ys → numbers xs ≡ numbers ys → xs ≡ ys
+one_numbers [] [] _ _ _ = refl
+one_numbers [] (y ∷ ys) _ _ e = absurd (cc)
+one_numbers (x ∷ xs) [] _ _ e = absurd (cc)
+one_numbers (x ∷ xs) (y ∷ ys) hx hy e =
+    let same : decimal x ++ numbers xs ≡ decimal y ++ numbers ys = cc in
+    let both = one_number x y (numbers xs) (numbers ys) hx.0 hy.0 (IsTail-numbers xs) (IsTail-numbers ys) same in
+    let first : x ≡ y = both.0 in
+    let rest : xs ≡ ys = one_numbers xs ys hx.1 hy.1 both.1 in
+    cc
 
 pub IsTail-append : (ns : List ℕ) (rest : List ℕ) → IsTail rest → IsTail (numbers ns ++ rest)
 IsTail-append [] rest h = h

@@ -1,5 +1,6 @@
 pub mod Cuts
 pub mod Decimals
 pub mod Finishes
+pub mod Looks
 pub mod Plains
 pub mod Same

@@ -1,16 +1,18 @@
--- Each line is a word and numbers, or begins with the word `finish` or `switch`.
+-- Each line is a word and numbers, or begins with the word `finish`, `switch` or `show`.
 use Rattle.std.proofs.Common.{◌≡◌, ℕ, ◌≤◌, ◌⊎◌, inl, inr, List, [], ◌∷◌, ◌++◌, codes, length, refl, sym, ◌∙◌, arith, rules, lit≤}
-use Rattle.std.specs.Fmt.{decimal}
 use Rattle.script_line.specs.Words.{IsTail, HasNoSpace, AreNumbers, numbers}
 use Rattle.script_line.specs.Line.{spelled, ended, named, Fits}
+use Rattle.script_line.specs.Look.{shown}
 use Rattle.script_line.specs.Plain.{IsWordAndNumbers, Reads}
 use Rattle.std.specs.Prelude.{Option, None, Some, IfNone}
 use Rattle.script_line.specs.declared.line.Line.{Line}
+use Rattle.script_line.specs.declared.look.Look.{Look}
 use Rattle.script_line.specs.declared.line.Ending.{Ending}
 use Rattle.sector_core.specs.declared.config.Scheduler.{Scheduler}
 use Rattle.sector_core.specs.declared.config.Scheduler.TheVariants.{Plain, Bfq}
-use Rattle.script_line.specs.declared.line.Line.TheVariants.{Attach, Read, Write, Reap, Leave, Dispatch, Finish, Work, Requeue, Hold, Release, Undo, Redo, Group, Drop, Weight, Freeze, Thaw, Switch, Tick, Sector, Queue, Cursor, Vtime, Entity}
-use Rattle.script_line.proofs.Cuts.{one_number, one_cut, IsTail-numbers}
+use Rattle.script_line.specs.declared.line.Line.TheVariants.{Attach, Read, Write, Reap, Leave, Dispatch, Finish, Work, Requeue, Hold, Release, Undo, Redo, Group, Drop, Weight, Freeze, Thaw, Switch, Tick, Sector, Queue, Cursor, Vtime, Entity, Show}
+use Rattle.script_line.proofs.Cuts.{one_cut, one_numbers, IsTail-numbers}
+use Rattle.script_line.proofs.Looks.{IsTail-shown}
 
 pub record IsPlain (word given : List ℕ) (l : Line) : Type 0 where
   pub spelling : spelled l ≡ word ++ numbers given
@@ -19,18 +21,22 @@ pub record IsPlain (word given : List ℕ) (l : Line) : Type 0 where
   pub few : length given ≤ 5
   pub is : (w ns : List ℕ) → w ≡ word → ns ≡ given → IsWordAndNumbers w ns l
 
--- a `finish` line or a `switch` line
+-- a `finish` line, a `switch` line or a `show` line
 abbrev pub IsOther : Line → Type 0
-IsOther l = ((tag : ℕ) × (issue : ℕ) × (e : Ending) × (l ≡ Finish tag issue e)) ⊎ ((s : Scheduler) × (l ≡ Switch s))
+IsOther l = ((tag : ℕ) × (issue : ℕ) × (e : Ending) × (l ≡ Finish tag issue e)) ⊎ (((s : Scheduler) × (l ≡ Switch s)) ⊎ ((look : Look) × (l ≡ Show look)))
+
+-- a word that more than numbers follows
+abbrev pub IsLeader : List ℕ → Type 0
+IsLeader word = (word ≡ codes "finish") ⊎ ((word ≡ codes "switch") ⊎ (word ≡ codes "show"))
 
 pub record IsLed (word rest : List ℕ) (l : Line) : Type 0 where
   pub spelling : spelled l ≡ word ++ rest
   pub space : HasNoSpace word
   pub tail : IsTail rest
-  pub known : (word ≡ codes "finish") ⊎ (word ≡ codes "switch")
+  pub known : IsLeader word
   pub other : IsOther l
 
--- a line of a word and numbers, or one that begins with `finish` or `switch`
+-- a line of a word and numbers, or one that begins with `finish`, `switch` or `show`
 abbrev pub Parts : Line → Type 0
 Parts l = ((word : List ℕ) × (given : List ℕ) × IsPlain word given l) ⊎ ((word : List ℕ) × (rest : List ℕ) × IsLed word rest l)
 
@@ -57,31 +63,21 @@ parts (Drop g) f = inl (codes "drop", g ∷ [], record { spelling = refl; space 
 parts (Weight g w) f = inl (codes "weight", g ∷ w ∷ [], record { spelling = refl; space = search rules; fits = (omega arith, (omega arith, tt)); few = lit≤ tt; is = λ w ns e d. (e, d) })
 parts Freeze f = inl (codes "freeze", [], record { spelling = refl; space = search rules; fits = tt; few = lit≤ tt; is = λ w ns e d. (e, d) })
 parts Thaw f = inl (codes "thaw", [], record { spelling = refl; space = search rules; fits = tt; few = lit≤ tt; is = λ w ns e d. (e, d) })
-parts (Switch s) f = inr (codes "switch", named s, record { spelling = refl; space = search rules; tail = IsTail-named s; known = inr refl; other = inr (s, refl) })
+parts (Switch s) f = inr (codes "switch", named s, record { spelling = refl; space = search rules; tail = IsTail-named s; known = inr (inl refl); other = inr (inl (s, refl)) })
 parts Tick f = inl (codes "tick", [], record { spelling = refl; space = search rules; fits = tt; few = lit≤ tt; is = λ w ns e d. (e, d) })
 parts (Sector n) f = inl (codes "sector", n ∷ [], record { spelling = refl; space = search rules; fits = (f, tt); few = lit≤ tt; is = λ w ns e d. (e, d) })
 parts (Queue s) f = inl (codes "queue", s ∷ [], record { spelling = refl; space = search rules; fits = (omega arith, tt); few = lit≤ tt; is = λ w ns e d. (e, d) })
 parts Cursor f = inl (codes "line", [], record { spelling = refl; space = search rules; fits = tt; few = lit≤ tt; is = λ w ns e d. (e, d) })
 parts (Vtime g) f = inl (codes "vtime", g ∷ [], record { spelling = refl; space = search rules; fits = (omega arith, tt); few = lit≤ tt; is = λ w ns e d. (e, d) })
 parts (Entity n) f = inl (codes "entity", n ∷ [], record { spelling = refl; space = search rules; fits = (omega arith, tt); few = lit≤ tt; is = λ w ns e d. (e, d) })
+parts (Show look) f = inr (codes "show", shown look, record { spelling = refl; space = search rules; tail = IsTail-shown look; known = inr (inr refl); other = inr (inr (look, refl)) })
 
-pub one_numbers : (xs ys : List ℕ) → AreNumbers xs → AreNumbers ys → numbers xs ≡ numbers ys → xs ≡ ys
-one_numbers [] [] _ _ _ = refl
-one_numbers [] (y ∷ ys) _ _ e = absurd (cc)
-one_numbers (x ∷ xs) [] _ _ e = absurd (cc)
-one_numbers (x ∷ xs) (y ∷ ys) hx hy e =
-    let same : decimal x ++ numbers xs ≡ decimal y ++ numbers ys = cc in
-    let both = one_number x y (numbers xs) (numbers ys) hx.0 hy.0 (IsTail-numbers xs) (IsTail-numbers ys) same in
-    let first : x ≡ y = both.0 in
-    let rest : xs ≡ ys = one_numbers xs ys hx.1 hy.1 both.1 in
-    cc
-
--- a text cut into a word that is not `finish` or `switch` and numbers is no line, where no line is that word and these numbers
-pub no_plain : (text word rest given : List ℕ) → text ≡ word ++ rest → HasNoSpace word → IsTail rest → (word ≡ codes "finish" → ⊥) → (word ≡ codes "switch" → ⊥)
+-- a text cut into a word that is none of `finish`, `switch` and `show` and numbers is no line, where no line is that word and these numbers
+pub no_plain : (text word rest given : List ℕ) → text ≡ word ++ rest → HasNoSpace word → IsTail rest → (word ≡ codes "finish" → ⊥) → (word ≡ codes "switch" → ⊥) → (word ≡ codes "show" → ⊥)
     → AreNumbers given → rest ≡ numbers given
     → ((l : Line) → Fits l → IsWordAndNumbers word given l → ⊥)
     → (l : Line) → Fits l → text ≡ spelled l → ⊥
-no_plain text word rest given whole hw hr finish switch hg is none l fits e =
+no_plain text word rest given whole hw hr finish switch show hg is none l fits e =
     elim (parts l fits) [
       | inl p ↦
           let same : word ++ rest ≡ p.0 ++ numbers p.1 = sym whole ∙ e ∙ p.2.spelling in
@@ -92,15 +88,16 @@ no_plain text word rest given whole hw hr finish switch hg is none l fits e =
           let word_is = (one_cut word p.0 rest p.1 hw p.2.space hr p.2.tail same).0 in
           elim p.2.known [
             | inl k ↦ finish (word_is ∙ k)
-            | inr k ↦ switch (word_is ∙ k)
+            | inr (inl k) ↦ switch (word_is ∙ k)
+            | inr (inr k) ↦ show (word_is ∙ k)
           ]
     ]
 
--- a text cut into a word that is not `finish` or `switch` and what are no numbers is no line
-pub no_numbers : (text word rest : List ℕ) → text ≡ word ++ rest → HasNoSpace word → IsTail rest → (word ≡ codes "finish" → ⊥) → (word ≡ codes "switch" → ⊥)
+-- a text cut into a word that is none of `finish`, `switch` and `show` and what are no numbers is no line
+pub no_numbers : (text word rest : List ℕ) → text ≡ word ++ rest → HasNoSpace word → IsTail rest → (word ≡ codes "finish" → ⊥) → (word ≡ codes "switch" → ⊥) → (word ≡ codes "show" → ⊥)
     → ((ns : List ℕ) → AreNumbers ns → length ns ≤ 5 → rest ≡ numbers ns → ⊥)
     → (l : Line) → Fits l → text ≡ spelled l → ⊥
-no_numbers text word rest whole hw hr finish switch none l fits e =
+no_numbers text word rest whole hw hr finish switch show none l fits e =
     elim (parts l fits) [
       | inl p ↦
           let same : word ++ rest ≡ p.0 ++ numbers p.1 = sym whole ∙ e ∙ p.2.spelling in
@@ -111,7 +108,8 @@ no_numbers text word rest whole hw hr finish switch none l fits e =
           let word_is = (one_cut word p.0 rest p.1 hw p.2.space hr p.2.tail same).0 in
           elim p.2.known [
             | inl k ↦ finish (word_is ∙ k)
-            | inr k ↦ switch (word_is ∙ k)
+            | inr (inl k) ↦ switch (word_is ∙ k)
+            | inr (inr k) ↦ show (word_is ∙ k)
           ]
     ]
 

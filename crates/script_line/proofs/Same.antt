@@ -1,23 +1,21 @@
 -- Two lines that are spelled alike are equal.
-use Rattle.std.proofs.Common.{◌≡◌, ℕ, ◌+◌, ◌*◌, List, [], ◌∷◌, ◌++◌, codes, refl, sym, ap, subst, ◌∙◌, arith, ◌⊎◌, inl, inr, take, get_or}
+use Rattle.std.proofs.Common.{◌≡◌, ℕ, List, [], ◌∷◌, ◌++◌, codes, refl, sym, ap, subst, ◌∙◌, arith, inl, inr, take, get_or}
 use Rattle.script_line.specs.Words.{numbers}
 use Rattle.script_line.specs.Line.{spelled, ended, Fits, EndingFits}
+use Rattle.script_line.specs.Look.{shown, LookFits}
 use Rattle.script_line.specs.Plain.{IsWordAndNumbers}
 use Rattle.script_line.specs.declared.line.Line.{Line}
-use Rattle.script_line.specs.declared.line.Line.TheVariants.{Attach, Read, Write, Reap, Leave, Dispatch, Finish, Work, Requeue, Hold, Release, Undo, Redo, Group, Drop, Weight, Freeze, Thaw, Switch, Tick, Sector, Queue, Cursor, Vtime, Entity}
+use Rattle.script_line.specs.declared.line.Line.TheVariants.{Attach, Read, Write, Reap, Leave, Dispatch, Finish, Work, Requeue, Hold, Release, Undo, Redo, Group, Drop, Weight, Freeze, Thaw, Switch, Tick, Sector, Queue, Cursor, Vtime, Entity, Show}
+use Rattle.script_line.specs.declared.look.Look.{Look}
 use Rattle.script_line.specs.declared.line.Ending.{Ending}
 use Rattle.script_line.specs.declared.line.Ending.TheVariants.{Stored, Fill, Short, Fault}
 use Rattle.sector_core.specs.declared.config.Scheduler.{Scheduler}
 use Rattle.sector_core.specs.declared.config.Scheduler.TheVariants.{Plain, Bfq}
-use Rattle.script_line.proofs.Cuts.{one_cut, IsTail-numbers}
+use Rattle.script_line.proofs.Cuts.{mark, one_cut, one_numbers, IsTail-numbers}
 use Rattle.std.specs.Fmt.{decimal}
 use Rattle.script_line.proofs.Finishes.{first_number, two_numbers, IsTail-ended}
-use Rattle.script_line.proofs.Plains.{IsOther, parts, one_numbers}
-
--- a number that differs from word to word
-abbrev mark : List ℕ → ℕ
-mark [] = 0
-mark (x ∷ xs) = x + 31 * mark xs
+use Rattle.script_line.proofs.Plains.{IsLeader, IsOther, parts}
+use Rattle.script_line.proofs.Looks.{one_look}
 
 abbrev word_of : Line → List ℕ
 word_of (Attach s g p) = codes "attach"
@@ -45,18 +43,22 @@ word_of (Queue s) = codes "queue"
 word_of Cursor = codes "line"
 word_of (Vtime g) = codes "vtime"
 word_of (Entity n) = codes "entity"
+word_of (Show look) = codes "show"
 
 word_is : (w ns : List ℕ) (l : Line) → IsWordAndNumbers w ns l → w ≡ word_of l
 word_is w ns (Finish t i e) h = absurd h
 word_is w ns (Switch s) h = absurd h
+word_is w ns (Show look) h = absurd h
 word_is w ns _ h = h.0
 
--- a line that is a word and numbers begins with neither `finish` nor `switch`
-not_led : (w ns : List ℕ) (l : Line) → IsWordAndNumbers w ns l → (w ≡ codes "finish") ⊎ (w ≡ codes "switch") → ⊥
+-- a line that is a word and numbers begins with none of `finish`, `switch` and `show`
+not_led : (w ns : List ℕ) (l : Line) → IsWordAndNumbers w ns l → IsLeader w → ⊥
 not_led w ns (Finish t i e) h k = h
 not_led w ns (Switch s) h k = h
+not_led w ns (Show look) h k = h
 not_led w ns _ h (inl k) = omega (arith, ap mark (sym h.0 ∙ k))
-not_led w ns _ h (inr k) = omega (arith, ap mark (sym h.0 ∙ k))
+not_led w ns _ h (inr (inl k)) = omega (arith, ap mark (sym h.0 ∙ k))
+not_led w ns _ h (inr (inr k)) = omega (arith, ap mark (sym h.0 ∙ k))
 
 one_plain : (w ns : List ℕ) (l m : Line) → IsWordAndNumbers w ns l → IsWordAndNumbers w ns m → l ≡ m
 one_plain w ns (Attach s g p) (Attach s' g' p') one two = let same : s ∷ g ∷ p ∷ [] ≡ s' ∷ g' ∷ p' ∷ [] = sym one.1 ∙ two.1 in cc
@@ -107,6 +109,7 @@ one_plain w ns (Vtime g) (Vtime g') one two = let same : g ∷ [] ≡ g' ∷ [] 
 one_plain w ns (Vtime g) m one two = absurd (omega (arith, ap mark (sym one.0 ∙ word_is w ns m two)))
 one_plain w ns (Entity n) (Entity n') one two = let same : n ∷ [] ≡ n' ∷ [] = sym one.1 ∙ two.1 in cc
 one_plain w ns (Entity n) m one two = absurd (omega (arith, ap mark (sym one.0 ∙ word_is w ns m two)))
+one_plain w ns (Show look) m one two = absurd one
 
 one_ending : (d e : Ending) → EndingFits d → EndingFits e → ended d ≡ ended e → d ≡ e
 one_ending Stored Stored _ _ _ = refl
@@ -140,21 +143,42 @@ one_scheduler Bfq Bfq h = refl
 one_scheduler Plain Bfq h = absurd (omega (arith, ap (λ xs. get_or xs 7 0) h))
 one_scheduler Bfq Plain h = absurd (omega (arith, ap (λ xs. get_or xs 7 0) h))
 
--- two lines that begin with `finish` or `switch` and are spelled alike are equal
+one_show : (l m : Look) → LookFits l → LookFits m → spelled (Show l) ≡ spelled (Show m) → Show l ≡ Show m
+one_show l m f g h =
+    let after : shown l ≡ shown m = cc in
+    ap Show (one_look l m f g after)
+
+-- two lines that begin with `finish`, `switch` or `show` and are spelled alike are equal
 one_other : (l m : Line) → IsOther l → IsOther m → Fits l → Fits m → spelled l ≡ spelled m → l ≡ m
 one_other l m (inl a) (inl b) f g same =
     let F : Line → Type 0 = λ x. Fits x in
     let both : spelled (Finish a.0 a.1 a.2) ≡ spelled (Finish b.0 b.1 b.2) = ap spelled (sym a.3) ∙ same ∙ ap spelled b.3 in
     a.3 ∙ one_finish a.0 a.1 a.2 b.0 b.1 b.2 (subst F a.3 f) (subst F b.3 g) both ∙ sym b.3
-one_other l m (inl a) (inr b) f g same =
+one_other l m (inl a) (inr (inl b)) f g same =
     let both : spelled (Finish a.0 a.1 a.2) ≡ spelled (Switch b.0) = ap spelled (sym a.3) ∙ same ∙ ap spelled b.1 in
     absurd (omega (arith, ap (λ xs. get_or xs 0 0) both))
-one_other l m (inr a) (inl b) f g same =
+one_other l m (inl a) (inr (inr b)) f g same =
+    let both : spelled (Finish a.0 a.1 a.2) ≡ spelled (Show b.0) = ap spelled (sym a.3) ∙ same ∙ ap spelled b.1 in
+    absurd (omega (arith, ap (λ xs. get_or xs 0 0) both))
+one_other l m (inr (inl a)) (inl b) f g same =
     let both : spelled (Switch a.0) ≡ spelled (Finish b.0 b.1 b.2) = ap spelled (sym a.1) ∙ same ∙ ap spelled b.3 in
     absurd (omega (arith, ap (λ xs. get_or xs 0 0) both))
-one_other l m (inr a) (inr b) f g same =
+one_other l m (inr (inl a)) (inr (inl b)) f g same =
     let both : spelled (Switch a.0) ≡ spelled (Switch b.0) = ap spelled (sym a.1) ∙ same ∙ ap spelled b.1 in
     a.1 ∙ one_scheduler a.0 b.0 both ∙ sym b.1
+one_other l m (inr (inl a)) (inr (inr b)) f g same =
+    let both : spelled (Switch a.0) ≡ spelled (Show b.0) = ap spelled (sym a.1) ∙ same ∙ ap spelled b.1 in
+    absurd (omega (arith, ap (λ xs. get_or xs 1 0) both))
+one_other l m (inr (inr a)) (inl b) f g same =
+    let both : spelled (Show a.0) ≡ spelled (Finish b.0 b.1 b.2) = ap spelled (sym a.1) ∙ same ∙ ap spelled b.3 in
+    absurd (omega (arith, ap (λ xs. get_or xs 0 0) both))
+one_other l m (inr (inr a)) (inr (inl b)) f g same =
+    let both : spelled (Show a.0) ≡ spelled (Switch b.0) = ap spelled (sym a.1) ∙ same ∙ ap spelled b.1 in
+    absurd (omega (arith, ap (λ xs. get_or xs 1 0) both))
+one_other l m (inr (inr a)) (inr (inr b)) f g same =
+    let F : Line → Type 0 = λ x. Fits x in
+    let both : spelled (Show a.0) ≡ spelled (Show b.0) = ap spelled (sym a.1) ∙ same ∙ ap spelled b.1 in
+    a.1 ∙ one_show a.0 b.0 (subst F a.1 f) (subst F b.1 g) both ∙ sym b.1
 
 pub one_spelling : (l m : Line) → Fits l → Fits m → spelled l ≡ spelled m → l ≡ m
 one_spelling l m f g same =

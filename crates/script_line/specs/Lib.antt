@@ -1,3 +1,4 @@
 pub mod Line
+pub mod Look
 pub mod Plain
 pub mod Words

@@ -3,8 +3,9 @@ use Rattle.std.specs.Prelude.{ℕ, ◌<◌, ◌^◌, List, [], ◌∷◌, ◌++�
 use Rattle.sector_core.specs.declared.config.Scheduler.{Scheduler}
 use Rattle.sector_core.specs.declared.config.Scheduler.TheVariants.{Plain, Bfq}
 use Rattle.script_line.specs.Words.{numbers}
+use Rattle.script_line.specs.Look.{shown, LookFits}
 use Rattle.script_line.specs.declared.line.Line.{Line}
-use Rattle.script_line.specs.declared.line.Line.TheVariants.{Attach, Read, Write, Reap, Leave, Dispatch, Finish, Work, Requeue, Hold, Release, Undo, Redo, Group, Drop, Weight, Freeze, Thaw, Switch, Tick, Sector, Queue, Cursor, Vtime, Entity}
+use Rattle.script_line.specs.declared.line.Line.TheVariants.{Attach, Read, Write, Reap, Leave, Dispatch, Finish, Work, Requeue, Hold, Release, Undo, Redo, Group, Drop, Weight, Freeze, Thaw, Switch, Tick, Sector, Queue, Cursor, Vtime, Entity, Show}
 use Rattle.script_line.specs.declared.line.Ending.{Ending}
 use Rattle.script_line.specs.declared.line.Ending.TheVariants.{Stored, Fill, Short, Fault}
 
@@ -47,6 +48,7 @@ spelled (Queue seat) = codes "queue" ++ numbers (seat ∷ [])
 spelled Cursor = codes "line"
 spelled (Vtime group) = codes "vtime" ++ numbers (group ∷ [])
 spelled (Entity number) = codes "entity" ++ numbers (number ∷ [])
+spelled (Show look) = codes "show" ++ shown look
 
 -- the byte of an ending is a byte
 abbrev pub EndingFits : Ending → Type 0
@@ -82,3 +84,4 @@ Fits (Queue seat) = seat < 2 ^ 8
 Fits Cursor = Unit {0}
 Fits (Vtime group) = group < 2 ^ 8
 Fits (Entity number) = number < 2 ^ 8
+Fits (Show look) = LookFits look

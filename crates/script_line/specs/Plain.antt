@@ -2,7 +2,7 @@
 use Rattle.std.specs.Prelude.{◌≡◌, ℕ, List, [], ◌∷◌, codes, Option, MatchOption}
 use Rattle.script_line.specs.Line.{Fits}
 use Rattle.script_line.specs.declared.line.Line.{Line}
-use Rattle.script_line.specs.declared.line.Line.TheVariants.{Attach, Read, Write, Reap, Leave, Dispatch, Finish, Work, Requeue, Hold, Release, Undo, Redo, Group, Drop, Weight, Freeze, Thaw, Switch, Tick, Sector, Queue, Cursor, Vtime, Entity}
+use Rattle.script_line.specs.declared.line.Line.TheVariants.{Attach, Read, Write, Reap, Leave, Dispatch, Finish, Work, Requeue, Hold, Release, Undo, Redo, Group, Drop, Weight, Freeze, Thaw, Switch, Tick, Sector, Queue, Cursor, Vtime, Entity, Show}
 
 -- the line is this word and then these numbers
 abbrev pub IsWordAndNumbers : List ℕ → List ℕ → Line → Type 0
@@ -31,6 +31,7 @@ IsWordAndNumbers word given (Queue seat) = (word ≡ codes "queue") × (given �
 IsWordAndNumbers word given Cursor = (word ≡ codes "line") × (given ≡ [])
 IsWordAndNumbers word given (Vtime group) = (word ≡ codes "vtime") × (given ≡ group ∷ [])
 IsWordAndNumbers word given (Entity number) = (word ≡ codes "entity") × (given ≡ number ∷ [])
+IsWordAndNumbers word given (Show look) = ⊥
 
 -- what a word and numbers are read to: the line that they are, or none where no line is
 abbrev pub Reads : List ℕ → List ℕ → Option Line → Type 0

@@ -22,11 +22,14 @@ mod finish;
 mod fitted;
 mod law;
 mod line;
+mod look;
 mod plain;
 mod read;
+mod show;
 mod switch;
 
 pub use decimal::number;
 pub use law::one_line;
 pub use line::{Ending, Line};
+pub use look::Look;
 pub use read::line_of;

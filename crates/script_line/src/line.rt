@@ -1,4 +1,5 @@
 // The lines of a script.
+use super::look::Look;
 use sector_core::Scheduler;
 
 /// A line of a script that is not empty and no comment.
@@ -105,6 +106,10 @@ pub enum Line {
     /// `entity N`, a query
     Entity {
         number: u8,
+    },
+    /// `show` and what is to be shown, a query
+    Show {
+        look: Look,
     },
 }
 

@@ -6,6 +6,7 @@ use super::fields::{cut, number_fields};
 use super::finish::finish;
 use super::line::Line;
 use super::plain::plain_line;
+use super::show::show;
 use super::switch::switch;
 
 /// The line that the text spells: its words joined by one space, its numbers in decimal and within their types.
@@ -19,6 +20,9 @@ pub fn line_of(text: &[u8]) -> Option<Line>
     }
     if word == b"switch".as_slice() {
         return switch(rest);
+    }
+    if word == b"show".as_slice() {
+        return show(rest);
     }
     match number_fields(rest) {
         Some(given) => plain_line(word, given.as_slice()),

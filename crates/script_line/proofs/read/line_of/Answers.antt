@@ -7,10 +7,10 @@ returns-in-Some-clause-none c =
     let given_is = c.as_slice-in-Some.ensures.value in
     none_read c.cut.result.0.now c.as_slice-in-Some.result.now c.plain_line.result c.plain_line.ensures
     (no_plain c.args.text.now c.cut.result.0.now c.cut.result.1.now c.as_slice-in-Some.result.now
-    c.cut.ensures.whole c.cut.ensures.word c.cut.ensures.tail (search rules) (search rules)
+    c.cut.ensures.whole c.cut.ensures.word c.cut.ensures.tail (search rules) (search rules) (search rules)
     (rw given_is c.in-Some.ensures.fits) (rw given_is c.in-Some.ensures.found))
 
 pub returns-in-None-clause-none : goal.returns-in-None-clause-none
 returns-in-None-clause-none c =
     no_numbers c.args.text.now c.cut.result.0.now c.cut.result.1.now
-    c.cut.ensures.whole c.cut.ensures.word c.cut.ensures.tail (search rules) (search rules) c.in-None.ensures.none
+    c.cut.ensures.whole c.cut.ensures.word c.cut.ensures.tail (search rules) (search rules) (search rules) c.in-None.ensures.none
