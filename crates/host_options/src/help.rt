@@ -59,6 +59,8 @@ SCRIPT: one call a line, words joined by one space; an empty line or one that be
     sector NUMBER                        queue SEAT
     vtime GROUP                          entity NUMBER
     line
+    show seat|outbox|queue SEAT          show requeued|flight|service|host
+    show tree GROUP                      show stored FROM, show step K
 
 REFUSALS: what 'refused N' says; nothing has changed
      1 BadSeat: seats are numbered 0 to 15
