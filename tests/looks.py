@@ -5,6 +5,7 @@ is held, and each step is undone in turn: what stands then must be shown as it w
 Of `show host` the scheduler, whether the host is frozen and the seat served last are compared, as the rest goes on with the calls.
 """
 
+import contextlib
 import os
 import subprocess
 
@@ -13,6 +14,10 @@ from script_rows import SCRIPTS, read_rows
 
 SEATS, GROUPS = 16, 32
 FULL = "refused 33"
+
+
+class Ended(Exception):
+    """The program took no more lines."""
 
 
 class Asked:
@@ -25,15 +30,23 @@ class Asked:
         return self
 
     def __exit__(self, *_):
-        self.process.stdin.close()
-        self.process.wait()
         self.process.stdout.close()
+        with contextlib.suppress(BrokenPipeError):
+            self.process.stdin.close()
+        self.process.wait()
 
     def ask(self, *lines):
         """The answers to some lines, which are written at once."""
-        self.process.stdin.write("".join(f"{line}\n" for line in lines))
-        self.process.stdin.flush()
-        return [self.process.stdout.readline().removesuffix("\n") for _ in lines]
+        try:
+            self.process.stdin.write("".join(f"{line}\n" for line in lines))
+            self.process.stdin.flush()
+        except BrokenPipeError:
+            raise Ended("the program has ended") from None
+        answers = [self.process.stdout.readline().removesuffix("\n") for _ in lines]
+        for line, answer in zip(lines, answers):
+            if not answer or answer.startswith("bad line"):
+                raise Ended(f"{line!r} is answered {answer!r}")
+        return answers
 
     def cursor(self):
         """How many steps stand, and how many the line has."""
@@ -99,3 +112,5 @@ def looks(program):
                 yield f"every look of scripts/{name}: {' '.join(words)}", faults_of(program, words, lines)
             except Skipped:
                 continue
+            except Ended as fault:
+                yield name, [str(fault)]
