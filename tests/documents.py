@@ -116,9 +116,21 @@ def served():
             yield f"docs/GUIDE.md has other bytes than {name} of the test"
 
 
+def stepped(program):
+    """The README's look at everything is what the stepper prints."""
+    with open(os.path.join(TOP, "README.md"), encoding="utf-8") as file:
+        lines, _, shown = re.search(r"    \$ printf '(.*)' \| tools/step\n()((?:    .*\n|\n)*)", file.read()).groups()
+    ended = subprocess.run([os.path.join(TOP, "tools", "step"), "--program", program], input=lines.replace("\\n", "\n"), capture_output=True,
+                           text=True, timeout=SECONDS, check=False, env={**os.environ, "PYTHONDONTWRITEBYTECODE": "1"})
+    wanted = [line.removeprefix("    ") for line in shown.rstrip("\n").split("\n")]
+    got = ended.stdout.rstrip("\n").split("\n")
+    if ended.stderr or got != wanted:
+        yield f"`tools/step` prints {got}, {ended.stderr!r}, and not {wanted}"
+
+
 def documents(program):
     """The name of each look, and what was wrong with the documents."""
-    looks = {"refusals and causes": refusals(program), "README.md": sessions(program, "README.md"),
+    looks = {"refusals and causes": refusals(program), "README.md": sessions(program, "README.md"), "README.md, the stepper": stepped(program),
              "docs/GUIDE.md": sessions(program, "docs", "GUIDE.md"), "examples/drive.py": driven(program), "a client's bytes": served()}
     for name, look in looks.items():
         faults = []

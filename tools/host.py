@@ -1,0 +1,295 @@
+"""What the tools share: the program behind a pipe, the files that they read, and how they end.
+
+A tool ends with one of these statuses. It never shows a trace of Python.
+
+    0   it is done
+    1   the program answers otherwise than wanted; each tool says when
+    2   bad words, a file that cannot be read, or a bad line in it
+    3   the program is not there, is not built, or has ended early
+    4   standard output takes no more
+"""
+
+import argparse
+import contextlib
+import os
+import signal
+import subprocess
+import sys
+import threading
+
+import grammar
+
+NOT_WANTED, BAD_INPUT, NO_PROGRAM, WRITE_FAULT = 1, 2, 3, 4
+
+TOP = os.path.dirname(os.path.dirname(os.path.realpath(__file__)))
+# Starts the program, and builds it first where that is needed, which takes minutes.
+LAUNCHER = os.path.join(TOP, "bfqhost")
+BUILT = os.path.join(TOP, "crates", "bfqhost", "out", "bfqhost")
+# What a line begins with that a build says of itself on standard error.
+BUILDING = "bfqhost: "
+# Lines that are written together have at most so many bytes. A pipe takes them at once, so the two sides never wait for each other.
+TOGETHER = 4_096
+# How long a program may take to end when its input has ended.
+SECONDS = 5
+
+
+class Stop(Exception):
+    """Ends a tool: a line for standard error, with a status."""
+
+    status = NOT_WANTED
+
+
+class BadInput(Stop):
+    """A file cannot be read, or has a bad line."""
+
+    status = BAD_INPUT
+
+
+class Ended(Stop):
+    """The program is not there, is not built, or has ended early."""
+
+    status = NO_PROGRAM
+
+
+class BadLine(Ended):
+    """The program takes no such line, and has ended for it."""
+
+    def __init__(self, line):
+        self.why = grammar.why_bad(line) or "the program does not know it"
+        super().__init__(f"the program takes no line {line!r}: {self.why}")
+
+
+def tell(text):
+    """Says a line on standard error, where it takes one."""
+    with contextlib.suppress(OSError):
+        print(text, file=sys.stderr, flush=True)
+
+
+def program_of(given):
+    """The path of the program: the given one, or else the launcher of this repository, where the program is built."""
+    if given is not None:
+        return os.path.abspath(given)
+    if not os.path.exists(BUILT):
+        raise Ended(f"the program is not built: {LAUNCHER} --help builds it, which takes minutes")
+    return LAUNCHER
+
+
+class Host:
+    """A run of `bfqhost sim`, which answers lines one at a time."""
+
+    def __init__(self, given, options):
+        self.program = program_of(given)
+        # The last line that the program said on standard error.
+        self.said = ""
+        try:
+            self.process = subprocess.Popen([self.program, "sim", *options], stdin=subprocess.PIPE, stdout=subprocess.PIPE,
+                                            stderr=subprocess.PIPE)
+        except OSError as fault:
+            raise Ended(f"{self.program} does not start: {fault.strerror}") from None
+        self.listener = threading.Thread(target=self.listen, daemon=True)
+        self.listener.start()
+
+    def listen(self):
+        """Passes on what a build says while it goes on, and keeps what else the program says, which tells why it ends."""
+        for line in self.process.stderr:
+            text = line.decode(errors="replace").rstrip()
+            if text.startswith(BUILDING):
+                tell(text)
+            elif text:
+                self.said = text
+
+    def ask(self, line):
+        """The answer to a line, which must not be a silent one."""
+        return self.ask_all([line])[0]
+
+    def ask_all(self, lines):
+        """The answers to lines that are written together, of at most 4,096 bytes."""
+        text = "".join(f"{line}\n" for line in lines).encode(errors="surrogateescape")
+        assert len(lines) == 1 or len(text) <= TOGETHER
+        try:
+            os.write(self.process.stdin.fileno(), text)
+        except BrokenPipeError:
+            # The program has ended. What it answered before can still be read, and tells why.
+            pass
+        return [self.answer(line) for line in lines]
+
+    def ask_each(self, lines):
+        """The answers to any number of lines, of which each time as many are written together as may be."""
+        together, size = [], 0
+        for line in lines:
+            if together and size + len(line) + 1 > TOGETHER:
+                yield from self.ask_all(together)
+                together, size = [], 0
+            together.append(line)
+            size += len(line) + 1
+        yield from self.ask_all(together)
+
+    def answer(self, line):
+        """Reads the answer to a line that was written."""
+        text = self.process.stdout.readline()
+        if not text.endswith(b"\n"):
+            raise self.ended(f" before it answered {line!r}")
+        answer = text[:-1].decode(errors="replace")
+        if answer.startswith("bad line "):
+            raise BadLine(line)
+        return answer
+
+    def ended(self, when=""):
+        """That the program has ended, how, and what it said."""
+        try:
+            status = self.process.wait(timeout=SECONDS)
+        except subprocess.TimeoutExpired:
+            return Ended(f"{self.program} has closed its output{when}")
+        self.listener.join(timeout=SECONDS)
+        how = f"with status {status}" if status >= 0 else f"by signal {-status}"
+        return Ended(f"{self.program} has ended {how}{when}" + (f": {self.said}" if self.said else ""))
+
+    def __enter__(self):
+        return self
+
+    def __exit__(self, kind, fault, _):
+        """Ends the program's input, so that it ends too, and well if all went well so far. An answer that a tool could not take apart is
+        told."""
+        self.process.stdin.close()
+        self.process.stdout.close()
+        try:
+            status = self.process.wait(timeout=SECONDS)
+        except subprocess.TimeoutExpired:
+            self.process.kill()
+            status = self.process.wait()
+        self.listener.join(timeout=SECONDS)
+        if isinstance(fault, (ValueError, LookupError)):
+            raise Ended(f"{self.program} gives an answer that bfqhost does not give: {fault}") from None
+        if fault is None and status:
+            raise self.ended()
+
+
+def read_lines(path):
+    """The lines of a file with their numbers, without their ends, as they come; of standard input where the path is `-`."""
+    try:
+        if path == "-" and sys.stdin is None:
+            raise BadInput("standard input is closed")
+        with sys.stdin.buffer if path == "-" else open(path, "rb") as file:
+            for number, line in enumerate(file, 1):
+                yield number, line.removesuffix(b"\n").decode(errors="surrogateescape")
+    except OSError as fault:
+        raise BadInput(f"{path}: {fault.strerror}") from None
+
+
+def bad_line(path, number, why):
+    """The fault of a file that has a bad line."""
+    return BadInput(f"{path}: bad line {number}: {why}")
+
+
+def answers_to(path, host):
+    """Asks the lines of a script, one after the other. Gives each that is not silent, with its answer."""
+    for number, line in read_lines(path):
+        why = grammar.why_bad(line)
+        if number > grammar.MOST_LINES:
+            why = f"a script has at most {grammar.MOST_LINES} lines"
+        if why:
+            raise bad_line(path, number, why)
+        if grammar.is_silent(line):
+            continue
+        try:
+            answer = host.ask(line)
+        except BadLine as fault:
+            raise bad_line(path, number, fault.why) from None
+        yield line, answer
+
+
+def on_line(host):
+    """How many steps stand, and how many the line has."""
+    _, cursor, length, _ = host.ask("line").split(" ")
+    return int(cursor), int(length)
+
+
+def place_of(host, serial, length):
+    """The place of the step with this serial in a line of this length, counted from 1; None where there is none. Serials rise along it."""
+    first, last = 1, length
+    while first <= last:
+        middle = (first + last) // 2
+        found = int(host.ask(f"show step {middle}").split(" ")[2])
+        if found == serial:
+            return middle
+        first, last = (middle + 1, last) if found < serial else (first, middle - 1)
+    return None
+
+
+def way_to(host, serial):
+    """The line that brings a host to where the step with this serial is the last that stands. It is empty where the host is there, and
+    None where there is no such step."""
+    cursor, length = on_line(host)
+    place = place_of(host, serial, length)
+    if place is None:
+        return None
+    if place == cursor:
+        return ""
+    return f"undo {cursor - place}" if place < cursor else f"redo {place - cursor}"
+
+
+def moved(host, move):
+    """Asks an `undo K` or a `redo K`, for which a host that is free is held, and released again. Gives whether it was done, and all lines
+    that were asked, each with its answer."""
+    asked = []
+    for line in ["hold", move, "release"] if host.ask("show host").split(" ")[3] == "free" else [move]:
+        asked.append((line, host.ask(line)))
+        if line == "hold" and grammar.is_refusal(asked[-1][1]):
+            break
+    return any(line == move and not grammar.is_refusal(answer) for line, answer in asked), asked
+
+
+def number_for(name):
+    """What reads a word that stands for a number, as argparse wants it."""
+    def number_of(word):
+        if why := grammar.why_no_number(name, word):
+            raise argparse.ArgumentTypeError(why)
+        return int(word)
+    return number_of
+
+
+@contextlib.contextmanager
+def told_with(path):
+    """What the system refuses is told with the path of the file."""
+    try:
+        yield
+    except OSError as fault:
+        raise BadInput(f"{path}: {fault.strerror}") from None
+
+
+def words_of(description, usage, *places):
+    """The words of a tool: its own, with these places beside `--program`, and after `--` the options of sim."""
+    words = sys.argv[1:]
+    at = words.index("--") if "--" in words else len(words)
+    parser = argparse.ArgumentParser(description=description, usage=f"%(prog)s {usage} [-- OPTION-OF-SIM ...]", allow_abbrev=False,
+                                     formatter_class=argparse.RawDescriptionHelpFormatter)
+    parser.add_argument("--program", metavar="PATH", help="the program (../bfqhost, from the tool's folder)")
+    for name, given in places:
+        parser.add_argument(name, **given)
+    return parser.parse_intermixed_args(words[:at]), words[at + 1:]
+
+
+def run(main):
+    """Runs a tool, and ends with its status. An interrupt ends it at once, as it ends any program."""
+    if signal.getsignal(signal.SIGINT) is signal.default_int_handler:
+        signal.signal(signal.SIGINT, signal.SIG_DFL)
+    if sys.stdout is None:
+        sys.exit(WRITE_FAULT)
+    sys.stdout.reconfigure(errors="backslashreplace")
+    try:
+        try:
+            status = main()
+        except SystemExit as ended:
+            status = ended.code
+        except Stop as stop:
+            sys.stdout.flush()
+            tell(stop)
+            status = stop.status
+        sys.stdout.flush()
+    except OSError as fault:
+        if not isinstance(fault, BrokenPipeError):
+            tell(f"standard output: {fault.strerror}")
+        # What is left of the text goes nowhere, so that Python tells nothing of it at its end.
+        os.dup2(os.open(os.devnull, os.O_WRONLY), sys.stdout.fileno())
+        status = WRITE_FAULT
+    sys.exit(status)
