@@ -189,6 +189,18 @@ class Served:
         same("standard error", self.heard + self.process.stderr.read(), b"")
         same("the folder", [name for name in os.listdir(self.folder) if name != "image"], [])
 
+    def connections(self):
+        """How many files and sockets it has open."""
+        return len(os.listdir(f"/proc/{self.process.pid}/fd"))
+
+    def lets_go(self, count):
+        """Waits till it has no more open than so many: then a connection that has ended was left, and its Leave is made."""
+        until = time.monotonic() + SECONDS
+        while (found := self.connections()) > count:
+            if time.monotonic() > until:
+                raise Wrong(f"{found} files and sockets are open, and {count} were")
+            time.sleep(0.01)
+
     def used(self):
         """Seconds of processor time so far."""
         with open(f"/proc/{self.process.pid}/stat", encoding="ascii") as file:

@@ -334,8 +334,13 @@ def clients_of_another(program, image, folder):
     """A host with more clients does not take the place of a running one. It meets the operator's path first, so it makes no connection to a
     client's path: that would end in a Leave, and free a seat whose session has none."""
     with Served(program, image, folder, clients=1) as host, host.operator() as operator:
+        # The operator was met, so his connection is counted.
+        operator.asks((RELEASE, NOT_HELD))
+        before = host.connections()
         with host.talk(0) as client:
             client.asks((ATTACH, attached(1)), (LEAVE, LEFT))
+        # Else the Leave at the end of the connection might come after the undo, and free the seat.
+        host.lets_go(before)
         operator.asks((HOLD, moved(2, 2)), (undo(1), moved(1, 2)), (RELEASE, DONE))
         fails(program, image, folder, "--clients", "16")
         same("the folder", sorted(os.listdir(folder)), ["client0", "operator"])
