@@ -119,7 +119,7 @@ def served():
 def stepped(program):
     """The README's look at everything is what the stepper prints."""
     with open(os.path.join(TOP, "README.md"), encoding="utf-8") as file:
-        lines, _, shown = re.search(r"    \$ printf '(.*)' \| tools/step\n()((?:    .*\n|\n)*)", file.read()).groups()
+        lines, _, shown = re.search(r"    printf '(.*)' \| tools/step\n()((?:    .*\n|\n)*)", file.read()).groups()
     ended = subprocess.run([os.path.join(TOP, "tools", "step"), "--program", program], input=lines.replace("\\n", "\n"), capture_output=True,
                            text=True, timeout=SECONDS, check=False, env={**os.environ, "PYTHONDONTWRITEBYTECODE": "1"})
     wanted = [line.removeprefix("    ") for line in shown.rstrip("\n").split("\n")]
