@@ -1,15 +1,15 @@
-"""The parts of README.md and docs/GUIDE.md that start a host which serves: each command is given to a shell, and must print what stands
-below it.
+"""The parts of README.md and docs/GUIDE.md with commands for a shell: each is given to one, and must print what stands below it.
 
 A command is a row that begins with four spaces, a dollar sign and a space; the rows below it, up to the next command, are what is
-printed from then on, also by what runs beside it. Where a lesson says that its numbers differ from run to run, each number may be
-another.
+printed from then on, also by what runs beside it. Empty rows count for nothing. Where a lesson says that its numbers differ from run to
+run, each number may be another. A lesson that needs a tool for file systems which is not there is left out, and that is told.
 """
 
 import contextlib
 import os
 import re
 import select
+import shutil
 import signal
 import subprocess
 import tempfile
@@ -20,6 +20,9 @@ SECONDS = 30
 # The folder that the lessons work in.
 FOLDER = "/tmp/bfq"
 DIFFERS = "The numbers differ from run to run."
+# What not every machine has; some of it stands where only root looks.
+OF_FILE_SYSTEMS = ("mkfs.ext4", "e2fsck")
+PATH = f"{os.environ.get('PATH', os.defpath)}:/usr/sbin:/sbin"
 
 
 def lessons():
@@ -46,10 +49,12 @@ class Shell:
         # In the folder of this run the launchers' names are those of the programs.
         here = os.path.join(folder, "here")
         os.mkdir(here)
-        for path in [*programs, os.path.join(TOP, "clients")]:
+        for path in [*programs, *(os.path.join(TOP, name) for name in ("clients", "crates", "examples"))]:
             os.symlink(path, os.path.join(here, os.path.basename(path)))
+        # A tool starts the program that stands beside its folder, wherever that really is.
+        shutil.copytree(os.path.join(TOP, "tools"), os.path.join(here, "tools"), ignore=shutil.ignore_patterns("__pycache__"))
         self.process = subprocess.Popen(["bash"], cwd=here, stdin=subprocess.PIPE, stdout=subprocess.PIPE, stderr=subprocess.STDOUT,
-                                        start_new_session=True, env={**os.environ, "PYTHONDONTWRITEBYTECODE": "1"})
+                                        start_new_session=True, env={**os.environ, "PATH": PATH, "PYTHONDONTWRITEBYTECODE": "1"})
         self.folder = folder
         self.text = ""
 
@@ -80,7 +85,7 @@ class Shell:
 def faults_of(programs, commands, differs):
     """What a lesson prints in another way than the guide has it."""
     def plain(rows):
-        return [re.sub(r"\d+", "N", row) if differs else row for row in rows]
+        return [re.sub(r"\d+", "N", row) if differs else row for row in rows if row]
 
     with tempfile.TemporaryDirectory(prefix="bfq-") as folder:
         shell = Shell(programs, folder)
@@ -96,9 +101,13 @@ def faults_of(programs, commands, differs):
 def served_lessons(*programs):
     """The name of each part, and what was wrong with it."""
     found = list(lessons())
-    if len(found) < 3:
-        yield "documents: parts with a host that serves", [f"there are {len(found)}"]
+    if len(found) < 5:
+        yield "documents: parts with commands for a shell", [f"there are {len(found)}"]
     for head, commands, differs in found:
+        text = " ".join(command for command, _ in commands)
+        if lacking := [it for it in OF_FILE_SYSTEMS if it in text and not shutil.which(it, path=PATH)]:
+            print(f"skipped: documents: {head}: no {' and no '.join(lacking)} here")
+            continue
         try:
             yield f"documents: {head}", faults_of(programs, commands, differs)
         except (OSError, subprocess.SubprocessError) as fault:
