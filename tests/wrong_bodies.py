@@ -21,7 +21,7 @@ from checkout import CRATES, TOP, below, copy_for, crate_lines
 from twins import Crate, has_twin, read_edit
 
 SEEN = TOP / "tests" / "wrong_bodies.seen"
-PART = 40  # Wrong bodies of a crate that are tried in one copy; if it has more, several copies are worked on side by side.
+PART = 64  # Wrong bodies of a crate that are tried in one copy, at most; if it has more, several copies are worked on side by side.
 
 
 def hashes(lines):
@@ -75,7 +75,8 @@ def try_all(named=(), every=False, deadline=float("inf")):
         subprocess.run([sys.executable, TOP / "tests" / "build.py", *names], check=False)
     with ThreadPoolExecutor(lanes()) as pool:
         try:
-            parts = [(it, dict(bodies[it][at:at + PART])) for it in names for at in range(0, len(bodies[it]), PART)]
+            counts = {it: -(-len(bodies[it]) // PART) for it in names}
+            parts = [(it, dict(bodies[it][at::counts[it]])) for it in names for at in range(counts[it])]
             runs = {pool.submit(trial, *it, lines, lambda: goes_on[0] and time.time() < deadline): it[0] for it in parts}
             for ran in as_completed(runs):
                 results = ({}, {"some of them": f"not tried: {ran.exception()!r}"}) if ran.exception() else ran.result()
