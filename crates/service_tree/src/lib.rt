@@ -24,10 +24,11 @@ ghost use Rattle.std.specs.Prelude.{◌≡◌, None, Some, MatchOption, length, 
 ghost use Rattle.service_tree.specs.Members.{IsLeastStart, IsPicked, NoneActive, NoneEligible, WeighsAtMost, least_start, pick, weight_sum};
 
 mod member;
+mod order;
 mod plain;
 
 pub use member::{Member, State};
-use member::{is_active, is_eligible, lesser, sooner, weight_in_sum};
+use order::{Order, active_of, idle_of, serving_of};
 pub use plain::{plain_least_start, plain_pick, plain_weight_sum};
 use sector_core::Entity;
 use std::marker::Model;
@@ -41,18 +42,21 @@ const ENTITIES: u8 = 48;
 pub struct ServiceTree {
     vtime: u64,
     members: [Option<Member>; 48],
+    active: Order,
+    idle: Order,
+    serving: u64,
 }
 
 impl Model for ServiceTree {
     ghost use Rattle.std.specs.Prelude.{◌≡◌, length};
     ghost use Rattle.service_tree.specs.Members.{Service};
+    ghost use Rattle.service_tree.specs.Orders.{IsService};
 
     ghost Value = { Service };
 
     ghost view = { λ t. record { vtime = t.vtime; members = t.members } };
 
-    // a place for each entity
-    ghost invariant = { λ t. length t.members ≡ 48 };
+    ghost invariant = { λ t. IsService t.members t.active t.idle t.serving };
 }
 
 impl ServiceTree {
@@ -60,9 +64,14 @@ impl ServiceTree {
     pub fn new(vtime: u64) -> ServiceTree
         ensures { result ≡ record { vtime = vtime; members = replicate 48 None } }
     {
+        let active = Order::new();
+        let idle = Order::new();
         ServiceTree {
             vtime,
             members: [None; 48],
+            active,
+            idle,
+            serving: 0,
         }
     }
 
@@ -106,11 +115,17 @@ impl ServiceTree {
         ensures new { self.new ≡ record self.old { members = slice_set self.old.members entity member } }
         ensures old { result ≡ slice_index_or self.old.members entity member }
     {
-        if entity < ENTITIES {
-            mem::replace(&mut self.members[entity as usize], member)
-        } else {
-            member
+        let places = self.places();
+        if entity >= places {
+            return member;
         }
+        let old = self.members[entity as usize];
+        self.active
+            .change(entity, active_of(old), active_of(member));
+        self.idle.change(entity, idle_of(old), idle_of(member));
+        self.serving = self.serving - serving_of(old) + serving_of(member);
+        self.members[entity as usize] = member;
+        old
     }
 
     /// Puts a member under its number, and hands back what stood there.
@@ -136,16 +151,8 @@ impl ServiceTree {
         ensures value { result ≡ pick vtime self.now.members }
         ensures picked { MatchOption result (NoneEligible vtime self.now.members) (IsPicked vtime self.now.members) }
     {
-        let mut found: Option<(Entity, Member)> = None;
-        for entity in (0..ENTITIES).rev() {
-            if let Some(member) = self.members[entity as usize] {
-                if is_eligible(member, vtime) {
-                    found = Some(sooner((entity, member), found));
-                }
-            }
-        }
-        match found {
-            Some(entry) => Some(entry.0),
+        match self.active.pick(vtime) {
+            Some(turn) => Some(turn.number),
             None => None,
         }
     }
@@ -155,15 +162,7 @@ impl ServiceTree {
         ensures value { result ≡ least_start self.now.members }
         ensures least { MatchOption result (NoneActive self.now.members) (IsLeastStart self.now.members) }
     {
-        let mut least: Option<u64> = None;
-        for entity in (0..ENTITIES).rev() {
-            if let Some(member) = self.members[entity as usize] {
-                if is_active(member) {
-                    least = Some(lesser(member.start, least));
-                }
-            }
-        }
-        least
+        self.active.first_key()
     }
 
     /// The sum of the weights of the members that count at a virtual time: the active ones, those in service, and the
@@ -172,12 +171,6 @@ impl ServiceTree {
         ensures value { result ≡ weight_sum vtime self.now.members }
         ensures covers { WeighsAtMost vtime self.now.members result }
     {
-        let mut sum: u64 = 0;
-        for entity in (0..ENTITIES).rev() {
-            if let Some(member) = self.members[entity as usize] {
-                sum += weight_in_sum(member, vtime);
-            }
-        }
-        sum
+        self.active.sum() + self.idle.sum_above(vtime) + self.serving
     }
 }

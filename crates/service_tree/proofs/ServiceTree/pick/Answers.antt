@@ -1,23 +1,31 @@
-use Rattle.std.proofs.Common.{◌≡◌, ◌-◌, ◌∙◌, ap, arith, length, sym}
-use Rattle.service_tree.proofs.Walk.{soonest_end, soonest_here}
-use Rattle.service_tree.proofs.Chosen.{none_all, picked_all}
+use Rattle.std.proofs.Common.{◌≡◌, List, length, sym, ◌∙◌, ap, subst, Option, ℕ, MatchOption, Some, None}
+use Rattle.service_tree.specs.declared.member.Member.{Member}
+use Rattle.service_tree.specs.Members.{IsPicked, NoneEligible, Service, pick}
+use Rattle.service_tree.proofs.Compared.{picked_law}
+use Rattle.service_tree.proofs.Answered.{picked_some, picked_nobody}
 use Rattle.service_tree.proofs.ServiceTree.pick.Goals as goal
 
-pub loop-entity-init : goal.loop-entity-init
-loop-entity-init c = soonest_end c.args.vtime c.self.inside.members c.self.invariant
+pub returns-in-Some-clause-value : goal.returns-in-Some-clause-value
+returns-in-Some-clause-value c =
+    sym (picked_some c.self.inside.members c.self.inside.active c.args.vtime c.in-Some.turn c.self.invariant.active c.self.invariant.places c.in-Some.ensures)
+    ∙ ap (λ (s : Service). pick c.args.vtime s.members) c.self.view_is
 
-pub loop-entity-preserved-then-is_eligible : goal.loop-entity-preserved-then-is_eligible
-loop-entity-preserved-then-is_eligible c =
-    let places : length c.self.inside.members ≡ 48 = c.self.invariant in
-    soonest_here c.args.vtime (c.loop-entity.entity - 1) c.loop-entity.entity c.self.inside.members c.in-Some.member c.loop-entity.found c.sooner.result
-    (omega arith) (omega arith) c.in-Some.is (sym c.is_eligible.ensures ∙ c.if-is_eligible.true) c.loop-entity.invariant c.sooner.ensures
+pub returns-in-Some-clause-picked : goal.returns-in-Some-clause-picked
+returns-in-Some-clause-picked c =
+    let is : pick c.args.vtime c.self.inside.members ≡ Some c.in-Some.turn.number
+    = picked_some c.self.inside.members c.self.inside.active c.args.vtime c.in-Some.turn c.self.invariant.active c.self.invariant.places c.in-Some.ensures in
+    let law : IsPicked c.args.vtime c.self.inside.members c.in-Some.turn.number
+    = subst (λ (o : Option ℕ). MatchOption o (NoneEligible c.args.vtime c.self.inside.members) (IsPicked c.args.vtime c.self.inside.members)) is (picked_law c.args.vtime c.self.inside.members c.self.invariant.places) in
+    subst (λ (s : Service). IsPicked c.args.vtime s.members c.in-Some.turn.number) c.self.view_is law
 
-pub returns-in-Some-found-clause-picked : goal.returns-in-Some-found-clause-picked
-returns-in-Some-found-clause-picked c =
-    picked_all c.args.vtime c.loop-entity.entity c.self.inside.members c.args.self.now.members c.loop-entity.found c.in-Some-found.entry
-    c.self.invariant (ap (λ s. s.members) c.self.view_is) c.loop-entity-test.false c.in-Some-found.is c.loop-entity.invariant
+pub returns-in-None-clause-value : goal.returns-in-None-clause-value
+returns-in-None-clause-value c =
+    picked_nobody c.self.inside.members c.self.inside.active c.args.vtime c.self.invariant.active c.self.invariant.places c.in-None.ensures
+    ∙ ap (λ (s : Service). pick c.args.vtime s.members) c.self.view_is
 
 pub returns-in-None-clause-picked : goal.returns-in-None-clause-picked
 returns-in-None-clause-picked c =
-    none_all c.args.vtime c.loop-entity.entity c.self.inside.members c.args.self.now.members c.loop-entity.found
-    (ap (λ s. s.members) c.self.view_is) c.loop-entity-test.false c.in-None.is c.loop-entity.invariant
+    let is = picked_nobody c.self.inside.members c.self.inside.active c.args.vtime c.self.invariant.active c.self.invariant.places c.in-None.ensures in
+    let law : NoneEligible c.args.vtime c.self.inside.members
+    = subst (λ (o : Option ℕ). MatchOption o (NoneEligible c.args.vtime c.self.inside.members) (IsPicked c.args.vtime c.self.inside.members)) (sym is) (picked_law c.args.vtime c.self.inside.members c.self.invariant.places) in
+    subst (λ (s : Service). NoneEligible c.args.vtime s.members) c.self.view_is law
