@@ -1,24 +1,24 @@
 -- What the orders answer is what the list of members answers.
-use Rattle.std.proofs.Common.{◌≡◌, ◌≢◌, ℕ, zero, suc, ◌+◌, ◌-◌, ◌*◌, ◌^◌, ◌<◌, ◌≤◌, ◌⊎◌, inl, inr, nat_lt, Bool, true, false, cond, List, [], ◌∷◌, length, get_or, Option, None, Some, refl, ap, sym, subst, ◌∙◌, arith}
+use Rattle.std.proofs.Common.{◌≡◌, ℕ, ◌+◌, ◌^◌, ◌<◌, ◌≤◌, ◌⊎◌, nat_lt, Bool, true, false, cond, List, [], ◌∷◌, length, get_or, Option, None, Some, refl, ap, sym, subst, ◌∙◌, arith}
 use Rattle.std.specs.List.{filter, sum_by}
 use Rattle.std.proofs.lemmas.List.Sums.{sum_by-cons}
 use Rattle.std.proofs.lemmas.Bool.Decides.{nat_tests}
 use Rattle.augmented_tree.specs.declared.row.Figures.{Figures}
 use Rattle.augmented_tree.specs.declared.row.Turn.{Turn}
-use Rattle.augmented_tree.specs.Rows.{height_at, sum_at, before}
+use Rattle.augmented_tree.specs.Rows.{height_at, sum_at}
 use Rattle.augmented_tree.specs.Tables.{pick_rows, above_rows, first_key_rows}
-use Rattle.augmented_tree.specs.Trees.{Entry, Tree, root_of, turn_of, weight_of, height, tally, Holds, tree_in}
+use Rattle.augmented_tree.specs.Trees.{Tree, root_of, weight_of, Holds, tree_in}
 use Rattle.augmented_tree.proofs.Frames.{height_held, sum_held}
-use Rattle.augmented_tree.proofs.Walks.{BestOf, IsBest, Under, pick-best, late, above-tally, LeastKey, IsLeastKey, first-key-least}
+use Rattle.augmented_tree.proofs.Walks.{BestOf, IsBest, Under, pick-best, late, above-tally, IsLeastKey, first-key-least}
 use Rattle.service_tree.specs.declared.member.State.{State}
 use Rattle.service_tree.specs.declared.member.State.TheVariants.{Idle, Active, Serving}
 use Rattle.service_tree.specs.declared.member.Member.{Member}
-use Rattle.service_tree.specs.declared.order.Order.{Order}
+use Rattle.service_tree.specs.declared.order.Orders.{Orders}
 use Rattle.service_tree.specs.Members.{IsActiveAt, IsEligibleAt, does_count, least_start, numbered, pick, weight_sum}
-use Rattle.service_tree.specs.Orders.{IsRanked, IsService, active_of, counted, idle_of, if_active, if_idle, if_serving, served, share}
-use Rattle.service_tree.proofs.Chosen.{IsFirst, before_false}
+use Rattle.service_tree.specs.Orders.{IsRanked, IsService, Order, active_of, counted, idle_of, if_active, if_idle, if_serving, served, share}
+use Rattle.service_tree.proofs.Chosen.{before_false}
 use Rattle.service_tree.proofs.Compared.{IsLeast, first_picked, least_is, none_picked, not_eligible}
-use Rattle.service_tree.proofs.Counts.{By, counted-weight, held_member, member_held}
+use Rattle.service_tree.proofs.Counts.{counted-weight, held_member, member_held}
 use Rattle.service_tree.proofs.Changes.{fits_from}
 use Rattle.service_tree.proofs.Kept.{active_light, idle_light, served-most}
 
@@ -131,15 +131,15 @@ pub record Summed (ms : List (Option Member)) (v a b s : ℕ) : Type 0 where
   pub first_fits : a + b < 2 ^ 64
   pub all_fits : a + b + s < 2 ^ 64
 
-pub summed : (ms : List (Option Member)) (x y : Order) (s v : ℕ) → IsService ms x y s → Summed ms v (sum_at x.rows x.root) (above_rows (height_at y.rows y.root) y.rows y.root v) s
-summed ms x y s v k =
-    let tx = tree_in x.rows x.root in let ty = tree_in y.rows y.root in
+pub summed : (ms : List (Option Member)) (t : Orders) (s v : ℕ) → IsService ms t s → Summed ms v (sum_at t.rows t.active) (above_rows (height_at t.rows t.idle) t.rows t.idle v) s
+summed ms t s v k =
+    let tx = tree_in t.rows t.active in let ty = tree_in t.rows t.idle in
     let fy = fits_from idle_of ms ty k.idle.counts k.places (idle_light ms k.light) in
-    let level = height_held y.rows ty k.idle.held in
+    let level = height_held t.rows ty k.idle.held in
     let p = k.idle.places in
-    let sa : sum_at x.rows x.root ≡ counted active_of weight_of 0 ms = ap (sum_at x.rows) k.active.root_is ∙ sum_held x.rows tx k.active.held ∙ k.active.counts weight_of in
-    let sb : above_rows (height_at y.rows y.root) y.rows y.root v ≡ counted idle_of (late v) 0 ms = subst (λ (link : Option ℕ). above_rows (height_at y.rows link) y.rows link v ≡ counted idle_of (late v) 0 ms) (sym k.idle.root_is)
-    (above-tally (height_at y.rows (root_of ty)) y.rows ty v k.idle.held k.idle.ordered (omega (arith, p)) fy.sum (omega (arith, level)) ∙ k.idle.counts (late v)) in
+    let sa : sum_at t.rows t.active ≡ counted active_of weight_of 0 ms = ap (sum_at t.rows) k.active.root_is ∙ sum_held t.rows tx k.active.held ∙ k.active.counts weight_of in
+    let sb : above_rows (height_at t.rows t.idle) t.rows t.idle v ≡ counted idle_of (late v) 0 ms = subst (λ (link : Option ℕ). above_rows (height_at t.rows link) t.rows link v ≡ counted idle_of (late v) 0 ms) (sym k.idle.root_is)
+    (above-tally (height_at t.rows (root_of ty)) t.rows ty v k.idle.held k.idle.ordered (omega (arith, p)) fy.sum (omega (arith, level)) ∙ k.idle.counts (late v)) in
     let all = sums v 0 ms in
     let ma = counted-weight active_of 0 ms (active_light ms k.light) in
     let mb = counted-weight idle_of 0 ms (idle_light ms k.light) in

@@ -1,12 +1,12 @@
 -- Sums over the members of an order.
-use Rattle.std.proofs.Common.{◌≡◌, ◌≢◌, ℕ, zero, suc, ◌+◌, ◌*◌, ◌^◌, ◌<◌, ◌≤◌, ◌⊎◌, inl, inr, ◌==◌, ◌&&◌, Bool, true, false, cond, List, [], ◌∷◌, length, get_or, set, Option, None, Some, refl, ap, sym, subst, ◌∙◌, arith}
+use Rattle.std.proofs.Common.{◌≡◌, ◌≢◌, ℕ, zero, suc, ◌+◌, ◌*◌, ◌^◌, ◌<◌, ◌≤◌, inl, inr, ◌==◌, ◌&&◌, Bool, true, false, cond, List, [], ◌∷◌, length, get_or, set, Option, None, Some, refl, ap, sym, subst, ◌∙◌, arith}
 use Rattle.std.proofs.lemmas.Bool.{cases_lt}
 use Rattle.std.proofs.lemmas.Bool.Decides.{nat_tests}
 use Rattle.augmented_tree.specs.declared.row.Figures.{Figures}
 use Rattle.augmented_tree.specs.Trees.{Entry, Tree, tally, is_numbered, one, weight_of, Holds}
 use Rattle.augmented_tree.proofs.Plain.{holds-tally, tally-holds}
 use Rattle.service_tree.specs.declared.member.Member.{Member}
-use Rattle.service_tree.specs.Orders.{counted, share, served, serving_of}
+use Rattle.service_tree.specs.Orders.{counted, share}
 
 abbrev pub By : Type 0
 By = Option Member → Option Figures
@@ -78,7 +78,7 @@ counted-none by f base (x ∷ xs) h =
 numbered_other : (i n : ℕ) (g : Figures) → i < n → is_numbered i (n, g) ≡ 0
 numbered_other i n g lt = grind (arith, nat_tests)
 
-share-le : (i base : ℕ) (o : Option Figures) → share (is_numbered i) base o ≤ 1
+pub share-le : (i base : ℕ) (o : Option Figures) → share (is_numbered i) base o ≤ 1
 share-le i base None = omega arith
 share-le i base (Some g) = le_one (base == i)
   where
@@ -86,7 +86,7 @@ share-le i base (Some g) = le_one (base == i)
     le_one true = omega arith
     le_one false = omega arith
 
-share-other : (i base : ℕ) (o : Option Figures) → base ≢ i → share (is_numbered i) base o ≡ 0
+pub share-other : (i base : ℕ) (o : Option Figures) → base ≢ i → share (is_numbered i) base o ≡ 0
 share-other i base None ne = refl
 share-other i base (Some g) ne = grind (arith, nat_tests)
 

@@ -1,7 +1,7 @@
 -- What joins the orders to the members is kept by an exchange.
-use Rattle.std.proofs.Common.{◌≡◌, ◌≢◌, ℕ, zero, suc, ◌+◌, ◌-◌, ◌*◌, ◌^◌, ◌<◌, ◌≤◌, ◌⊎◌, inl, inr, Bool, true, false, cond, List, [], ◌∷◌, length, get_or, set, replicate, Option, None, Some, IfSome, refl, ap, sym, subst, ◌∙◌, arith, get_or-set_other, get_or-set_same}
+use Rattle.std.proofs.Common.{◌≡◌, ℕ, zero, suc, ◌+◌, ◌-◌, ◌*◌, ◌^◌, ◌<◌, ◌≤◌, inl, inr, List, [], ◌∷◌, length, get_or, set, replicate, Option, None, Some, IfSome, refl, ap, sym, subst, ◌∙◌, arith, get_or-set_other, get_or-set_same}
 use Rattle.std.proofs.lemmas.List.{length-set, length-replicate}
-use Rattle.std.proofs.lemmas.Bool.{cases_eq, cases_lt}
+use Rattle.std.proofs.lemmas.Bool.{cases_eq}
 use Rattle.augmented_tree.specs.declared.row.Figures.{Figures}
 use Rattle.augmented_tree.specs.Rows.{blank}
 use Rattle.augmented_tree.specs.Trees.{Entry, Leaf}
@@ -9,10 +9,11 @@ use Rattle.augmented_tree.proofs.Frames.{stays}
 use Rattle.service_tree.specs.declared.member.State.{State}
 use Rattle.service_tree.specs.declared.member.State.TheVariants.{Idle, Active, Serving}
 use Rattle.service_tree.specs.declared.member.Member.{Member}
-use Rattle.service_tree.specs.declared.order.Order.{Order}
-use Rattle.service_tree.specs.Orders.{IsRanked, IsService, active_of, changed, counted, idle_of, if_active, if_idle, if_serving, served, serving_of}
-use Rattle.service_tree.proofs.Counts.{By, IsLight}
-use Rattle.service_tree.proofs.Changes.{changes, ranked_by, set-beyond}
+use Rattle.service_tree.specs.declared.order.Orders.{Orders}
+use Rattle.service_tree.specs.Orders.{IsService, active_of, counted, exchanged, idle_of, if_active, if_idle, if_serving, served, serving_of, with_member, without_member}
+use Rattle.service_tree.proofs.Counts.{IsLight}
+use Rattle.service_tree.proofs.Changes.{ranked_by}
+use Rattle.service_tree.proofs.Both.{exchanges}
 
 pub get_or-beyond : (xs : List (Option Member)) (i : ℕ) (d : Option Member) → length xs ≤ i → get_or xs i d ≡ d
 get_or-beyond [] i d le = refl
@@ -83,14 +84,15 @@ set_light xs n w lt light own i m is = elim (cases_eq i n) as (λ _. m.weight < 
   | inr ne ↦ light i m (sym (get_or-set_other xs n i w None ne) ∙ is)
 ]
 
-pub kept : (ms : List (Option Member)) (a i : Order) (s n : ℕ) (w : Option Member) → IsService ms a i s → n < 48 → ((m : Member) → w ≡ Some m → m.weight < 2 ^ 32)
-    → IsService (set ms n w) (changed a n (active_of (get_or ms n None)) (active_of w)) (changed i n (idle_of (get_or ms n None)) (idle_of w)) (s - serving_of (get_or ms n None) + serving_of w)
-kept ms a i s n w k lt own =
+pub kept : (ms : List (Option Member)) (t : Orders) (s n : ℕ) (w : Option Member) → IsService ms t s → n < 48 → ((m : Member) → w ≡ Some m → m.weight < 2 ^ 32)
+    → IsService (set ms n w) (exchanged t n (get_or ms n None) w) (s - serving_of (get_or ms n None) + serving_of w)
+kept ms t s n w k lt own =
     let within : n < length ms = (let p = k.places in omega (arith, p, lt)) in
     let light = set_light ms n w within k.light own in
+    let orders = exchanges ms t n w (record { active = k.active; idle = k.idle }) k.places (active_light ms k.light) (idle_light ms k.light) (active_light (set ms n w) light) (idle_light (set ms n w) light) lt in
     record {
-      active = changes active_of ms a n w refl k.active k.places (active_light ms k.light) (active_light (set ms n w) light) lt;
-      idle = changes idle_of ms i n w refl k.idle k.places (idle_light ms k.light) (idle_light (set ms n w) light) lt;
+      active = orders.active;
+      idle = orders.idle;
       serving_is = (let h = served-set ms n w within in let b = served-has ms n in let e = k.serving_is in omega (arith, h, b, e));
       light = light;
       places = length-set ms n w ∙ k.places;
@@ -113,7 +115,7 @@ empty-light zero i m is = cc
 empty-light (suc n) zero m is = cc
 empty-light (suc n) (suc i) m is = empty-light n i m is
 
-pub opened : (n : ℕ) → n ≡ 48 → IsService (replicate n None) (record { rows = replicate 48 blank; root = None }) (record { rows = replicate 48 blank; root = None }) 0
+opened : (n : ℕ) → n ≡ 48 → IsService (replicate n None) (record { rows = replicate 48 blank; active = None; idle = None }) 0
 opened n is = record {
   active = ranked_by active_of (replicate n None) (replicate 48 blank) _ Leaf (stays (replicate 48 blank) Leaf tt) refl tt tt (λ f. sym (active-empty f 0 n));
   idle = ranked_by idle_of (replicate n None) (replicate 48 blank) _ Leaf (stays (replicate 48 blank) Leaf tt) refl tt tt (λ f. sym (idle-empty f 0 n));
@@ -122,19 +124,17 @@ opened n is = record {
   places = length-replicate n None ∙ is;
 }
 
-pub own_weight : (w : Option Member) → IfSome w (λ m. m.weight < 2 ^ 32) → (m : Member) → w ≡ Some m → m.weight < 2 ^ 32
+pub opened_with : (t : Orders) → t ≡ record { rows = replicate 48 blank; active = None; idle = None } → IsService (replicate 48 None) t 0
+opened_with t is = subst (λ (o : Orders). IsService (replicate 48 None) o 0) (sym is) (opened 48 refl)
+
+own_weight : (w : Option Member) → IfSome w (λ m. m.weight < 2 ^ 32) → (m : Member) → w ≡ Some m → m.weight < 2 ^ 32
 own_weight w h m is = subst (λ (o : Option Member). IfSome o (λ m. m.weight < 2 ^ 32)) is h
 
-pub opened_with : (x y : Order) → x ≡ record { rows = replicate 48 blank; root = None } → y ≡ record { rows = replicate 48 blank; root = None } → IsService (replicate 48 None) x y 0
-opened_with x y p q = subst (λ (o : Order). IsService (replicate 48 None) o y 0) (sym p) (subst (λ (o : Order). IsService (replicate 48 None) (record { rows = replicate 48 blank; root = None }) o 0) (sym q) (opened 48 refl))
-
-pub kept_as : (ms : List (Option Member)) (a i : Order) (s n : ℕ) (w : Option Member) (x y : Order) (p p2 q q2 : Option Figures) (r r2 : ℕ) → IsService ms a i s → n < 48 → IfSome w (λ m. m.weight < 2 ^ 32)
-    → x ≡ changed a n p p2 → p ≡ active_of (get_or ms n None) → p2 ≡ active_of w → y ≡ changed i n q q2 → q ≡ idle_of (get_or ms n None) → q2 ≡ idle_of w → r ≡ serving_of (get_or ms n None) → r2 ≡ serving_of w
-    → IsService (set ms n w) x y (s - r + r2)
-kept_as ms a i s n w x y p p2 q q2 r r2 k lt own ex ep ep2 ey eq eq2 er er2 =
-    let done = kept ms a i s n w k lt (own_weight w own) in
-    let fx : x ≡ changed a n (active_of (get_or ms n None)) (active_of w) = ex ∙ ap (λ (o : Option Figures). changed a n o p2) ep ∙ ap (λ (o : Option Figures). changed a n (active_of (get_or ms n None)) o) ep2 in
-    let fy : y ≡ changed i n (idle_of (get_or ms n None)) (idle_of w) = ey ∙ ap (λ (o : Option Figures). changed i n o q2) eq ∙ ap (λ (o : Option Figures). changed i n (idle_of (get_or ms n None)) o) eq2 in
+pub kept_as : (ms : List (Option Member)) (t u v : Orders) (s n : ℕ) (w : Option Member) (r r2 : ℕ) → IsService ms t s → n < 48 → IfSome w (λ m. m.weight < 2 ^ 32)
+    → u ≡ without_member t n (get_or ms n None) → v ≡ with_member u n w → r ≡ serving_of (get_or ms n None) → r2 ≡ serving_of w → IsService (set ms n w) v (s - r + r2)
+kept_as ms t u v s n w r r2 k lt own out in_again er er2 =
+    let done = kept ms t s n w k lt (own_weight w own) in
+    let fv : v ≡ exchanged t n (get_or ms n None) w = in_again ∙ ap (λ (o : Orders). with_member o n w) out in
     let fs : s - r + r2 ≡ s - serving_of (get_or ms n None) + serving_of w = ap (λ (j : ℕ). s - j + r2) er ∙ ap (λ (j : ℕ). s - serving_of (get_or ms n None) + j) er2 in
-    subst (λ (o : Order). IsService (set ms n w) o y (s - r + r2)) (sym fx) (subst (λ (o : Order). IsService (set ms n w) (changed a n (active_of (get_or ms n None)) (active_of w)) o (s - r + r2)) (sym fy)
-    (subst (λ (j : ℕ). IsService (set ms n w) (changed a n (active_of (get_or ms n None)) (active_of w)) (changed i n (idle_of (get_or ms n None)) (idle_of w)) j) (sym fs) done))
+    subst (λ (o : Orders). IsService (set ms n w) o (s - r + r2)) (sym fv)
+    (subst (λ (j : ℕ). IsService (set ms n w) (exchanged t n (get_or ms n None) w) j) (sym fs) done)

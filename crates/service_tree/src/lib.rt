@@ -28,7 +28,7 @@ mod order;
 mod plain;
 
 pub use member::{Member, State};
-use order::{Order, active_of, idle_of, serving_of};
+use order::{Orders, serving_of};
 pub use plain::{plain_least_start, plain_pick, plain_weight_sum};
 use sector_core::Entity;
 use std::marker::Model;
@@ -42,8 +42,8 @@ const ENTITIES: u8 = 48;
 pub struct ServiceTree {
     vtime: u64,
     members: [Option<Member>; 48],
-    active: Order,
-    idle: Order,
+    // the active members by start and the idle ones by finish, and the weights of those in service added up
+    orders: Orders,
     serving: u64,
 }
 
@@ -56,7 +56,7 @@ impl Model for ServiceTree {
 
     ghost view = { λ t. record { vtime = t.vtime; members = t.members } };
 
-    ghost invariant = { λ t. IsService t.members t.active t.idle t.serving };
+    ghost invariant = { λ t. IsService t.members t.orders t.serving };
 }
 
 impl ServiceTree {
@@ -64,13 +64,11 @@ impl ServiceTree {
     pub fn new(vtime: u64) -> ServiceTree
         ensures { result ≡ record { vtime = vtime; members = replicate 48 None } }
     {
-        let active = Order::new();
-        let idle = Order::new();
+        let orders = Orders::new();
         ServiceTree {
             vtime,
             members: [None; 48],
-            active,
-            idle,
+            orders,
             serving: 0,
         }
     }
@@ -120,9 +118,8 @@ impl ServiceTree {
             return member;
         }
         let old = self.members[entity as usize];
-        self.active
-            .change(entity, active_of(old), active_of(member));
-        self.idle.change(entity, idle_of(old), idle_of(member));
+        self.orders.take_out(entity, old);
+        self.orders.put_in(entity, member);
         self.serving = self.serving - serving_of(old) + serving_of(member);
         self.members[entity as usize] = member;
         old
@@ -151,7 +148,7 @@ impl ServiceTree {
         ensures value { result ≡ pick vtime self.now.members }
         ensures picked { MatchOption result (NoneEligible vtime self.now.members) (IsPicked vtime self.now.members) }
     {
-        match self.active.pick(vtime) {
+        match self.orders.pick(vtime) {
             Some(turn) => Some(turn.number),
             None => None,
         }
@@ -162,7 +159,7 @@ impl ServiceTree {
         ensures value { result ≡ least_start self.now.members }
         ensures least { MatchOption result (NoneActive self.now.members) (IsLeastStart self.now.members) }
     {
-        self.active.first_key()
+        self.orders.least_start()
     }
 
     /// The sum of the weights of the members that count at a virtual time: the active ones, those in service, and the
@@ -171,6 +168,6 @@ impl ServiceTree {
         ensures value { result ≡ weight_sum vtime self.now.members }
         ensures covers { WeighsAtMost vtime self.now.members result }
     {
-        self.active.sum() + self.idle.sum_above(vtime) + self.serving
+        self.orders.active_sum() + self.orders.idle_sum(vtime) + self.serving
     }
 }

@@ -1,8 +1,8 @@
-// An order of members over a table of rows: the active ones by start, or the idle ones by finish.
+// The orders of the members over one table of rows: the active ones by start, and the idle ones by finish.
 ghost use Rattle.std.specs.Prelude.{◌≡◌, ◌<◌, ◌^◌, None, replicate, IfSome};
 ghost use Rattle.augmented_tree.specs.Rows.{blank, height_at, sum_at};
 ghost use Rattle.augmented_tree.specs.Tables.{pick_rows, above_rows, first_key_rows};
-ghost use Rattle.service_tree.specs.Orders.{active_of, changed, idle_of, put_in, serving_of, taken_out};
+ghost use Rattle.service_tree.specs.Orders.{active_of, brought_in, idle_of, left_out, serving_of, with_member, without_member};
 
 use crate::member::{Member, State};
 use augmented_tree::{
@@ -10,93 +10,109 @@ use augmented_tree::{
     sum_above_at, sum_at,
 };
 
-// The rows, and the link of the top.
+// The rows, and the links of the two tops. A member is active or idle and never both, so its row is in one tree at most.
 #[derive(Drop)]
-pub struct Order {
+pub struct Orders {
     rows: [Row; 48],
-    root: Option<u8>,
+    active: Option<u8>,
+    idle: Option<u8>,
 }
 
-impl Order {
-    // An order of nobody.
-    pub fn new() -> Order
-        ensures { result ≡ record { rows = replicate 48 blank; root = None } }
+impl Orders {
+    // The orders of nobody.
+    pub fn new() -> Orders
+        ensures { result ≡ record { rows = replicate 48 blank; active = None; idle = None } }
     {
-        Order {
+        Orders {
             rows: [BLANK; 48],
-            root: None,
+            active: None,
+            idle: None,
         }
     }
 
-    fn put(&mut self, n: u8, figures: Figures)
-        ensures { self.new ≡ put_in self.old n figures }
+    // A member leaves the orders that it stands in.
+    pub fn take_out(&mut self, n: u8, member: Option<Member>)
+        ensures { self.new ≡ without_member self.old n member }
     {
-        let levels = height_at(&self.rows, self.root);
-        let top = insert_at(&mut self.rows, levels, self.root, n, figures);
-        self.root = Some(top);
+        let active = leave(&mut self.rows, self.active, n, active_of(member));
+        self.active = active;
+        let idle = leave(&mut self.rows, self.idle, n, idle_of(member));
+        self.idle = idle;
     }
 
-    fn take(&mut self, n: u8, key: u64)
-        ensures { self.new ≡ taken_out self.old n key }
+    // A member comes into the order that its state asks for. It must have left the other one before, since its row is
+    // written.
+    pub fn put_in(&mut self, n: u8, member: Option<Member>)
+        ensures { self.new ≡ with_member self.old n member }
     {
-        let levels = height_at(&self.rows, self.root);
-        let top = remove_at(&mut self.rows, levels, self.root, n, key);
-        self.root = top;
+        let active = enter(&mut self.rows, self.active, n, active_of(member));
+        self.active = active;
+        let idle = enter(&mut self.rows, self.idle, n, idle_of(member));
+        self.idle = idle;
     }
 
-    // A member goes out of the order, and it goes into it.
-    pub fn change(&mut self, n: u8, old: Option<Figures>, new: Option<Figures>)
-        ensures { self.new ≡ changed self.old n old new }
-    {
-        if let Some(figures) = old {
-            self.take(n, figures.key);
-        }
-        if let Some(figures) = new {
-            self.put(n, figures);
-        }
-    }
-
-    // The first turn of the members with a key up to a limit.
+    // The first turn of the active members with a start up to a limit.
     pub fn pick(&self, limit: u64) -> Option<Turn>
-        ensures { result ≡ pick_rows (height_at self.now.rows self.now.root) self.now.rows self.now.root limit }
+        ensures { result ≡ pick_rows (height_at self.now.rows self.now.active) self.now.rows self.now.active limit }
     {
-        pick_at(
-            &self.rows,
-            height_at(&self.rows, self.root),
-            self.root,
-            limit,
-        )
+        let levels = height_at(&self.rows, self.active);
+        pick_at(&self.rows, levels, self.active, limit)
     }
 
-    // The least key.
-    pub fn first_key(&self) -> Option<u64>
-        ensures { result ≡ first_key_rows (height_at self.now.rows self.now.root) self.now.rows self.now.root }
+    // The least start of the active members.
+    pub fn least_start(&self) -> Option<u64>
+        ensures { result ≡ first_key_rows (height_at self.now.rows self.now.active) self.now.rows self.now.active }
     {
-        first_key_at(&self.rows, height_at(&self.rows, self.root), self.root)
+        let levels = height_at(&self.rows, self.active);
+        first_key_at(&self.rows, levels, self.active)
     }
 
-    // The sum of all weights.
-    pub fn sum(&self) -> u64
-        ensures { result ≡ sum_at self.now.rows self.now.root }
+    // The sum of the weights of the active members.
+    pub fn active_sum(&self) -> u64
+        ensures { result ≡ sum_at self.now.rows self.now.active }
     {
-        sum_at(&self.rows, self.root)
+        sum_at(&self.rows, self.active)
     }
 
-    // The sum of the weights of the members with a key above a limit.
-    pub fn sum_above(&self, limit: u64) -> u64
-        ensures { result ≡ above_rows (height_at self.now.rows self.now.root) self.now.rows self.now.root limit }
+    // The sum of the weights of the idle members with a finish above a limit.
+    pub fn idle_sum(&self, limit: u64) -> u64
+        ensures { result ≡ above_rows (height_at self.now.rows self.now.idle) self.now.rows self.now.idle limit }
     {
-        sum_above_at(
-            &self.rows,
-            height_at(&self.rows, self.root),
-            self.root,
-            limit,
-        )
+        let levels = height_at(&self.rows, self.idle);
+        sum_above_at(&self.rows, levels, self.idle, limit)
+    }
+}
+
+// A member goes out of the tree at a link, if it stands there. The link of the rest comes back.
+fn leave(rows: &mut [Row], root: Option<u8>, n: u8, figures: Option<Figures>) -> Option<u8>
+    ensures rows { rows.new ≡ (left_out (record { rows = rows.old; root = root }) n figures).rows }
+    ensures root { result ≡ (left_out (record { rows = rows.old; root = root }) n figures).root }
+{
+    match figures {
+        Some(figures) => {
+            let levels = height_at(rows, root);
+            remove_at(rows, levels, root, n, figures.key)
+        }
+        None => root,
+    }
+}
+
+// A member goes into the tree at a link, if it belongs there. The link of the whole comes back.
+fn enter(rows: &mut [Row], root: Option<u8>, n: u8, figures: Option<Figures>) -> Option<u8>
+    ensures rows { rows.new ≡ (brought_in (record { rows = rows.old; root = root }) n figures).rows }
+    ensures root { result ≡ (brought_in (record { rows = rows.old; root = root }) n figures).root }
+{
+    match figures {
+        Some(figures) => {
+            let levels = height_at(rows, root);
+            Some(insert_at(rows, levels, root, n, figures))
+        }
+        None => root,
     }
 }
 
 // What the order of the active members knows of a member.
-pub fn active_of(member: Option<Member>) -> Option<Figures>
+fn active_of(member: Option<Member>) -> Option<Figures>
     ensures { result ≡ active_of member }
 {
     match member {
@@ -114,7 +130,7 @@ pub fn active_of(member: Option<Member>) -> Option<Figures>
 }
 
 // What the order of the idle members knows of a member.
-pub fn idle_of(member: Option<Member>) -> Option<Figures>
+fn idle_of(member: Option<Member>) -> Option<Figures>
     ensures { result ≡ idle_of member }
 {
     match member {
