@@ -10,7 +10,6 @@ use crate::activating::activate_path;
 use crate::charging::charge_path;
 use crate::expiring::{budget_after, expire_path};
 use crate::places::{set_budget, set_slot};
-use crate::reading::picked;
 use crate::selecting::{jump, serve};
 use crate::{Expiry, VtimeFull};
 use change_record::{InService, Parts, Tape};
@@ -61,8 +60,7 @@ pub fn select(parts: &mut Parts, tape: &mut Tape)
 {
     let mut group: u8 = 0;
     for _level in 0..5u8 {
-        jump(parts, tape, group);
-        let Some(entity) = picked(parts, group) else {
+        let Some(entity) = jump(parts, tape, group) else {
             return;
         };
         serve(parts, tape, group, entity);

@@ -1,7 +1,7 @@
 // The choice in one group.
-ghost use Rattle.std.specs.Prelude.{◌≡◌, ◌≤◌, ◌<◌};
+ghost use Rattle.std.specs.Prelude.{◌≡◌, ◌≤◌, ◌<◌, IfSome};
 ghost use Rattle.change_record.specs.Machine.{bfq_of};
-ghost use Rattle.bfq_select.specs.Rules.{jumped, in_service};
+ghost use Rattle.bfq_select.specs.Rules.{jumped, picked, in_service};
 ghost use Rattle.bfq_select.specs.Service.{IsSized, IsBounded};
 ghost use Rattle.bfq_select.specs.Course.{Exchanges};
 
@@ -11,24 +11,29 @@ use change_record::{Parts, Tape};
 use sector_core::Entity;
 use service_tree::{Member, State};
 
-// Where nobody in a group is eligible, its virtual time becomes the least start of those that are active.
-pub fn jump(parts: &mut Parts, tape: &mut Tape, group: u8)
+// Where nobody in a group is eligible, its virtual time becomes the least start of those that are active. The entity that
+// is picked then comes back: it is asked for again only where the virtual time has changed.
+pub fn jump(parts: &mut Parts, tape: &mut Tape, group: u8) -> Option<Entity>
     requires room { 1 ≤ tape.old.room }
     requires sized { IsSized parts.old.tables }
     requires bounded { IsBounded (bfq_of parts.old.tables) }
     requires group { group < 32 }
     ensures made { bfq_of parts.new.tables ≡ jumped group (bfq_of parts.old.tables) }
+    ensures picked { result ≡ picked (bfq_of parts.new.tables) group }
+    ensures within { IfSome result (λ entity. entity < 48) }
     ensures sized { IsSized parts.new.tables }
     ensures bounded { IsBounded (bfq_of parts.new.tables) }
     ensures course { Exchanges 1 parts.old.tables tape.old parts.new.tables tape.new }
 {
-    if picked(parts, group).is_some() {
-        return;
+    let entity = picked(parts, group);
+    if entity.is_some() {
+        return entity;
     }
-    match least_start_of(parts, group) {
-        Some(start) => set_vtime(parts, tape, group, start),
-        None => {}
-    }
+    let Some(start) = least_start_of(parts, group) else {
+        return entity;
+    };
+    set_vtime(parts, tape, group, start);
+    picked(parts, group)
 }
 
 // An entity of a group is in service.

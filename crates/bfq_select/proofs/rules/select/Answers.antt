@@ -15,7 +15,7 @@ loop-level-preserved c =
     let level_done : Exchanges 2 c.loop-level.parts.tables c.loop-level.tape c.serve.new.parts.tables c.serve.new.tape =
     course_more 1 1 2 c.loop-level.parts.tables c.jump.new.parts.tables c.serve.new.parts.tables c.loop-level.tape c.jump.new.tape c.serve.new.tape c.jump.ensures.course c.serve.ensures.course (omega arith) in
     record {
-      rest = sym (select_group (5 - level) (5 - (level + 1)) c.loop-level.group x (bfq_of c.loop-level.parts.tables) (bfq_of c.jump.new.parts.tables) (bfq_of c.serve.new.parts.tables) more c.jump.ensures.made c.in-Some.ensures.value c.serve.ensures.made group) ∙ v.rest;
+      rest = sym (select_group (5 - level) (5 - (level + 1)) c.loop-level.group x (bfq_of c.loop-level.parts.tables) (bfq_of c.jump.new.parts.tables) (bfq_of c.serve.new.parts.tables) more c.jump.ensures.made c.in-Some.ensures.picked c.serve.ensures.made group) ∙ v.rest;
       group = omega (arith, c.in-Some.ensures.within, c.if-entity-lt16.false);
       sized = c.serve.ensures.sized;
       bounded = c.serve.ensures.bounded;
@@ -26,7 +26,7 @@ pub returns-in_default-clause-made : goal.returns-in_default-clause-made
 returns-in_default-clause-made c =
     let level : ℕ = c.loop-level._level in
     let more : 5 - level ≡ suc (5 - (level + 1)) = omega arith in
-    sym (select_none (5 - level) (5 - (level + 1)) c.loop-level.group (bfq_of c.loop-level.parts.tables) (bfq_of c.jump.new.parts.tables) more c.jump.ensures.made c.in_default.ensures.value) ∙ c.loop-level.invariant.rest
+    sym (select_none (5 - level) (5 - (level + 1)) c.loop-level.group (bfq_of c.loop-level.parts.tables) (bfq_of c.jump.new.parts.tables) more c.jump.ensures.made c.in_default.ensures.picked) ∙ c.loop-level.invariant.rest
 
 pub returns-then-entity-lt16-clause-made : goal.returns-then-entity-lt16-clause-made
 returns-then-entity-lt16-clause-made c =
@@ -34,7 +34,7 @@ returns-then-entity-lt16-clause-made c =
     let x : ℕ = c.in-Some.entity in
     let more : 5 - level ≡ suc (5 - (level + 1)) = omega arith in
     let seat : nat_lt x 16 ≡ true = search rules in
-    sym (select_session (5 - level) (5 - (level + 1)) c.loop-level.group x (bfq_of c.loop-level.parts.tables) (bfq_of c.jump.new.parts.tables) (bfq_of c.serve.new.parts.tables) (bfq_of c.set_slot.new.parts.tables) more c.jump.ensures.made c.in-Some.ensures.value c.serve.ensures.made seat c.set_slot.ensures.made) ∙ c.loop-level.invariant.rest
+    sym (select_session (5 - level) (5 - (level + 1)) c.loop-level.group x (bfq_of c.loop-level.parts.tables) (bfq_of c.jump.new.parts.tables) (bfq_of c.serve.new.parts.tables) (bfq_of c.set_slot.new.parts.tables) more c.jump.ensures.made c.in-Some.ensures.picked c.serve.ensures.made seat c.set_slot.ensures.made) ∙ c.loop-level.invariant.rest
 
 pub returns-clause-made : goal.returns-clause-made
 returns-clause-made c =
