@@ -1,5 +1,9 @@
-pub mod Placed
 pub mod Shapes
-pub mod FirstThat
-pub mod Nth
-pub mod Least
+pub mod Rising
+pub mod Turns
+pub mod Back
+pub mod Entries
+pub mod Counts
+pub mod Linked
+pub mod Walk
+pub mod Stored

@@ -12,21 +12,27 @@
 //! | [`ProcessQueue::merge_place`] | which request of a seat's queue a bio joins, and at which end |
 //! | [`ProcessQueue::next`] | which request of a seat's queue is served next, in the order of sectors from a head on |
 //!
-//! A slot is in one queue at most. A queue is the slots that are linked to its seat, in the order of their serials.
+//! A slot is in one queue at most. A queue is the slots that are linked to its seat, in the order of their serials. They are
+//! linked both ways, and the ends of each queue are known; so a call walks over no slot of another queue.
 
-ghost use Rattle.std.specs.Prelude.{◌≡◌, ◌≤◌, None, Some, IfOk, length, replicate, slice_index_or, slice_set, List, ℕ};
-ghost use Rattle.process_queue.specs.Queue.{first_in, first_slot, insert_in, is_empty, queue_slots};
+ghost use Rattle.std.specs.Prelude.{◌≡◌, ◌+◌, ◌<◌, ◌≤◌, None, Some, IfOk, length, replicate, slice_get, slice_index_or, slice_set, ℕ};
+ghost use Rattle.process_queue.specs.Queue.{first_slot, is_empty, queue_slots};
 
 mod idle;
+mod links;
 mod merge;
 mod next;
 mod place;
 
+use linked_rows::{ALONE, Ends, NOBODY, Sides, ends_at, side_at};
+use links::{fewer, link_free, unlink_at};
 pub use merge::{Place, Shape};
 use sector_core::{OutOfMemory, Slot, empty_table};
 use std::alloc::Global;
 use std::marker::Model;
-use std::mem;
+
+// How many seats a `u8` numbers.
+const SEATS: usize = 256;
 
 /// A slot's place in a queue.
 #[derive(Clone, Copy, Debug, PartialEq, Eq)]
@@ -37,32 +43,29 @@ pub struct Link {
     pub serial: u64,
 }
 
-// The entry of a lower slot, or a later slot's where that has a smaller serial.
-fn earlier(entry: (u64, Slot), found: Option<(u64, Slot)>) -> (u64, Slot)
-    ensures { (entries : List (ℕ × ℕ)) → found ≡ first_in entries → Some result ≡ first_in (insert_in entry entries) }
-{
-    match found {
-        Some(other) => { if other.0 < entry.0 { other } else { entry } }
-        None => entry,
-    }
-}
-
 /// The queues of all seats over one pool of slots.
 #[derive(Drop)]
 pub struct ProcessQueue {
     links: Vec<Option<Link>>,
+    // Each slot's neighbours in its queue.
+    sides: Vec<Sides>,
+    // Each seat's first and last slot.
+    ends: Vec<Ends>,
+    // How many slots are in queues.
+    queued: usize,
 }
 
 impl Model for ProcessQueue {
-    ghost use Rattle.std.specs.Prelude.{List, Option, length, ◌≤◌};
+    ghost use Rattle.std.specs.Prelude.{List, Option};
     ghost use Rattle.process_queue.specs.declared.Link.{Link};
+    ghost use Rattle.process_queue.specs.Links.{IsQueues};
 
     ghost Value = { List (Option Link) };
 
     ghost view = { λ q. q.links.items };
 
-    // numbers of slots fit a `Slot`
-    ghost invariant = { λ q. length q.links.items ≤ 65535 };
+    // each queue is linked both ways, its ends are known, and the slots in queues are counted
+    ghost invariant = { λ q. IsQueues q.links.items q.sides.items q.ends.items q.queued };
 }
 
 impl ProcessQueue {
@@ -72,6 +75,9 @@ impl ProcessQueue {
     {
         Ok(ProcessQueue {
             links: empty_table(alloc, usize::from(slots))?,
+            sides: vec![in alloc; ALONE; usize::from(slots)]?,
+            ends: vec![in alloc; NOBODY; SEATS]?,
+            queued: 0,
         })
     }
 
@@ -92,10 +98,19 @@ impl ProcessQueue {
         ensures old { result ≡ slice_index_or self.old slot (Some (record { seat = seat; serial = serial })) }
     {
         let link = Link { seat, serial };
-        match self.links.get_mut(usize::from(slot)) {
-            Some(place) => mem::replace(place, Some(link)),
-            None => Some(link),
+        if usize::from(slot) >= self.slots() {
+            return Some(link);
         }
+        let old = self.unlink(slot);
+        link_free(
+            self.links.as_mut_slice(),
+            self.sides.as_mut_slice(),
+            self.ends.as_mut_slice(),
+            slot,
+            link,
+        );
+        self.queued += 1;
+        old
     }
 
     /// Takes a slot out of its queue, and hands back where it was linked.
@@ -103,41 +118,41 @@ impl ProcessQueue {
         ensures new { self.new ≡ slice_set self.old slot None }
         ensures old { result ≡ slice_index_or self.old slot None }
     {
-        match self.links.get_mut(usize::from(slot)) {
-            Some(place) => mem::replace(place, None),
-            None => None,
-        }
+        let old = unlink_at(
+            self.links.as_mut_slice(),
+            self.sides.as_mut_slice(),
+            self.ends.as_mut_slice(),
+            slot,
+        );
+        self.queued = fewer(self.queued, old);
+        old
+    }
+
+    // How many slots there are.
+    fn slots(&self) -> usize
+        ensures { result ≡ length self.now }
+    {
+        self.links.len()
+    }
+
+    // The slot behind another one in its queue.
+    fn behind(&self, slot: Slot) -> Option<Slot>
+        ensures { (seat k : ℕ) → seat < 256 → slice_get (queue_slots seat self.now) k ≡ Some slot → result ≡ slice_get (queue_slots seat self.now) (k + 1) }
+    {
+        side_at(self.sides.as_slice(), slot).after
     }
 
     /// The earliest inserted slot of a seat's queue.
     pub fn first(&self, seat: u8) -> Option<Slot>
         ensures { result ≡ first_slot seat self.now }
     {
-        let mut found: Option<(u64, Slot)> = None;
-        for slot in (0..self.links.len()).rev() {
-            if let Some(link) = self.links[slot] {
-                if link.seat == seat {
-                    found = Some(earlier((link.serial, slot as u16), found));
-                }
-            }
-        }
-        match found {
-            Some(first) => Some(first.1),
-            None => None,
-        }
+        ends_at(self.ends.as_slice(), seat).first
     }
 
     /// Whether a seat's queue has no slot.
     pub fn is_empty(&self, seat: u8) -> bool
         ensures { result ≡ is_empty (queue_slots seat self.now) }
     {
-        for link in self.links.iter() {
-            if let Some(link) = link {
-                if link.seat == seat {
-                    return false;
-                }
-            }
-        }
-        true
+        self.first(seat).is_none()
     }
 }

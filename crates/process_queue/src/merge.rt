@@ -3,7 +3,7 @@ ghost use Rattle.std.specs.Prelude.{◌≡◌, ◌+◌, ◌^◌, ◌<◌, ◌==�
 ghost use Rattle.process_queue.specs.Queue.{queue_slots};
 ghost use Rattle.process_queue.specs.Merge.{bios_at, first_merge, has_room, joins, joins_at, may_join, merge_place, place_of, same_op, shape_at, shape_of};
 
-use crate::{ProcessQueue, earlier};
+use crate::ProcessQueue;
 use request_pool::{Request, RequestPool};
 use sector_core::{Op, Range, Slot};
 
@@ -138,22 +138,18 @@ impl ProcessQueue {
     ) -> Option<Place>
         ensures { result ≡ place_of (first_merge (shape_at pool.now.requests pool.now.bios) (queue_slots seat self.now) front session op range) }
     {
-        let mut found: Option<(u64, Slot)> = None;
-        for slot in (0..self.links.len()).rev() {
-            if let Some(link) = self.links[slot] {
-                let place = slot as u16;
-                if link.seat == seat && joins_at(pool, place, front, session, op, range) {
-                    found = Some(earlier((link.serial, place), found));
-                }
+        let mut at = self.first(seat);
+        // A queue has no more slots than there are.
+        for _seen in 0..self.slots() {
+            let Some(slot) = at else {
+                return None;
+            };
+            if joins_at(pool, slot, front, session, op, range) {
+                return Some(Place { slot, front });
             }
+            at = self.behind(slot);
         }
-        match found {
-            Some(first) => Some(Place {
-                slot: first.1,
-                front,
-            }),
-            None => None,
-        }
+        None
     }
 
     /// Where a bio joins a request of a seat's queue: of the requests of its session and operation with room for it,

@@ -1,12 +1,12 @@
 // The next request: of a seat's queue the one to be served next, in the order of sectors from the queue's head on.
-ghost use Rattle.std.specs.Prelude.{◌≡◌, List, ℕ, nat_le};
-ghost use Rattle.std.specs.List.{cons_option, filter, find};
+ghost use Rattle.std.specs.Prelude.{◌≡◌};
 ghost use Rattle.process_queue.specs.Queue.{queue_slots};
 ghost use Rattle.process_queue.specs.Merge.{shape_at};
-ghost use Rattle.process_queue.specs.Next.{has_start, minimum, next_slot, start_of, starts, wanted};
+ghost use Rattle.process_queue.specs.Next.{next_slot, start_of};
+ghost use Rattle.process_queue.specs.Nearest.{candidate, nearest, slot_of, sooner};
 
+use crate::ProcessQueue;
 use crate::merge::shape_of;
-use crate::{ProcessQueue, earlier};
 use request_pool::RequestPool;
 use sector_core::Slot;
 
@@ -20,75 +20,77 @@ fn start_at(pool: &RequestPool, slot: Slot) -> Option<u64>
     }
 }
 
-// Whether the request in a slot starts at a sector.
-fn has_start(pool: &RequestPool, slot: Slot, sector: u64) -> bool
-    ensures { result ≡ has_start (shape_at pool.now.requests pool.now.bios) sector slot }
+// A start and its slot, if the start is at or after sector `from`.
+fn candidate(from: u64, start: Option<u64>, slot: Slot) -> Option<(u64, Slot)>
+    ensures { result ≡ candidate from start slot }
 {
-    match start_at(pool, slot) {
-        Some(start) => start == sector,
-        None => false,
+    match start {
+        Some(start) => {
+            if from <= start {
+                Some((start, slot))
+            } else {
+                None
+            }
+        }
+        None => None,
     }
 }
 
-// What one request more, if there is one, makes of the least start at or after sector `from`.
-fn least(from: u64, start: Option<u64>, found: Option<u64>) -> Option<u64>
-    ensures { (others : List ℕ) → found ≡ minimum (filter (nat_le from) others) → result ≡ minimum (filter (nat_le from) (cons_option start others)) }
+// Of two starts the lesser, and of equal ones the first.
+fn sooner(found: Option<(u64, Slot)>, other: Option<(u64, Slot)>) -> Option<(u64, Slot)>
+    ensures { result ≡ sooner found other }
 {
-    let Some(start) = start else {
-        return found;
-    };
-    if start < from {
-        return found;
+    match (found, other) {
+        (Some(found), Some(other)) => {
+            if other.0 < found.0 {
+                Some(other)
+            } else {
+                Some(found)
+            }
+        }
+        (Some(found), None) => Some(found),
+        (None, other) => other,
     }
-    match found {
-        Some(other) => Some(start.min(other)),
-        None => Some(start),
+}
+
+// The slot of the first start, else that of the second.
+fn slot_of(ahead: Option<(u64, Slot)>, least: Option<(u64, Slot)>) -> Option<Slot>
+    ensures { result ≡ slot_of ahead least }
+{
+    match ahead {
+        Some(found) => Some(found.1),
+        None => match least {
+            Some(found) => Some(found.1),
+            None => None,
+        },
     }
 }
 
 impl ProcessQueue {
-    // The least start at or after sector `from` in a seat's queue, if there is one.
-    fn least_start(&self, pool: &RequestPool, seat: u8, from: u64) -> Option<u64>
-        ensures { result ≡ minimum (filter (nat_le from) (starts (shape_at pool.now.requests pool.now.bios) (queue_slots seat self.now))) }
+    // The first request of a seat's queue with the least start at or after the head, and the first one with the least start.
+    fn nearest(
+        &self,
+        pool: &RequestPool,
+        seat: u8,
+        head: u64,
+    ) -> (Option<(u64, Slot)>, Option<(u64, Slot)>)
+        ensures ahead { result.0 ≡ nearest (shape_at pool.now.requests pool.now.bios) head (queue_slots seat self.now) }
+        ensures least { result.1 ≡ nearest (shape_at pool.now.requests pool.now.bios) 0 (queue_slots seat self.now) }
     {
-        let mut found: Option<u64> = None;
-        for slot in (0..self.links.len()).rev() {
-            if let Some(link) = self.links[slot] {
-                if link.seat == seat {
-                    found = least(from, start_at(pool, slot as u16), found);
-                }
-            }
+        let mut ahead: Option<(u64, Slot)> = None;
+        let mut least: Option<(u64, Slot)> = None;
+        let mut at = self.first(seat);
+        // A queue has no more slots than there are.
+        for _seen in 0..self.slots() {
+            let Some(slot) = at else {
+                return (ahead, least);
+            };
+            let start = start_at(pool, slot);
+            ahead = sooner(ahead, candidate(head, start, slot));
+            least = sooner(least, candidate(0, start, slot));
+            at = self.behind(slot);
         }
-        found
-    }
-
-    // The start to be served next in a seat's queue: the least at or after the head, else the least.
-    fn wanted(&self, pool: &RequestPool, seat: u8, head: u64) -> Option<u64>
-        ensures { result ≡ wanted head (starts (shape_at pool.now.requests pool.now.bios) (queue_slots seat self.now)) }
-    {
-        match self.least_start(pool, seat, head) {
-            Some(start) => Some(start),
-            None => self.least_start(pool, seat, 0),
-        }
-    }
-
-    // The earliest inserted slot of a seat's queue whose request starts at a sector.
-    fn first_with_start(&self, pool: &RequestPool, seat: u8, sector: u64) -> Option<Slot>
-        ensures { result ≡ find (has_start (shape_at pool.now.requests pool.now.bios) sector) (queue_slots seat self.now) }
-    {
-        let mut found: Option<(u64, Slot)> = None;
-        for slot in (0..self.links.len()).rev() {
-            if let Some(link) = self.links[slot] {
-                let place = slot as u16;
-                if link.seat == seat && has_start(pool, place, sector) {
-                    found = Some(earlier((link.serial, place), found));
-                }
-            }
-        }
-        match found {
-            Some(first) => Some(first.1),
-            None => None,
-        }
+        (ahead, least)
     }
 
     /// The request of a seat's queue to be served next: of its requests the one with the least start at or after the
@@ -96,9 +98,7 @@ impl ProcessQueue {
     pub fn next(&self, pool: &RequestPool, seat: u8, head: u64) -> Option<Slot>
         ensures { result ≡ next_slot pool.now.requests pool.now.bios (queue_slots seat self.now) head }
     {
-        match self.wanted(pool, seat, head) {
-            Some(sector) => self.first_with_start(pool, seat, sector),
-            None => None,
-        }
+        let (ahead, least) = self.nearest(pool, seat, head);
+        slot_of(ahead, least)
     }
 }
