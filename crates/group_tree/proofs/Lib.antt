@@ -1,1 +1,2 @@
 pub mod Climbs
+pub mod Kept

@@ -8,36 +8,49 @@
 //! | [`GroupTree::depth`] | how many levels a group is under the root |
 //! | [`GroupTree::path`] | an entity and the groups above it, the nearest first |
 //! | [`GroupTree::exchange_group`] | puts an entity into a group, or into none, and hands back where it was |
+//! | [`GroupTree::first_child`] | an entity of a group, if it has any |
 //!
 //! Seat `n` is entity `n`, and group `g` from 1 on is entity `16 + g`. The root, group 0, is no entity. Groups are four
-//! levels deep at most, so a path has five entities at most, and a way up that is longer is cut there.
+//! levels deep at most, so a path has five entities at most, and a way up that is longer is cut there. The entities of a
+//! group are linked both ways, so no call walks over all entities.
 
-ghost use Rattle.std.specs.Prelude.{◌≡◌, ◌+◌, ◌++◌, ◌≤◌, None, length, replicate, slice_index_or, slice_set};
+ghost use Rattle.std.specs.Prelude.{◌≡◌, ◌≢◌, ◌+◌, ◌++◌, ◌<◌, ◌≤◌, ℕ, MatchOption, None, Some, length, replicate, slice_index_or, slice_set};
 ghost use Rattle.group_tree.specs.Groups.{climb, depth, entity_of, has_entity, parent, path};
 
+mod children;
+
 use arrayvec::ArrayVec;
+use children::{enter, leave, linked};
+use linked_rows::{ALONE, Ends, NOBODY, Row, Sides, ends_at};
 use sector_core::Entity;
 use std::marker::Model;
-use std::mem;
 
 /// How many levels of groups there are under the root at most.
 pub const MOST_LEVELS: u8 = 4;
+
+// How many groups there are, the root among them.
+const GROUPS: u8 = 32;
 
 /// The group of each of the 48 entities.
 #[derive(Drop)]
 pub struct GroupTree {
     parents: [Option<u8>; 48],
+    // Each entity's neighbours among the children of its group.
+    sides: [Sides; 48],
+    // Each group's first and last child.
+    ends: [Ends; 32],
 }
 
 impl Model for GroupTree {
-    ghost use Rattle.std.specs.Prelude.{◌≡◌, ℕ, List, Option, length};
+    ghost use Rattle.std.specs.Prelude.{ℕ, List, Option};
+    ghost use Rattle.group_tree.specs.Children.{IsGroups};
 
     ghost Value = { List (Option ℕ) };
 
     ghost view = { λ t. t.parents };
 
-    // a place for each entity
-    ghost invariant = { λ t. length t.parents ≡ 48 };
+    // a place for each entity, and the children of each group are linked both ways
+    ghost invariant = { λ t. IsGroups t.parents t.sides t.ends };
 }
 
 impl GroupTree {
@@ -47,6 +60,8 @@ impl GroupTree {
     {
         GroupTree {
             parents: [None; 48],
+            sides: [ALONE; 48],
+            ends: [NOBODY; 32],
         }
     }
 
@@ -66,11 +81,35 @@ impl GroupTree {
         ensures new { self.new ≡ slice_set self.old entity group }
         ensures old { result ≡ slice_index_or self.old entity group }
     {
-        let at = usize::from(entity);
-        if at < 48 {
-            mem::replace(&mut self.parents[at], group)
-        } else {
-            group
+        let places = self.places();
+        if entity >= places {
+            return group;
+        }
+        let row = Row::from(entity);
+        let old = self.parents[entity as usize];
+        leave(&mut self.sides, &mut self.ends, linked(old), row);
+        enter(&mut self.sides, &mut self.ends, linked(group), row);
+        self.parents[entity as usize] = group;
+        old
+    }
+
+    // How many entities have a place.
+    fn places(&self) -> u8
+        ensures value { result ≡ 48 }
+        ensures length { length self.now ≡ 48 }
+    {
+        let _ = &self.parents;
+        48
+    }
+
+    /// An entity of a group; none exactly if no entity is in it.
+    pub fn first_child(&self, group: u8) -> Option<Entity>
+        requires { group < 32 }
+        ensures { MatchOption result ((entity : ℕ) → parent self.now entity ≢ Some group) (λ entity. parent self.now entity ≡ Some group) }
+    {
+        match ends_at(&self.ends, group).first {
+            Some(row) => Some(row as Entity),
+            None => None,
         }
     }
 
