@@ -1,2 +1,4 @@
+pub mod Masks
 pub mod Seen
+pub mod Gone
 pub mod Ranged

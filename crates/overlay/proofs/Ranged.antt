@@ -1,9 +1,15 @@
--- The first entry from a sector on.
-use Rattle.std.proofs.Common.{◌≡◌, ℕ, ◌≤◌, List, ◌∷◌, Option, Some, None, IsSome, IfSome, slice_get, false, refl, ap, sym, subst, inl, inr, arith}
+-- The first stored sector from one on.
+use Rattle.std.proofs.Common.{◌≡◌, ℕ, ◌+◌, ◌-◌, ◌/◌, ◌<◌, ◌≤◌, List, ◌∷◌, Option, Some, None, IsSome, IfSome, slice_get, false, refl, ap, sym, subst, inl, inr, arith}
 use Rattle.std.proofs.lemmas.Bool.{cases_lt}
 use Rattle.std.specs.Ordering.{nat_cmp, is_gt}
 use Rattle.std.specs.Cmp.{nat_cmp_is}
+use Rattle.std.specs.Map.{lookup}
+use Rattle.std.specs.BTreeMap.{is_at}
 use Rattle.std.specs.declared.cmp.Ordering.TheVariants.{Less, Equal}
+use Rattle.overlay.specs.Blocks.{Blocks}
+use Rattle.overlay.specs.Pages.{Pages, blocks_of}
+use Rattle.overlay.specs.Runs.{IsFree, IsStored}
+use Rattle.overlay.proofs.Seen.{in_page}
 
 -- a bound of numbers, as the tree compares them
 pub not_gt : (a b : ℕ) → a ≤ b → is_gt (nat_cmp a b) ≡ false
@@ -22,3 +28,18 @@ of_first P r rest e is h = subst (λ l. IfSome (slice_get l 0) P) is h
 pub free_unless : {X : Type 0} (o : Option X) → (IsSome o → ⊥) → o ≡ None
 free_unless None f = refl
 free_unless (Some x) f = absurd (f refl)
+
+-- behind a page there is nothing where there is no page
+pub free_behind : (es : Pages) (m : Blocks) → blocks_of es ≡ m
+    → (q : ℕ) → lookup (is_at (nat_cmp (q / 8))) es ≡ None → IsFree m q
+free_behind es m is q none = in_page es m (q / 8) None is (sym none) q refl
+
+-- a run, and the sectors that follow it without a gap
+pub more_stored : (m : Blocks) (start count more sector : ℕ) → sector ≡ start + count → ((k : ℕ) → k < count → IsStored m (start + k))
+    → ((k : ℕ) → k < more → IsStored m (sector + k)) → (k : ℕ) → k < count + more → IsStored m (start + k)
+more_stored m start count more sector is first then k below = elim (cases_lt k count) [
+  | inl less ↦ first k less
+  | inr reached ↦
+      let same : sector + (k - count) ≡ start + k = omega (arith, is, reached) in
+      subst (IsStored m) same (then (k - count) (omega (arith, below, reached)))
+]

@@ -7,9 +7,12 @@
 //! | [`Overlay::exchange`] | puts a block or nothing at one sector and hands back what stood there |
 //! | [`Overlay::next_run`] | the least stored sector from one on, and how many follow it without a gap |
 //!
-//! A finite map from sectors to blocks. Replacing and removing a block take no memory; adding one may
-//! be refused, and then the block comes back and nothing has changed.
+//! A finite map from sectors to blocks, kept in pages of eight sectors. Replacing and removing a block take no memory,
+//! and adding one takes some only if its page has no other block. It may be refused, and then the block comes back
+//! and nothing has changed.
 
+mod page;
+mod pages;
 mod runs;
 
 ghost use Rattle.std.specs.Prelude.{◌≡◌, List, ℕ, OnErr, OnOk, IfOk, IfErr, IsNone, IsSome, IsOk, None, Some};
@@ -17,6 +20,8 @@ ghost use Rattle.std.specs.Option.{option_copied};
 ghost use Rattle.std.specs.FinMap as map;
 ghost use Rattle.overlay.specs.Blocks.{Blocks, exchanged};
 
+use page::{PAGE, Page};
+use pages::{put_at, take_at};
 use sector_core::{Block, OutOfMemory};
 use std::alloc::Global;
 use std::collections::BTreeMap;
@@ -25,7 +30,7 @@ use std::marker::Model;
 /// The blocks that have been stored, by sector.
 #[derive(Drop)]
 pub struct Overlay {
-    pub(crate) blocks: BTreeMap<u64, Block>,
+    pub(crate) pages: BTreeMap<u64, Page>,
 }
 
 impl Model for Overlay {
@@ -35,9 +40,11 @@ impl Model for Overlay {
 
     ghost coded = { blocks_code };
 
-    ghost use Rattle.std.specs.FinMap as map;
+    ghost use Rattle.overlay.specs.Pages.{blocks_of, IsNumbered};
 
-    ghost view = { λ o. map.from_entries o.blocks.entries };
+    ghost view = { λ o. blocks_of o.pages.entries };
+
+    ghost invariant = { λ o. IsNumbered o.pages.entries };
 }
 
 impl Overlay {
@@ -46,7 +53,7 @@ impl Overlay {
         ensures { result ≡ map.empty }
     {
         Overlay {
-            blocks: BTreeMap::new(alloc),
+            pages: BTreeMap::new(alloc),
         }
     }
 
@@ -54,7 +61,10 @@ impl Overlay {
     pub fn get(&self, sector: u64) -> Option<&Block>
         ensures { option_copied result ≡ map.get self.now sector }
     {
-        self.blocks.get(&sector)
+        match self.pages.get(&(sector / PAGE)) {
+            Some(page) => page.get((sector % PAGE) as usize),
+            None => None,
+        }
     }
 
     /// Puts a block, or none, at a sector, and hands back what stood there.
@@ -70,14 +80,13 @@ impl Overlay {
         // memory is taken only where a block is added
         ensures adds { OnErr result ((map.get self.old sector ≡ None) × IsSome block) }
     {
+        let number = sector / PAGE;
+        let at = (sector % PAGE) as usize;
         match block {
-            None => {
-                let left = self.blocks.remove(&sector);
-                return Ok(left);
-            }
-            Some(block) => match self.blocks.insert(sector, block) {
+            None => return Ok(take_at(&mut self.pages, number, at)),
+            Some(block) => match put_at(&mut self.pages, number, at, block) {
                 Ok(left) => return Ok(left),
-                Err(refused) => return Err((Some(refused.value.1), OutOfMemory)),
+                Err(back) => return Err((back, OutOfMemory)),
             },
         }
     }
