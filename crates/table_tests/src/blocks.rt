@@ -30,13 +30,13 @@ fn stands(overlay: &Overlay, sector: u64) -> Option<u8> {
     }
 }
 
-// A block comes to sector 5, or none: what comes back.
-fn put(overlay: &mut Overlay, letter: Option<u8>) -> Result<Option<u8>, Fail> {
+// A block comes to a sector, or none: what comes back.
+fn put(overlay: &mut Overlay, sector: u64, letter: Option<u8>) -> Result<Option<u8>, Fail> {
     let block = match letter {
         Some(letter) => Some(storing(letter)),
         None => None,
     };
-    match overlay.exchange(5, block) {
+    match overlay.exchange(sector, block) {
         Ok(Some(old)) => Ok(Some(letter_of(&old))),
         Ok(None) => Ok(None),
         Err(_) => Err(Fail::from("memory for a block")),
@@ -48,11 +48,11 @@ fn come_and_gone(alloc: Global) -> Result<[Option<u8>; 7], Fail> {
     let mut overlay = Overlay::new(alloc);
     Ok([
         stands(&overlay, 5),
-        put(&mut overlay, Some(b'A'))?,
+        put(&mut overlay, 5, Some(b'A'))?,
         stands(&overlay, 5),
         stands(&overlay, 4),
-        put(&mut overlay, Some(b'B'))?,
-        put(&mut overlay, None)?,
+        put(&mut overlay, 5, Some(b'B'))?,
+        put(&mut overlay, 5, None)?,
         stands(&overlay, 5),
     ])
 }
@@ -63,5 +63,45 @@ fn blocks_come_and_go(rt: HostRuntime) -> Result<(), Fail> {
     let (a, b) = (Some(b'A'), Some(b'B'));
     let wanted = [None, None, a, None, a, b, None];
     assert_eq!(rt; come_and_gone(rt.alloc())?, wanted);
+    Ok(())
+}
+
+// What comes to a sector, what comes back, and the start and the length of the next run from sector 8 on.
+#[derive(Clone, Copy, Debug, PartialEq, Eq)]
+struct Told(u64, Option<u8>, Option<u8>, Option<(u64, u32)>);
+
+// Does that again, and tells what came of it.
+fn again(overlay: &mut Overlay, told: Told) -> Result<Told, Fail> {
+    let Told(sector, letter, ..) = told;
+    let old = put(overlay, sector, letter)?;
+    let run = match overlay.next_run(8, 64) {
+        Some(run) => Some((run.start, run.count)),
+        None => None,
+    };
+    Ok(Told(sector, letter, old, run))
+}
+
+// Pages of eight sectors: over the border of two, at both ends of one, and up to the last sector that there can be.
+#[test]
+fn pages_come_and_go(rt: HostRuntime) -> Result<(), Fail> {
+    let (a, b) = (Some(b'A'), Some(b'B'));
+    let mut overlay = Overlay::new(rt.alloc());
+    for told in [
+        Told(7, a, None, None),
+        Told(8, a, None, Some((8, 1))),
+        Told(15, b, None, Some((8, 1))),
+        Told(16, b, None, Some((8, 1))),
+        Told(8, None, a, Some((15, 2))),
+        Told(15, a, b, Some((15, 2))),
+        // The last block of its page goes, and then there is nothing to go.
+        Told(15, None, a, Some((16, 1))),
+        Told(15, None, None, Some((16, 1))),
+        Told(16, None, b, None),
+        Told(u64::MAX, b, None, Some((u64::MAX, 1))),
+        Told(15, b, None, Some((15, 1))),
+        Told(7, None, a, Some((15, 1))),
+    ] {
+        assert_eq!(rt; again(&mut overlay, told)?, told);
+    }
     Ok(())
 }
