@@ -3,7 +3,7 @@
 
     python3 bench/sim.py [--against PROGRAM] [WORKLOAD]...
 
-There are five workloads, each of cycles after an opening, over 1,024 sectors of zeros but for the last. With no
+There are six workloads, each of cycles after an opening, over 1,024 sectors of zeros but for the last two. With no
 workload named all are run.
 
 `writes` and `merging reads` run with the scheduler none, and open with one attach. A cycle of `writes` is one write of
@@ -21,6 +21,10 @@ in flight, the group goes, the host is frozen, switched to none and back and tha
 `reads of an image` runs with the scheduler none over a file of 64 MiB, and opens with one attach. A cycle is a read of 8
 sectors, all over the file, its dispatch, its work and its reap. How long `dd` takes for as many blocks of 4,096 bytes is
 shown beside it, where there is a `dd`.
+
+`stores over stored sectors` runs with the scheduler none over 65,536 sectors of zeros, all of which its opening stores, 64 in
+a row at a time. A cycle is one more write of 64 sectors, all over them, its dispatch, its finish and its reap. The opening is its
+first pass and has a figure of its own: it adds each block, where the cycles replace them. From the other figures it is taken off.
 
 Each figure is the median of 25 rounds, in user plus system time of the process, with that of an empty script of the
 same round taken off. Peak memory is that of the process, by getrusage, with that of an empty script taken off. Beside
@@ -67,6 +71,13 @@ BLOCK_SECTORS = 8
 BLOCK_BYTES = BLOCK_SECTORS * SECTOR_BYTES
 BLOCKS = IMAGE_BYTES // BLOCK_BYTES
 BLOCK_STRIDE = 4_099
+
+# The sectors that are all stored before the cycles, how many a write has, and how many such runs lie between one write of a
+# cycle and the next: all come before one comes again.
+STORED_SECTORS = 65_536
+RUN_SECTORS = 64
+STORED_RUNS = STORED_SECTORS // RUN_SECTORS
+RUN_STRIDE = 389
 
 SEATS = 16
 GROUPS = 31
@@ -169,13 +180,34 @@ def image_read_cycle(cycle, first):
     yield "reap 0 1", f"completed {first} read" + "".join(f" {(start + place) % 256:02x}" for place in range(BLOCK_SECTORS))
 
 
-FIELDS = "name scheduler opening cycle calls payload_sectors most_bytes most_against_none has_image"
+def store_cycle(run, byte, first):
+    """The lines of one write of a run of sectors, its dispatch, its finish and its reap, each with what it prints."""
+    start, issue = RUN_SECTORS * run, first + 1
+    yield f"write 0 1 {start} {RUN_SECTORS} {byte}", f"queued {first}"
+    yield "dispatch", f"issued 0 {issue} store {start} {RUN_SECTORS}"
+    yield f"finish 0 {issue} stored", "finished 1"
+    yield "reap 0 1", f"completed {first} written"
+
+
+def all_stored():
+    """One attach, and then each run of sectors stored once."""
+    yield from ONE_ATTACH
+    for run in range(STORED_RUNS):
+        yield from store_cycle(run, 255, 4 * run + 2)
+
+
+def store_again_cycle(cycle, first):
+    """Likewise. All sectors were stored before, so each block takes the place of one."""
+    return store_cycle(cycle * RUN_STRIDE % STORED_RUNS, cycle % 256, first)
+
+
+FIELDS = "name scheduler opening cycle calls payload_sectors most_bytes most_against_none has_image more_words has_first_pass"
 
 
 class Workload(namedtuple("Workload", FIELDS)):
     """The lines before the cycles and what they print, a cycle, the calls that it has, the sectors that it writes or
-    reads, the bounds on a call's bytes and on its time against that with the scheduler none, if any, and whether it runs
-    over an image file."""
+    reads, the bounds on a call's bytes and on its time against that with the scheduler none, if any, whether it runs
+    over an image file, the words that it has besides, and whether its opening is a first pass, which has a figure of its own."""
 
     def whole(self, calls):
         """The greatest number of calls up to `calls` that whole cycles have."""
@@ -196,8 +228,10 @@ class Workload(namedtuple("Workload", FIELDS)):
         all_calls = self.script(many)
         held = all_calls + [("hold", f"moved {length} {length}")]
         undone = held + [(f"undo {back}", f"moved {length - back} {length}")]
+        first_pass = {"nothing": []} if self.has_first_pass else {}
         return {
-            "empty": [],
+            **first_pass,
+            "empty": list(self.opening) if self.has_first_pass else [],
             "few": self.script(self.whole(FEW)),
             "half": self.script(many - back),
             "many": all_calls,
@@ -212,7 +246,7 @@ class Workload(namedtuple("Workload", FIELDS)):
         scripts, runs = self.scripts(), {}
         for name, pairs in scripts.items():
             runs[name] = (PROGRAM, self.scheduler, pairs)
-            if against is not None and name in ("empty", "many"):
+            if against is not None and name in ("nothing", "empty", "many"):
                 runs[f"{name}, again"] = (PROGRAM, self.scheduler, pairs)
                 runs[f"{name}, against"] = (against, self.scheduler, pairs)
         if self.most_against_none is not None:
@@ -222,13 +256,15 @@ class Workload(namedtuple("Workload", FIELDS)):
 
 
 WORKLOADS = [
-    Workload("writes", "none", ONE_ATTACH, write_cycle, 4, 1, MOST_BYTES_PER_CALL, None, False),
+    Workload("writes", "none", ONE_ATTACH, write_cycle, 4, 1, MOST_BYTES_PER_CALL, None, False, [], False),
     # The bytes of a read stay for as long as its reap can be undone, so what a call leaves is mostly payload.
-    Workload("merging reads", "none", ONE_ATTACH, merging_read_cycle, 66, 256, None, None, False),
-    Workload("reads in groups", "bfq", list(groups_and_seats()), grouped_read_cycle, 128, 32, None, MOST_AGAINST_NONE, False),
+    Workload("merging reads", "none", ONE_ATTACH, merging_read_cycle, 66, 256, None, None, False, [], False),
+    Workload("reads in groups", "bfq", list(groups_and_seats()), grouped_read_cycle, 128, 32, None, MOST_AGAINST_NONE, False, [], False),
     # With the scheduler none the first switch would be refused.
-    Workload("all kinds of steps", "bfq", ONE_ATTACH, all_steps_cycle, 23, 3, None, None, False),
-    Workload("reads of an image", "none", ONE_ATTACH, image_read_cycle, 4, BLOCK_SECTORS, None, None, True),
+    Workload("all kinds of steps", "bfq", ONE_ATTACH, all_steps_cycle, 23, 3, None, None, False, [], False),
+    Workload("reads of an image", "none", ONE_ATTACH, image_read_cycle, 4, BLOCK_SECTORS, None, None, True, [], False),
+    Workload("stores over stored sectors", "none", list(all_stored()), store_again_cycle, 4, RUN_SECTORS, None, None, False,
+             ["--sectors", str(STORED_SECTORS)], True),
 ]
 
 
@@ -294,7 +330,7 @@ def check(program, words, path, wanted):
 class Rounds:
     """What each run took in each round."""
 
-    def __init__(self, runs, has_image):
+    def __init__(self, runs, has_image, more_words):
         self.seconds = {name: [] for name in runs}
         self.peaks = {name: [] for name in runs}
         self.copied = []
@@ -304,7 +340,7 @@ class Rounds:
             if has_image:
                 with open(image, "wb") as file:
                     file.writelines(image_bytes())
-            words = {name: [*WORDS, scheduler, *over] for name, (_, scheduler, _) in runs.items()}
+            words = {name: [*WORDS, scheduler, *more_words, *over] for name, (_, scheduler, _) in runs.items()}
             for name, (program, _, pairs) in runs.items():
                 path = os.path.join(folder, name)
                 with open(path, "w") as script:
@@ -349,15 +385,29 @@ def compare(rounds, opening, many):
     return show("time per call against the other build", f"{ratio:.3f}", f"at most {bound:.3f}", ratio <= bound)
 
 
+def show_first_pass(rounds, calls, against):
+    """Prints what a call of the opening takes, by this build and by the other one."""
+    size = (rounds.peak("empty") - rounds.peak("nothing")) * 1024 / calls
+    other = ""
+    if against is not None:
+        other = f", {rounds.per_call('empty, against', calls, 'nothing, against') * 1e6:6.3f} us by the other build"
+    print(f"{calls:>7,} calls of the first pass: {rounds.per_call('empty', calls, 'nothing') * 1e6:6.3f} us and {size:6.0f} bytes "
+          f"per call{other}")
+
+
 def run(workload, against):
     """Measures one workload and prints its figures. Gives whether each bound is kept."""
     few, many, back = workload.whole(FEW), workload.whole(MANY), workload.whole(BACK)
-    opening = len(workload.opening)
+    # A first pass is taken off with the process, so it is none of the calls either.
+    opening = 0 if workload.has_first_pass else len(workload.opening)
     payload = workload.payload_sectors * SECTOR_BYTES / workload.calls
-    rounds = Rounds(workload.runs(against), workload.has_image)
+    rounds = Rounds(workload.runs(against), workload.has_image, workload.more_words)
 
-    start = statistics.median(rounds.seconds["empty"])
-    print(f"{workload.name}: medians of {RUNS} runs; start of the process: {start * 1e3:.2f} ms, {rounds.peak('empty'):.0f} KiB")
+    alone = "nothing" if workload.has_first_pass else "empty"
+    start = statistics.median(rounds.seconds[alone])
+    print(f"{workload.name}: medians of {RUNS} runs; start of the process: {start * 1e3:.2f} ms, {rounds.peak(alone):.0f} KiB")
+    if workload.has_first_pass:
+        show_first_pass(rounds, len(workload.opening), against)
     for name, calls in (("few", few), ("many", many)):
         size = rounds.bytes_per_call(name, opening + calls)
         print(f"{calls:>7,} calls: {rounds.per_call(name, opening + calls) * 1e6:6.3f} us and {size:6.0f} bytes per call, "
