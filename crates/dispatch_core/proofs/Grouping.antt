@@ -1,12 +1,12 @@
 -- Groups: what the steps of groups make of the tables, and what the plain steps say where the code has made its tests.
-use Rattle.std.proofs.Common.{◌≡◌, ◌≢◌, inl, inr, ℕ, zero, suc, ◌+◌, ◌<◌, ◌≤◌, ◌==◌, List, [], ◌∷◌, Option, None, Some, Bool, true, false, cond, not, is_some, nat_le, unwrap_or, get_or, set, refl, sym, ap, ◌∙◌, subst, arith, length-set}
+use Rattle.std.proofs.Common.{◌≡◌, ◌≢◌, inl, inr, ℕ, zero, suc, ◌+◌, ◌<◌, ◌≤◌, ◌==◌, List, [], ◌∷◌, length, Option, None, Some, MatchOption, Bool, true, false, cond, not, is_some, nat_le, unwrap_or, get_or, set, refl, sym, ap, ◌∙◌, subst, arith, length-set}
 use Rattle.std.specs.Prelude.{slice_get}
 use Rattle.std.specs.List.{find}
-use Rattle.std.proofs.lemmas.Bool.{cases_eq, eq-eqb}
+use Rattle.std.proofs.lemmas.Bool.{cases_eq, eq-eqb, ne_eqb}
 use Rattle.std.proofs.lemmas.Bool.Decides.{nat_tests}
 use Rattle.std.proofs.lemmas.Option.{same_Some}
 use Rattle.soft_queue.specs.Turn.{numbers}
-use Rattle.group_tree.specs.Groups.{depth, entity_of, most_levels}
+use Rattle.group_tree.specs.Groups.{depth, entity_of, most_levels, parent}
 use Rattle.service_tree.specs.declared.member.Member.{Member}
 use Rattle.service_tree.specs.declared.member.State.TheVariants.{Idle}
 use Rattle.change_record.specs.declared.change.Change.TheVariants.{TreeMember, Vtime, GroupEntry, Pending}
@@ -62,6 +62,24 @@ used_by b group entity within e = sym (found_some (λ k. is_in group (b.parent k
 
 pub used_none : (b : Bfq) (group : ℕ) → ((j : ℕ) → j < 48 → is_in group (b.parent j) ≡ false) → false ≡ is_used b group
 used_none b group none = sym (ap is_some (find_none (λ k. is_in group (b.parent k)) 0 48 (λ j _ c. none j (omega (arith, c)))))
+
+-- a list has something at its places alone
+place_in : (xs : List (Option ℕ)) (i a : ℕ) → get_or xs i None ≡ Some a → i < length xs
+place_in [] i a e = cc
+place_in (x ∷ xs) zero a e = omega arith
+place_in (x ∷ xs) (suc i) a e = let h = place_in xs i a e in omega (arith, h)
+
+not_in : (group : ℕ) (o : Option ℕ) → o ≢ Some group → is_in group o ≡ false
+not_in group None other = refl
+not_in group (Some parent) other = ne_eqb parent group (λ (same : parent ≡ group). other (ap (λ (g : ℕ). let o : Option ℕ = Some g in o) same))
+
+-- a group is used if it has a first child
+pub used_child : (t : Tables) (group : ℕ) (child : Option ℕ) → length t.parents ≡ 48
+    → MatchOption child ((e : ℕ) → parent t.parents e ≢ Some group) (λ e. parent t.parents e ≡ Some group) → is_some child ≡ is_used (bfq_of t) group
+used_child t group None size none = used_none (bfq_of t) group (λ j _. not_in group (parent t.parents j) (none j))
+used_child t group (Some e) size there =
+    let within = place_in t.parents e group there in
+    used_by (bfq_of t) group e (omega (arith, within, size)) (is_in-same group group (parent t.parents e) there refl)
 
 not_zero : (a : ℕ) → a ≢ 0 → (a == 0) ≡ false
 not_zero a h = grind (arith, nat_tests)

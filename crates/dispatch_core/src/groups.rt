@@ -166,16 +166,11 @@ fn free_group(parts: &Parts) -> Option<u8>
     None
 }
 
-// Whether an entity is in a group.
+// Whether an entity is in a group that there can be.
 fn is_used(parts: &Parts, group: u8) -> bool
+    requires places { length parts.now.tables.parents ≡ 48 }
+    requires below { group < 32 }
     ensures { result ≡ is_used (bfq_of parts.now.tables) group }
 {
-    for entity in 0..48u8 {
-        if let Some(parent) = parts.groups().parent(entity) {
-            if parent == group {
-                return true;
-            }
-        }
-    }
-    false
+    parts.groups().first_child(group).is_some()
 }

@@ -1,10 +1,10 @@
-use Rattle.std.proofs.Common.{◌≡◌, Some, arith, rules}
-use Rattle.change_record.specs.Machine.{bfq_of}
-use Rattle.dispatch_core.proofs.Grouping.{used_by, is_in-same}
+use Rattle.std.proofs.Common.{◌≡◌, ◌≢◌, ℕ, List, Option, Some, MatchOption, subst, ◌∙◌}
+use Rattle.group_tree.specs.Groups.{parent}
+use Rattle.dispatch_core.proofs.Grouping.{used_child}
 use Rattle.dispatch_core.proofs.groups.is_used.Goals as goal
 
-pub returns-then-parent-group : goal.returns-then-parent-group
-returns-then-parent-group c =
-    let b = bfq_of c.args.parts.now.tables in
-    let there : b.parent c.loop-entity.entity ≡ Some c.in-Some.parent = search rules in
-    used_by b c.args.group c.loop-entity.entity (omega (arith, c.loop-entity-test.true)) (is_in-same c.args.group c.in-Some.parent _ there c.if-parent-group.true)
+pub returns : goal.returns
+returns c =
+    c.is_some.ensures
+    ∙ used_child c.args.parts.now.tables c.args.group c.first_child.result c.requires.places
+    (subst (λ (ps : List (Option ℕ)). MatchOption c.first_child.result ((e : ℕ) → parent ps e ≢ Some c.args.group) (λ e. parent ps e ≡ Some c.args.group)) c.groups.ensures c.first_child.ensures)
