@@ -11,6 +11,7 @@
 //! | `pool` | `request_pool` | requests and bios in their slots |
 //! | `tags` | `tag_set` | tags that are borne and let go |
 //! | `queues` | `process_queue` | the order of queues, merges and the next request |
+//! | `listed` | `process_queue`, `group_tree` | after each of a thousand acts the queues beside plain ones, and the children of groups |
 //! | `turns` | `soft_queue` | the seat whose turn it is |
 //! | `trees`, `compared` | `service_tree` | picks, changes and sums by hand, and the tree's answers beside the plain ones |
 //! | `groups` | `group_tree` | paths and depths |
@@ -30,6 +31,8 @@ mod groups;
 mod host;
 #[cfg(test)]
 mod images;
+#[cfg(test)]
+mod listed;
 #[cfg(test)]
 mod pool;
 #[cfg(test)]
