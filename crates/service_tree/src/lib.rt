@@ -19,6 +19,9 @@
 //!
 //! It knows nothing of groups: whose members these are, and what follows a pick, is the business of its owner.
 //! Its contracts see the virtual time and a list of 48 places, one for each entity number.
+//!
+//! Inside, the active members stand in a balanced tree by start and the idle ones in one by finish, over one table of rows. A
+//! question is a walk down one of them, and an exchange takes the old member out and puts the new one in. No call takes memory.
 
 ghost use Rattle.std.specs.Prelude.{◌≡◌, None, Some, MatchOption, length, replicate, slice_index_or, slice_set};
 ghost use Rattle.service_tree.specs.Members.{IsLeastStart, IsPicked, NoneActive, NoneEligible, WeighsAtMost, least_start, pick, weight_sum};
@@ -56,6 +59,7 @@ impl Model for ServiceTree {
 
     ghost view = { λ t. record { vtime = t.vtime; members = t.members } };
 
+    // each member stands in the tree that its state asks for, and in no other; those in service are added up
     ghost invariant = { λ t. IsService t.members t.orders t.serving };
 }
 
