@@ -49,17 +49,22 @@ fn put_reply(out: &mut Vec<u8>, reply: &RingReply) -> Result<(), AllocError> {
 
 // Whom a turn answered, or that the core has ended; and whether it dispatched.
 fn tell(out: &mut Vec<u8>, report: TurnReport) -> Result<(), AllocError> {
-    let whom: &[u8] = match report.answered {
-        _ if report.ended => b"ended",
-        None => b"nobody",
-        Some(SeatName::Client(_)) => b"client",
-        Some(SeatName::Device(_)) => b"device",
-        Some(SeatName::Operator) => b"operator",
-        Some(SeatName::Core) => b"core",
-    };
-    out.extend_from_slice(whom)?;
+    out.extend_from_slice(whom(report).as_bytes())?;
     if report.dispatched {
         out.extend_from_slice(b" dispatched")?;
     }
     Ok(())
+}
+
+fn whom(report: TurnReport) -> &'static str {
+    if report.ended {
+        return "ended";
+    }
+    match report.answered {
+        None => "nobody",
+        Some(SeatName::Client(_)) => "client",
+        Some(SeatName::Device(_)) => "device",
+        Some(SeatName::Operator) => "operator",
+        Some(SeatName::Core) => "core",
+    }
 }
