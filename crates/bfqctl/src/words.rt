@@ -24,8 +24,7 @@ fn bfqctl<'a>(alloc: Global) -> Result<Command<'a>, Error> {
     let socket = Arg::new(alloc, "socket")
         .long("socket")
         .required(true)
-        .action(ArgAction::Set)
-        .num_args(1);
+        .action(ArgAction::Set);
     let call = Arg::new(alloc, "call")
         .required(true)
         .num_args(1..)

@@ -2,12 +2,9 @@
 use clap::{Arg, ArgAction, Command, Error};
 use std::alloc::Global;
 
-// An option that is given at most once, with exactly one value.
+// An option that is given at most once, with exactly one value: without a number of values `Set` takes one.
 fn option<'a>(alloc: Global, name: &'a str) -> Arg<'a> {
-    Arg::new(alloc, name)
-        .long(name)
-        .action(ArgAction::Set)
-        .num_args(1)
+    Arg::new(alloc, name).long(name).action(ArgAction::Set)
 }
 
 // A subcommand with the options of a configuration.

@@ -1,5 +1,5 @@
 -- Pages, seen as a finite map from sectors to blocks.
-use Rattle.std.proofs.Common.{◌≡◌, ℕ, zero, suc, ◌+◌, ◌*◌, ◌/◌, ◌%◌, ◌<◌, ◌≤◌, List, [], ◌∷◌, Bool, true, false, ◌&&◌, ◌==◌, nat_le, nat_lt, Option, Some, None, cond, refl, ap, sym, ◌∙◌, arith, get_or, ◌-◌}
+use Rattle.std.proofs.Common.{◌≡◌, ℕ, zero, suc, ◌+◌, ◌*◌, ◌/◌, ◌%◌, ◌<◌, ◌≤◌, List, [], ◌∷◌, Bool, true, false, is_some, ◌&&◌, ◌==◌, nat_le, nat_lt, Option, Some, None, cond, refl, ap, sym, ◌∙◌, arith, get_or, ◌-◌}
 use Rattle.std.specs.Option.{option_map_or}
 use Rattle.std.specs.Ordering.{nat_cmp, is_eq}
 use Rattle.std.specs.Cmp.{nat_cmp_total}
@@ -9,7 +9,7 @@ use Rattle.std.specs.FinMap as map
 use Rattle.std.specs.FinMap.{gets}
 use Rattle.std.proofs.lemmas.Bool.Decides.{nat_tests}
 use Rattle.overlay.specs.Blocks.{Blocks, exchanged}
-use Rattle.overlay.specs.Pages.{Pages, Places, Puts, blocks_of, stands, with_places}
+use Rattle.overlay.specs.Pages.{Pages, Places, Puts, blocks_of, has_page, stands, with_places}
 
 pub same_test : (a b : ℕ) → is_eq (nat_cmp a b) ≡ (a == b)
 same_test a b = grind (arith, nat_tests)
@@ -80,3 +80,12 @@ pub in_page : (es : Pages) (m : Blocks) (number : ℕ) (o : Option Places) → b
     → (q : ℕ) → q / 8 ≡ number → map.get m q ≡ option_map_or (λ p. get_or p (q % 8) None) o None
 in_page es m number o is found q here = shown es m is q
     ∙ ap (λ n. stands es n (q % 8)) here ∙ ap (λ p. option_map_or (λ p. get_or p (q % 8) None) p None) (sym found)
+
+-- no sector of a page that is not there has a block
+none_there : (f : Places → Option (List ℕ)) (o : Option Places) → is_some o ≡ false → option_map_or f o None ≡ None
+none_there f None none = refl
+none_there f (Some p) none = cc
+
+pub absent : (es : Pages) (m : Blocks) (number : ℕ) → blocks_of es ≡ m → has_page es number ≡ false → (q : ℕ) → q / 8 ≡ number → map.get m q ≡ None
+absent es m number is none q here = in_page es m number (lookup (is_at (nat_cmp number)) es) is refl q here
+    ∙ none_there (λ p. get_or p (q % 8) None) (lookup (is_at (nat_cmp number)) es) none

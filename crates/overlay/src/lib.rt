@@ -15,7 +15,7 @@ mod page;
 mod pages;
 mod runs;
 
-ghost use Rattle.std.specs.Prelude.{◌≡◌, List, ℕ, OnErr, OnOk, IfOk, IfErr, IsNone, IsSome, IsOk, None, Some};
+ghost use Rattle.std.specs.Prelude.{◌≡◌, ◌/◌, List, ℕ, OnErr, OnOk, IfOk, IfErr, IsNone, IsSome, IsOk, None, Some};
 ghost use Rattle.std.specs.Option.{option_copied};
 ghost use Rattle.std.specs.FinMap as map;
 ghost use Rattle.overlay.specs.Blocks.{Blocks, exchanged};
@@ -79,6 +79,8 @@ impl Overlay {
         ensures handed_back { IfErr result (λ back. back.0 ≡ block) }
         // memory is taken only where a block is added
         ensures adds { OnErr result ((map.get self.old sector ≡ None) × IsSome block) }
+        // and only if none of the eight sectors of its page has one
+        ensures absent { OnErr result ((other : ℕ) → other / 8 ≡ sector / 8 → map.get self.old other ≡ None) }
     {
         let number = sector / PAGE;
         let at = (sector % PAGE) as usize;

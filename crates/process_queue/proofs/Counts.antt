@@ -1,5 +1,5 @@
 -- How many slots are linked.
-use Rattle.std.proofs.Common.{◌≡◌, ℕ, zero, suc, ◌+◌, ◌<◌, ◌≤◌, List, [], ◌∷◌, length, map, get_or, set, Option, Some, None, refl, ap, arith}
+use Rattle.std.proofs.Common.{◌≡◌, ℕ, zero, suc, ◌+◌, ◌<◌, ◌≤◌, List, [], ◌∷◌, length, map, get_or, set, Option, Some, None, IsSome, refl, ap, arith}
 use Rattle.process_queue.specs.declared.Link.{Link}
 use Rattle.process_queue.specs.Queue.{placed, queue_slots}
 use Rattle.process_queue.specs.Links.{linked_in}
@@ -33,6 +33,12 @@ placed-none (Some l ∷ links) seat base none = absurd (omega arith)
 
 pub queue-none : (links : List (Option Link)) (seat : ℕ) → linked_in links ≡ 0 → queue_slots seat links ≡ []
 queue-none links seat none = ap (map (λ (e : ℕ × ℕ). e.1)) (placed-none links seat 0 none)
+
+-- where some are linked there is one of them
+pub linked-some : (links : List (Option Link)) → 0 < linked_in links → (slot : ℕ) × IsSome (get_or links slot None)
+linked-some [] some = absurd (omega arith)
+linked-some (None ∷ links) some = let h = linked-some links some in (suc h.0, h.1)
+linked-some (Some l ∷ links) some = (0, refl)
 
 pub linked-fresh : (links : List (Option Link)) → ((i : ℕ) → get_or links i None ≡ None) → linked_in links ≡ 0
 linked-fresh [] free = refl

@@ -7,7 +7,7 @@ use Rattle.soft_queue.proofs.pick.Goals as goal
 use Rattle.soft_queue.proofs.pick.Goals.{then-last_seat-lt16, else-last_seat-lt16}
 
 pub returns-then-are_empty : goal.returns-then-are_empty
-returns-then-are_empty c = none_next c.args.last_seat c.args.queues.now (c.are_empty.ensures (search rules))
+returns-then-are_empty c = none_next c.args.last_seat c.args.queues.now (c.are_empty.ensures.none (search rules))
 
 pub returns-in-Some : goal.returns-in-Some
 returns-in-Some c =

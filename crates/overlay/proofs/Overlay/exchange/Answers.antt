@@ -1,6 +1,6 @@
 use Rattle.std.proofs.Common.{None, Some, rules, sym, ◌∙◌, ap}
 use Rattle.overlay.specs.Blocks.{exchanged}
-use Rattle.overlay.proofs.Seen.{shown, puts_seen}
+use Rattle.overlay.proofs.Seen.{absent, shown, puts_seen}
 use Rattle.overlay.proofs.Overlay.exchange.Goals as goal
 
 pub returns-in-None-clause-ok : goal.returns-in-None-clause-ok
@@ -24,3 +24,6 @@ returns-in-Err-clause-adds c = (
   shown _ _ c.self.view_is c.args.sector ∙ c.in-Err.ensures.adds,
   search rules,
 )
+
+pub returns-in-Err-clause-absent : goal.returns-in-Err-clause-absent
+returns-in-Err-clause-absent c = absent _ _ _ c.self.view_is c.in-Err.ensures.absent
