@@ -108,7 +108,7 @@ impl Page {
         requires { from < 8 }
         ensures within { (result ≤ most) × (from + result ≤ 8) }
         ensures stored { (k : ℕ) → k < result → IsSome (slice_index_or self.now (from + k) None) }
-        ensures ends { result ≡ 0 → 0 < most → slice_index_or self.now from None ≡ None }
+        ensures ends { result < most → from + result < 8 → slice_index_or self.now (from + result) None ≡ None }
     {
         let most = most.min(8 - from as u32);
         for count in 0..most {

@@ -1,5 +1,5 @@
 // Runs of stored sectors.
-ghost use Rattle.std.specs.Prelude.{◌≡◌, ◌+◌, ◌*◌, ◌/◌, ◌<◌, ◌≤◌, ◌^◌, ℕ, IfSome};
+ghost use Rattle.std.specs.Prelude.{◌≡◌, ◌+◌, ◌*◌, ◌/◌, ◌%◌, ◌<◌, ◌≤◌, ◌^◌, ℕ, IfSome};
 ghost use Rattle.overlay.specs.Runs.{IsStored, IsFree, IsNextStored, IsRun, IsNextRun};
 
 use crate::Overlay;
@@ -77,7 +77,7 @@ impl Overlay {
     fn count_in_page(&self, from: u64, most: u32) -> u32
         ensures within { result ≤ most }
         ensures stored { (k : ℕ) → k < result → IsStored self.now (from + k) }
-        ensures ends { result ≡ 0 → 0 < most → IsFree self.now from }
+        ensures ends { result < most → from % 8 + result < 8 → IsFree self.now (from + result) }
     {
         match self.pages.get(&(from / PAGE)) {
             Some(page) => page.count_from((from % PAGE) as usize, most),

@@ -11,8 +11,11 @@ returns-in-Some-clause-stored c = λ k below.
     ∙ c.count_from.ensures.stored k below
 
 pub returns-in-Some-clause-ends : goal.returns-in-Some-clause-ends
-returns-in-Some-clause-ends c = λ none most.
-    in_page _ _ _ _ c.self.view_is c.in-Some.ensures.value c.args.from refl ∙ c.count_from.ensures.ends none most
+returns-in-Some-clause-ends c = λ fewer inside.
+    let page : (c.args.from + c.count_from.result) / 8 ≡ c.args.from / 8 = omega (arith, inside) in
+    let place : (c.args.from + c.count_from.result) % 8 ≡ c.args.from % 8 + c.count_from.result = omega (arith, inside) in
+    in_page _ _ _ _ c.self.view_is c.in-Some.ensures.value (c.args.from + c.count_from.result) page
+    ∙ ap (λ j. get_or c.in-Some.page.now j None) place ∙ c.count_from.ensures.ends fewer inside
 
 pub returns-in-None-clause-ends : goal.returns-in-None-clause-ends
-returns-in-None-clause-ends c = λ _ _. in_page _ _ _ _ c.self.view_is c.in-None.ensures.value c.args.from refl
+returns-in-None-clause-ends c = λ _ _. in_page _ _ _ _ c.self.view_is c.in-None.ensures.value (c.args.from + 0) (omega arith)
