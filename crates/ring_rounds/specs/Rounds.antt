@@ -1,10 +1,21 @@
 -- Four clients and the operator that work in threads of their own.
+use Rattle.std.specs.Prelude.{◌≡◌, ℕ, List, Some, slice_get}
+use Rattle.host_calls.specs.declared.client.ClientCall.{ClientCall}
 use Rattle.seats.specs.Seats.{SameSeat}
+use Rattle.seats.specs.declared.rules.ClientReplies.{ClientReplies}
+use Rattle.seats.specs.declared.seat.Seat.{Seat}
 use Rattle.host_rings.specs.Opening.{IsIdle}
 use Rattle.host_rings.specs.Settling.{IsCallerOf, IsOperatorOf}
 use Rattle.host_rings.specs.declared.turns.Core.{Core}
 use Rattle.ring_rounds.specs.declared.rounds.Fresh.{Fresh}
 use Rattle.ring_rounds.specs.declared.rounds.Done.{Done}
+
+-- a seat of this core's host to which nothing has come, and every seat of these
+abbrev pub IsFreshOf : Core → Seat ClientCall ClientReplies → Type 0
+IsFreshOf core s = IsIdle s × IsCallerOf core s
+
+abbrev pub AreFreshOf : Core → List (Seat ClientCall ClientReplies) → Type 0
+AreFreshOf core seats = (i : ℕ) (s : _) → slice_get seats i ≡ Some s → IsFreshOf core s
 
 -- nothing has come to them
 abbrev pub AreFresh : Fresh → Type 0

@@ -3,9 +3,8 @@ ghost use Rattle.std.specs.Prelude.{IfSome};
 ghost use Rattle.std.specs.Thread.{IsSync};
 ghost use Rattle.seats.specs.Seats.{SameSeat};
 ghost use Rattle.host_rings.specs.Cores.{SameSeats};
-ghost use Rattle.host_rings.specs.Opening.{IsIdle, AreIdle};
-ghost use Rattle.host_rings.specs.Settling.{AreCallersOf, IsCallerOf};
-ghost use Rattle.ring_rounds.specs.Rounds.{AreFresh, AreSame};
+ghost use Rattle.host_rings.specs.Opening.{IsIdle};
+ghost use Rattle.ring_rounds.specs.Rounds.{AreFresh, AreFreshOf, AreSame, IsFreshOf};
 
 use crate::opening::opened;
 use crate::settling::settle_all;
@@ -179,12 +178,9 @@ fn work<R: Threads + Sync + Wait>(rt: &R, alloc: Global, core: Core, seats: Fres
 
 // A seat to which nothing has come, the last of these.
 fn last_of(core: &Core, callers: &mut Vec<Caller>) -> Option<Caller>
-    requires idle { AreIdle callers.old.items }
-    requires seats { AreCallersOf core.now callers.old.items }
-    ensures idle { AreIdle callers.new.items }
-    ensures seats { AreCallersOf core.now callers.new.items }
-    ensures is_idle { IfSome result (λ s. IsIdle s) }
-    ensures is_seat { IfSome result (λ s. IsCallerOf core.now s) }
+    requires { AreFreshOf core.now callers.old.items }
+    ensures rest { AreFreshOf core.now callers.new.items }
+    ensures seat { IfSome result (λ s. IsFreshOf core.now s) }
 {
     callers.pop()
 }
