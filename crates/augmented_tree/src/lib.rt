@@ -3,8 +3,8 @@
 //!
 //! | call | rule that it meets |
 //! |---|---|
-//! | [`insert_at`] | a member goes in by key and number, and the sides stay balanced |
-//! | [`remove_at`] | a member goes out, and the sides stay balanced |
+//! | [`insert_at`] | a member goes in by key and number, with the turns that the sides then need |
+//! | [`remove_at`] | a member goes out, likewise |
 //! | [`pick_at`] | of the members with a key up to a limit the first turn: the least finish, on a tie the lower number |
 //! | [`first_key_at`] | the least key |
 //! | [`sum_above_at`] | the sum of the weights of the members with a key above a limit |

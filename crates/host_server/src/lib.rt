@@ -1,12 +1,15 @@
 #![tactic(auto)]
 //! A host that serves its clients and its operator over sockets.
 //!
-//! | call | rule that it meets |
+//! | call | what it does |
 //! |---|---|
 //! | [`run_server`] | it ends once the operator has stopped the host; if a socket, a thread or memory is wanting, it says which |
 //! | [`open_doors`], [`remove_all`] | the sockets of a folder, each with a note of its file, and their end |
 //! | [`start_client`] | a thread that serves one path at one seat |
-//! | [`serve_operator`] | each call of the operator is asked at his seat, and each of his calls is answered before the next is read |
+//! | [`serve_operator`] | each call of the operator is asked at his seat, and is answered before the next is asked |
+//!
+//! There is no contract but that a seat can go on: no clause can name what a socket or a thread does. The calls that it puts together have
+//! theirs.
 //!
 //! Each path has a thread, which owns a seat and meets one connection after the other. The core has a thread, and so has each device.
 //! Between them stand the rings of the seats alone.
