@@ -111,6 +111,11 @@ class Talk:
         for reply in wanted:
             same("a reply", self.reply().hex(), reply.replace(" ", ""))
 
+    def waits(self, seconds=0.2):
+        """Nothing may come for so long: what was sent waits."""
+        if select.select([self.socket], [], [], seconds)[0]:
+            raise Wrong(f"an answer to what is to wait: {self.reply().hex()}")
+
     def ends(self):
         """The peer must end, and send nothing before."""
         same("the end of a connection", self.take(1), b"")

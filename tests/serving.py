@@ -5,18 +5,21 @@ Each run has a folder of its own. The expected frames, texts and statuses come f
 """
 
 import os
+import re
 import resource
 import shutil
 import signal
 import socket
 import stat
 import subprocess
+import sys
 import tempfile
 import time
 
 from served import (ATTACH, CLOSED, DONE, FREEZE, FULL, HOLD, LEAVE, LEFT, NOT_HELD, RELEASE, SECONDS, STOP, TAKEN, THAW, Served, Talk, Wrong,
                     attached, fetch, image_of, moved, queued, read, reap, redo, same, sector_of, store, undo, written)
 
+CLIENT = os.path.join(os.path.dirname(os.path.dirname(os.path.abspath(__file__))), "clients", "bfqclient.py")
 REFUSED = b"words: refused\n"
 NO_IMAGE = b"image: cannot be read\n"
 NO_SOCKET = b"socket: failed\n"
@@ -246,6 +249,50 @@ def seats_of_their_paths(host):
     host.stop()
 
 
+def peer_that_goes_while_its_call_waits(host):
+    """Its path meets nobody until the call is answered; then the session is left, and the next connection can attach."""
+    with host.operator() as operator:
+        operator.asks((HOLD, moved(0, 0)))
+        with host.talk(0) as gone:
+            gone.send(ATTACH)
+        with host.talk(0) as after:
+            after.send(ATTACH)
+            after.waits()
+            operator.asks((RELEASE, DONE))
+            # The Attach of who has gone took serial 1, and the Leave at the end of that connection 2.
+            after.hears(attached(3))
+            operator.asks((FREEZE, DONE))
+            after.send(fetch(3, 5, 1))
+        with host.talk(0) as last:
+            last.send(ATTACH)
+            last.waits()
+            operator.asks((THAW, DONE))
+            # The read is sent to the device, and the seat is taken till it is finished.
+            until = time.monotonic() + SECONDS
+            while (heard := last.reply().hex()) == TAKEN.replace(" ", "") and time.monotonic() < until:
+                time.sleep(0.01)
+                last.send(ATTACH)
+            # Freeze, Thaw, the read's Submit, its Dispatch, the Leave and its Finish took 4 to 9.
+            same("the next session", heard, attached(10).replace(" ", ""))
+    host.stop()
+
+
+def loaded_by_the_client(host):
+    """The client's own command loads a host, with reads and writes, and tells how many were done and how long they took."""
+    words = [sys.executable, CLIENT, host.path("client0"), "load", "--depth", "4", "--seconds", "0.5", "--sectors", "64", "--writes", "50"]
+    ended = subprocess.run(words, stdin=subprocess.DEVNULL, capture_output=True, timeout=SECONDS, check=False, text=True)
+    same("standard error and status", (ended.stderr, ended.returncode), ("", 0))
+    told = re.fullmatch(r"([1-9]\d*) done in \d+\.\d s: \d+ a second, half within \d+ us, 99 of 100 within \d+ us\n", ended.stdout)
+    same("what is told of the load", told is not None, True)
+    count = int(told[1])
+    with host.operator() as operator:
+        operator.send(HOLD)
+        steps = int.from_bytes(operator.reply()[1:5], "big")
+    # Attach, Leave, and for each a submit and a reap; those that joined in one request have one dispatch and one finish.
+    same(f"whether {steps} steps are those of {count}", 2 * count + 2 < steps <= 4 * count + 2, True)
+    host.stop()
+
+
 def restarted(program, image, folder):
     """Whoever hears that the host has ended may start another in the same folder."""
     for _ in range(20):
@@ -268,8 +315,8 @@ def owner_alone(host):
 
 
 # What is done with a host of four clients and two workers.
-DONE_WITH = [two_clients, stepped, bad_frames, peer_that_never_reads, second_connection, bad_frame_while_held, stopped_with_clients, seats_of_their_paths,
-             owner_alone]
+DONE_WITH = [two_clients, stepped, bad_frames, peer_that_never_reads, peer_that_goes_while_its_call_waits, second_connection,
+             bad_frame_while_held, stopped_with_clients, seats_of_their_paths, loaded_by_the_client, owner_alone]
 
 
 def history_nearly_full(program, image, folder):
