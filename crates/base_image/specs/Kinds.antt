@@ -1,5 +1,5 @@
 -- The images that this crate has, as their contracts speak of them.
-use Rattle.std.specs.Prelude.{◌≡◌, ℕ, ◌-◌, List, length, min, Option, None, Some, Result, Ok}
+use Rattle.std.specs.Prelude.{◌≡◌, ℕ, ◌-◌, ◌<◌, List, length, min, Option, None, Some, Result, Ok, slice_get}
 use Rattle.std.specs.declared.io.ErrorKind.{ErrorKind}
 use Rattle.std.specs.declared.io.ErrorKind.TheVariants.{Interrupted, WouldBlock}
 use Rattle.base_image.specs.declared.image.ImageFault.{ImageFault}
@@ -39,3 +39,11 @@ abbrev pub fault_of : ErrorKind → ImageFault
 fault_of Interrupted = Busy
 fault_of WouldBlock = Busy
 fault_of _ = Device
+
+-- the first so many images tell as many sectors as the first; and so do all (our profile)
+abbrev pub AreAlikeUpto : ℕ → List Disk → Type 0
+AreAlikeUpto n images =
+    (i : ℕ) (x y : Disk) → i < n → slice_get images 0 ≡ Some x → slice_get images i ≡ Some y → y.sectors ≡ x.sectors
+
+abbrev pub AreAlike : List Disk → Type 0
+AreAlike images = (i : ℕ) (x y : Disk) → slice_get images 0 ≡ Some x → slice_get images i ≡ Some y → y.sectors ≡ x.sectors

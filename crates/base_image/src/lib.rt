@@ -7,16 +7,20 @@
 //! | `MemoryImage` | tells the bytes that it was given, and so many sectors as it was told |
 //! | `ZeroImage` | so many sectors of zeros, without their memory |
 //! | `FileImage` | reads a file; of its bytes no contract can speak |
+//! | `file_image`, `file_images` | the image in a file, opened once or by each of so many workers |
+//! | `are_alike` | whether images tell as many sectors as the first |
 //! | `FailingImage` | another image, of which the read with one number fails, and no other |
 
 mod failing;
 mod file;
+mod files;
 mod image;
 mod memory;
 mod zero;
 
 pub use failing::FailingImage;
 pub use file::FileImage;
+pub use files::{are_alike, file_image, file_images};
 pub use image::{Image, ImageFault};
 pub use memory::MemoryImage;
 pub use zero::ZeroImage;

@@ -1,6 +1,5 @@
 -- The exit status of a server.
-use Rattle.std.specs.Prelude.{◌≡◌, ℕ, ◌<◌, List, Some, IsSome, slice_get, ◌⊎◌}
-use Rattle.base_image.specs.Image.{Disk}
+use Rattle.std.specs.Prelude.{◌≡◌, ℕ, ◌<◌, IsSome, ◌⊎◌}
 use Rattle.sector_core.specs.Config.{fault_of}
 use Rattle.sector_core.specs.declared.config.ConfigDraft.{ConfigDraft}
 use Rattle.host_server.specs.declared.server.ServeEnd.{ServeEnd}
@@ -24,11 +23,3 @@ IsEndStatus status = (status ≡ 6) ⊎ ((end : ServeEnd) × (status ≡ serve_s
 -- a server is refused for a field, or its status is that of its image or of its end (our profile)
 abbrev pub IsServeStatus : ConfigDraft → ℕ → ℕ → ℕ → Type 0
 IsServeStatus draft clients workers status = (IsRefusedServe draft clients workers → status ≡ 6) × IsEndStatus status
-
--- the first so many images tell as many sectors as the first; and so do all (our profile)
-abbrev pub AreAlikeUpto : ℕ → List Disk → Type 0
-AreAlikeUpto n images =
-    (i : ℕ) (x y : Disk) → i < n → slice_get images 0 ≡ Some x → slice_get images i ≡ Some y → y.sectors ≡ x.sectors
-
-abbrev pub AreAlike : List Disk → Type 0
-AreAlike images = (i : ℕ) (x y : Disk) → slice_get images 0 ≡ Some x → slice_get images i ≡ Some y → y.sectors ≡ x.sectors

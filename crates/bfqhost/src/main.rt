@@ -23,7 +23,6 @@
 
 mod faults;
 mod host;
-mod images;
 mod script;
 mod serving;
 mod start;

@@ -32,9 +32,13 @@ pub fn run_script<R: Read, W: Write, I: Image + Drop>(
         Ok(keeper) => keeper,
         Err(_) => return ScriptEnd::OutOfMemory,
     };
-    let mut teller = Teller {
+    let teller = Teller {
         keeper: Host { keeper },
         image,
     };
-    run_keeper(alloc, reader, writer, &mut teller)
+    let Ok(teller) = Box::new(alloc, teller) else {
+        return ScriptEnd::OutOfMemory;
+    };
+    // The process ends after the run. To give back what the history keeps, block by block, would take a part of its time.
+    run_keeper(alloc, reader, writer, Box::leak(teller))
 }

@@ -4,7 +4,7 @@ ghost use Rattle.sector_core.specs.Config.{fault_of};
 ghost use Rattle.bfqhost.specs.Serving.{IsServeStatus, IsEndStatus, serve_status_of};
 
 use crate::faults::{DONE, bad_field, no_image, no_memory, no_socket};
-use crate::images::file_images;
+use base_image::file_images;
 use host_server::{ServeEnd, ServeOptions, run_server};
 use sector_core::{Config, ConfigDraft, ConfigFault};
 use std::fs::File;

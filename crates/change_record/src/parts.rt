@@ -21,7 +21,6 @@ use tag_set::TagSet;
 
 /// The overlay, the pool, the tags, the queues, the dispatch list, the outboxes, the seats, the mode of the host, and what BFQ knows
 /// of entities and groups.
-#[derive(Drop)]
 pub struct Parts {
     overlay: Overlay,
     pool: RequestPool,
@@ -40,6 +39,31 @@ pub struct Parts {
     slot: Option<InService>,
     scheduler: Scheduler,
     turns: u64,
+}
+
+// Written out, and not derived: so who drops one, in whatever crate, calls this, and proves no drop of each part anew.
+impl Drop for Parts {
+    fn drop(self) {
+        let Parts {
+            overlay: _,
+            pool: _,
+            tags: _,
+            queues: _,
+            requeued: _,
+            outboxes: _,
+            seats: _,
+            frozen: _,
+            served: _,
+            heads: _,
+            trees: _,
+            groups: _,
+            weights: _,
+            budgets: _,
+            slot: _,
+            scheduler: _,
+            turns: _,
+        } = self;
+    }
 }
 
 impl Model for Parts {

@@ -13,7 +13,8 @@ use std::time::Clock;
 /// So many frames of a connection are answered at most.
 pub const FRAME_LIMIT: u32 = 1_048_576;
 
-/// Serves the clients that come to a path, until the host has ended. Each leaves the seat before the next is met.
+/// Serves the clients that come to a path, until the host has ended. Each leaves the seat before the next is met, if the history
+/// has room for it and there is memory.
 pub fn serve_clients<R: Wait + Clock>(rt: &R, alloc: Global, listener: &UnixListener, seat: Caller)
     requires { IsIdle seat }
 {

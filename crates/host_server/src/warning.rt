@@ -1,8 +1,12 @@
 // When a history is nearly full.
+ghost use Rattle.host_server.specs.Warning.{IsNineTenths};
+
 use host_rings::Core;
 
-/// So many entries of a history that holds `most` are nine tenths, and at least one.
-pub fn nine_tenths(most: u32) -> u32 {
+/// So many entries of a history that holds `most` are nine tenths, rounded down, and at least one.
+pub fn nine_tenths(most: u32) -> u32
+    ensures { IsNineTenths most result }
+{
     let count = most - most.div_ceil(10);
     count.max(1)
 }

@@ -12,7 +12,6 @@ use rtrb::{Consumer, Producer, Protocol};
 use std::alloc::Global;
 
 /// The core's side of a seat: the call that waits, if one does, and the two rings.
-#[derive(Drop)]
 pub struct Desk<C, P: Protocol<RingReply>> {
     pub(crate) calls: Consumer<C>,
     pub(crate) replies: Producer<RingReply, Global, P>,
@@ -23,6 +22,21 @@ pub struct Desk<C, P: Protocol<RingReply>> {
     pub(crate) closed: bool,
     ghost room: { closed ≡ false → length (option_to_list waiting) < known_free replies },
     ghost last_is: { last ≡ last_taken (sent replies) },
+}
+
+// Written out, and not derived: so who drops one, in whatever crate, calls this, and proves no drop of each part anew.
+impl<C: Drop, P: Protocol<RingReply>> Drop for Desk<C, P> {
+    fn drop(self) {
+        let Desk {
+            calls: _,
+            replies: _,
+            bell: _,
+            number: _,
+            waiting: _,
+            last: _,
+            closed: _,
+        } = self;
+    }
 }
 
 impl<C: Staged, P: Protocol<RingReply>> Desk<C, P> {

@@ -11,7 +11,6 @@ use std::alloc::Global;
 use std::sync::Wait;
 
 /// A seat.
-#[derive(Drop)]
 pub struct Seat<C, P: Protocol<RingReply>> {
     pub(crate) calls: Producer<C>,
     pub(crate) replies: Consumer<RingReply, Global, P>,
@@ -20,6 +19,21 @@ pub struct Seat<C, P: Protocol<RingReply>> {
     pub(crate) looks: u32,
     pub(crate) number: u8,
     pub(crate) closed: bool,
+}
+
+// Written out, and not derived: so who drops one, in whatever crate, calls this, and proves no drop of each part anew.
+impl<C: Drop, P: Protocol<RingReply>> Drop for Seat<C, P> {
+    fn drop(self) {
+        let Seat {
+            calls: _,
+            replies: _,
+            core: _,
+            own: _,
+            looks: _,
+            number: _,
+            closed: _,
+        } = self;
+    }
 }
 
 impl<C: Drop, P: Protocol<RingReply>> Seat<C, P> {

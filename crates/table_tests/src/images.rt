@@ -1,6 +1,9 @@
 // What no clause says: the lengths and bytes of reads as numbers, what a file gives, and how often a
 // read is refused.
-use base_image::{FailingImage, FileImage, Image, ImageFault, MemoryImage, ZeroImage};
+use base_image::{
+    FailingImage, FileImage, Image, ImageFault, MemoryImage, ZeroImage, are_alike, file_image,
+    file_images,
+};
 use bytes::Bytes;
 use std::fs::File;
 use std::process::Abort;
@@ -138,7 +141,7 @@ fn failure_inside(rt: HostRuntime) {
 
 // A file of 1,000 bytes is one whole sector, and a read may go past that to the file's end.
 #[test]
-fn file_image(rt: HostRuntime) -> Result<(), Fail> {
+fn bytes_of_a_file(rt: HostRuntime) -> Result<(), Fail> {
     let process = process::id(rt.process());
     let path = format!(in rt.alloc(); "/tmp/base_image-{process}")?;
     fs::write(&rt, path.as_str(), [0x37; 1000].as_slice())?;
@@ -190,5 +193,74 @@ fn no_image_in_a_folder(rt: HostRuntime) -> Result<(), Fail> {
         FileImage::from_file(write_only).is_err(),
     ];
     assert_eq!(rt; are_refused, [true, true]);
+    Ok(())
+}
+
+// Images of files of so many bytes each are alike.
+#[derive(Clone, Copy)]
+struct Sizes {
+    bytes: [usize; 3],
+    are_alike: bool,
+}
+
+const SIZES: [Sizes; 5] = [
+    // bytes behind the last whole sector do not count
+    Sizes {
+        bytes: [512, 1000, 1023],
+        are_alike: true,
+    },
+    Sizes {
+        bytes: [512, 512, 1024],
+        are_alike: false,
+    },
+    Sizes {
+        bytes: [512, 1024, 512],
+        are_alike: false,
+    },
+    Sizes {
+        bytes: [1024, 512, 512],
+        are_alike: false,
+    },
+    Sizes {
+        bytes: [0, 100, 511],
+        are_alike: true,
+    },
+];
+
+// The file is another one each time that it is opened, as if somebody changed it between the opens of two workers.
+#[test]
+fn images_of_different_sizes(rt: HostRuntime) -> Result<(), Fail> {
+    let process = process::id(rt.process());
+    let path = format!(in rt.alloc(); "/tmp/base_image-sizes-{process}")?;
+    for sizes in SIZES {
+        let mut images = Vec::new(rt.alloc());
+        for bytes in sizes.bytes {
+            fs::write(&rt, path.as_str(), &[0x37; 1024][..bytes.min(1024)])?;
+            images.push(file_image(&rt, path.as_str())?)?;
+            fs::remove_file(&rt, path.as_str())?;
+        }
+        assert_eq!(rt; are_alike(images.as_slice()), sizes.are_alike);
+    }
+    Ok(())
+}
+
+// Each worker gets an image of the same file. A folder, and a file that is not there, give none.
+#[test]
+fn images_of_a_file(rt: HostRuntime) -> Result<(), Fail> {
+    let process = process::id(rt.process());
+    let path = format!(in rt.alloc(); "/tmp/base_image-opened-{process}")?;
+    fs::write(&rt, path.as_str(), [0x37; 1024].as_slice())?;
+    let mut images = file_images(&rt, rt.alloc(), path.as_str(), 3)?;
+    fs::remove_file(&rt, path.as_str())?;
+    assert_eq!(rt; images.len(), 3);
+    for image in images.as_mut_slice() {
+        expect(&rt, image, 0x37, &[Told::Sectors(2), gives(512, 512, 512)]);
+    }
+    let are_refused = [
+        file_images(&rt, rt.alloc(), path.as_str(), 1).is_err(),
+        file_images(&rt, rt.alloc(), "/tmp", 1).is_err(),
+        file_image(&rt, "/dev/null").is_err(),
+    ];
+    assert_eq!(rt; are_refused, [true; 3]);
     Ok(())
 }

@@ -1,9 +1,9 @@
-// The image in a file.
-ghost use Rattle.std.specs.Prelude.{◌≡◌, length, IfOk, IsTrue, None};
-ghost use Rattle.base_image.specs.Kinds.{fresh};
-ghost use Rattle.bfqhost.specs.Serving.{AreAlike};
+// Images of files that are opened by name.
+ghost use Rattle.std.specs.Prelude.{◌≡◌, ◌↔◌, length, IfOk, IsTrue, None};
+ghost use Rattle.base_image.specs.Kinds.{fresh, AreAlike};
 
-use base_image::{FileImage, Image};
+use crate::file::FileImage;
+use crate::image::Image;
 use std::alloc::Global;
 use std::fs::{self, File};
 use std::io::{self, ErrorKind};
@@ -12,6 +12,10 @@ use std::rt::Files;
 
 /// The image in a regular file or on a block device. It is looked at before it is opened, since the open of a FIFO waits, and
 /// since a character device has no length.
+///
+/// # Errors
+///
+/// It is of another kind, cannot be opened or read, or its length cannot be told.
 pub fn file_image(rt: &impl Files<File = File>, path: &str) -> io::Result<FileImage>
     ensures { IfOk result (λ image. image ≡ fresh image.sectors None) }
 {
@@ -23,6 +27,10 @@ pub fn file_image(rt: &impl Files<File = File>, path: &str) -> io::Result<FileIm
 }
 
 /// The image in a file, opened once for each of so many workers. Each tells the same number of sectors.
+///
+/// # Errors
+///
+/// One cannot be opened, or tells another number of sectors than the first; or there is no memory for them.
 pub fn file_images(
     rt: &impl Files<File = File>,
     alloc: Global,
@@ -42,9 +50,9 @@ pub fn file_images(
     Ok(images)
 }
 
-// Whether all tell as many sectors as the first.
-fn are_alike(images: &[FileImage]) -> bool
-    ensures { IsTrue result → AreAlike images.now }
+/// Whether all tell as many sectors as the first.
+pub fn are_alike(images: &[FileImage]) -> bool
+    ensures { IsTrue result ↔ AreAlike images.now }
 {
     for number in 0..images.len() {
         if images[number].sectors() != images[0].sectors() {

@@ -1,5 +1,5 @@
 use Rattle.std.proofs.Common.{◌≡◌, length}
-use Rattle.bfqhost.proofs.images.file_images.Given as goal
+use Rattle.base_image.proofs.files.file_images.Given as goal
 
 abbrev pub invariant-loop-opened : goal.invariant-loop-opened
 invariant-loop-opened g l = length l.images.items ≡ l._opened
