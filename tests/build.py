@@ -24,8 +24,8 @@ from pathlib import Path
 from checkout import CRATES, TOP, below, copy_for, crate_lines
 
 PROGRAMS = ["bfqhost", "bfqctl"]
-# What all crates may take, in minutes by the clock times processors: the first build that README.md tells of had others beside it.
-MINUTES_OF_ALL = 160
+# What all crates may take, in minutes by the clock times processors, of which the longest chain of crates leaves some idle.
+MINUTES_OF_ALL = 100
 
 
 def tell(text):

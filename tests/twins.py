@@ -2,7 +2,8 @@
 
 A check proves each function over the contracts of those that it calls, and names the open goals. So a wrong body is planted in a twin
 of its function, a copy beside it with another name and with copies of its proof files. Callers stand on the true one. It is refused
-if a goal of its twin is open. What has no twin, or is not settled there, is planted in its place and tried alone.
+if a goal of its twin is open. What has no twin is planted in its place, with others of other functions. What is not settled so is
+tried alone.
 """
 
 import re
@@ -93,21 +94,40 @@ def in_twins(edits, texts):
     return files, names
 
 
-def settled(names, status, said):
-    """Of wrong bodies in twins those that are refused, each with its goal; None if the check counts for nothing."""
+def rounds(edits):
+    """Wrong bodies of one function each, in lists that have no function twice."""
+    found = []
+    for edit in edits:
+        free = next((it for it in found if all(other.functions != edit.functions for other in it)), None)
+        if free is None:
+            found.append([edit])
+        else:
+            free.append(edit)
+    return found
+
+
+def is_at(function, words):
+    """Whether the words of a function's full name, or those of a proof's folder, are this method's, of whatever trait."""
+    modules = [it for it in function.path[len("src/"):-len(".rt")].split("/") if it not in ("lib", "main", "mod")]
+    return words[1:-2] == modules and words[-1] == function.name and words[-2].startswith(function.owner)
+
+
+def settled(whose, status, said):
+    """Of wrong bodies tried by one check those that are refused, each with its goal; None if the check counts for nothing."""
     refused, goals = {}, []
     for line in said.splitlines() if "\nlogic=" in said and status in (0, 1) else ["src/:0:0: error: no verdict"]:
         goal, ends, error = GOAL.match(line), FUNCTION.match(line), ERROR.match(line)
-        twin = next((it for it in names if error and it in error[1].split("/") or ends and it in ends[1].split("::")), None)
-        if (error or ends and not ends[2].startswith("proved")) and twin is None:
+        edit = whose(ends[1].split("::") if ends else error[1].split("/")[:-1]) if ends or error else None
+        # Who only calls a refused function has no proof either.
+        if (error or ends and not ends[2].startswith(("proved", "no proof: it calls"))) and edit is None:
             return None
         if goal:
             goals.append(goal[3])
         elif error and not UNREAD.search(error[2]):
-            refused.setdefault(names[twin], error[2])
+            refused.setdefault(edit, error[2])
         elif ends:
             # The goals of a function stand before its line.
-            refused.update({names[twin]: it for it in goals[:1] if twin})
+            refused.update({edit: it for it in goals[:1] if edit})
             goals = []
     return refused
 
@@ -134,15 +154,25 @@ class Crate:
     def together(self, edits):
         """Tries wrong bodies in twins by one check. Gives those that are refused, each with its goal."""
         files, names = in_twins(edits, self.texts)
-        found = settled(names, *self.check(files)) if edits else {}
+        found = settled(lambda words: next((names[it] for it in names if it in words), None), *self.check(files)) if edits else {}
         if found is None and len(edits) > 1:
             # One of them does not compile, or meets a limit of the check. Halves find it.
             return {**self.together(edits[::2]), **self.together(edits[1::2])}
         return found or {}
 
+    def planted(self, *edits):
+        """The files that change if wrong bodies stand in their places."""
+        lines = {at: line for edit in edits for at, line in edit.lines.items()}
+        return {path: "\n".join(lines.get((path, at), it) for at, it in enumerate(self.texts[path].split("\n"))) for path, _ in lines}
+
+    def in_place(self, edits):
+        """Tries wrong bodies of different methods in their places by one check. Gives those that are refused, each with its goal."""
+        methods = [(edit.name, function) for edit in edits for function in edit.functions]
+        return settled(lambda words: next((it for it, method in methods if is_at(method, words)), None), *self.check(self.planted(*edits))) or {}
+
     def alone(self, edit):
         """Tries one wrong body in its place. Gives whether it is refused, and its goal or what is wrong with it."""
-        files = {path: "\n".join(edit.lines.get((path, at), it) for at, it in enumerate(self.texts[path].split("\n"))) for path, _ in edit.lines}
+        files = self.planted(edit)
         status, said = self.check(files)
         errors = [it for it in map(ERROR.match, said.splitlines()) if it]
         unread = [it[0] for it in errors if it[1][:6] != "proofs" and (it[1][:5] == "specs" or it[2][0] != "`" or UNREAD.search(it[2]))]

@@ -18,7 +18,7 @@ from concurrent.futures import ThreadPoolExecutor, as_completed
 
 from build import PROGRAMS, lanes, stale
 from checkout import CRATES, TOP, below, copy_for, crate_lines
-from twins import Crate, has_twin, read_edit
+from twins import Crate, has_twin, read_edit, rounds
 
 SEEN = TOP / "tests" / "wrong_bodies.seen"
 PART = 64  # Wrong bodies of a crate that are tried in one copy, at most; if it has more, several copies are worked on side by side.
@@ -55,6 +55,9 @@ def trial(name, texts, lines, keeps_on):
             except ValueError as why:
                 failed[it] = f"bad edit: {why}"
         refused.update(crate.together([it for it in edits if has_twin(it, crate.texts)]))
+        of_methods = [it for it in edits if it.name not in refused and len(it.functions) == 1 and None not in it.functions]
+        for some in [it for it in rounds(of_methods) if len(it) > 1]:
+            refused.update(crate.in_place(some))
         for edit in [it for it in edits if it.name not in refused]:
             is_refused, told = crate.alone(edit)
             (refused if is_refused else failed)[edit.name] = told
