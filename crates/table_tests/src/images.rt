@@ -196,50 +196,26 @@ fn no_image_in_a_folder(rt: HostRuntime) -> Result<(), Fail> {
     Ok(())
 }
 
-// Images of files of so many bytes each are alike.
-#[derive(Clone, Copy)]
-struct Sizes {
-    bytes: [usize; 3],
-    are_alike: bool,
-}
-
-const SIZES: [Sizes; 5] = [
-    // bytes behind the last whole sector do not count
-    Sizes {
-        bytes: [512, 1000, 1023],
-        are_alike: true,
-    },
-    Sizes {
-        bytes: [512, 512, 1024],
-        are_alike: false,
-    },
-    Sizes {
-        bytes: [512, 1024, 512],
-        are_alike: false,
-    },
-    Sizes {
-        bytes: [1024, 512, 512],
-        are_alike: false,
-    },
-    Sizes {
-        bytes: [0, 100, 511],
-        are_alike: true,
-    },
-];
-
 // The file is another one each time that it is opened, as if somebody changed it between the opens of two workers.
 #[test]
 fn images_of_different_sizes(rt: HostRuntime) -> Result<(), Fail> {
     let process = process::id(rt.process());
     let path = format!(in rt.alloc(); "/tmp/base_image-sizes-{process}")?;
-    for sizes in SIZES {
+    for (sizes, alike) in [
+        // bytes behind the last whole sector do not count
+        ([512, 1000, 1023], true),
+        ([0, 100, 511], true),
+        ([512, 512, 1024], false),
+        ([512, 1024, 512], false),
+        ([1024, 512, 512], false),
+    ] {
         let mut images = Vec::new(rt.alloc());
-        for bytes in sizes.bytes {
+        for bytes in sizes {
             fs::write(&rt, path.as_str(), &[0x37; 1024][..bytes.min(1024)])?;
             images.push(file_image(&rt, path.as_str())?)?;
             fs::remove_file(&rt, path.as_str())?;
         }
-        assert_eq!(rt; are_alike(images.as_slice()), sizes.are_alike);
+        assert_eq!(rt; are_alike(images.as_slice()), alike);
     }
     Ok(())
 }
