@@ -30,6 +30,9 @@ Each figure is the median of 25 rounds, in user plus system time of the process,
 same round taken off. Peak memory is that of the process, by getrusage, with that of an empty script taken off. Beside
 each figure that has a bound stands the bound, and the status is 1 where one is not kept.
 
+A program runs with the setting of the C library that the launcher of its checkout gives it, if it has one, or with that of the
+environment, if there is one.
+
 With `--against` another build of the program runs in the same rounds, and this one runs twice in each. The time per call of
 60,000 calls is divided by that of the other build. Beside it stands the ratio of this build to itself, that is, of its two
 times the longer divided by the shorter. The bound of 1.05 is kept too where the first ratio is not above the second.
@@ -38,6 +41,7 @@ times the longer divided by the shorter. The bound of 1.05 is kept too where the
 import argparse
 import ctypes
 import os
+import re
 import resource
 import shutil
 import statistics
@@ -268,6 +272,16 @@ WORKLOADS = [
 ]
 
 
+def environment(program):
+    """The environment in which the launcher of a program's checkout starts it."""
+    launcher = os.path.normpath(os.path.join(program, "..", "..", "..", "..", "tests", "launch"))
+    text = ""
+    if os.path.exists(launcher):
+        with open(launcher, encoding="utf-8") as file:
+            text = file.read()
+    return {**dict(re.findall(r'^export (\w+)="\$\{\w+-(\S+)\}"$', text, re.M)), **os.environ}
+
+
 def spent(program, words, path):
     """Seconds of user plus system time and KiB of peak memory of one run on a script.
 
@@ -278,7 +292,7 @@ def spent(program, words, path):
     shell = 'exec 3<&0; { read -r go <&3; exec 3<&-; exec "$@" <"$script"; } >/dev/null & echo $!'
     started = subprocess.Popen(
         ["/bin/sh", "-c", shell, "sh", program, *words],
-        env={**os.environ, "script": path}, stdin=subprocess.PIPE, stdout=subprocess.PIPE)
+        env={**environment(program), "script": path}, stdin=subprocess.PIPE, stdout=subprocess.PIPE)
     pid = int(started.stdout.read())
     if started.wait() != 0:
         sys.exit("bench: the program was not started")
@@ -319,7 +333,7 @@ def in_any_order(lines):
 def check(program, words, path, wanted):
     """Stops unless the script's output is as wanted: a call that is refused would cost less."""
     with open(path, "rb") as script:
-        run = subprocess.run([program, *words], stdin=script, stdout=subprocess.PIPE)
+        run = subprocess.run([program, *words], env=environment(program), stdin=script, stdout=subprocess.PIPE)
     if run.returncode != 0:
         sys.exit(f"bench: {program} did not end well as {' '.join(words)}")
     # The last line has its end too, so nothing stands behind it.

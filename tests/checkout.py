@@ -1,11 +1,13 @@
 """The crates of this checkout, and a copy of what a check of one reads."""
 
+import os
 import re
 import shutil
 from pathlib import Path
 
 TOP = Path(__file__).resolve().parent.parent
 CRATES = TOP / "crates"
+SMALL = 1 << 16  # bytes
 
 
 def crate_lines():
@@ -23,6 +25,16 @@ def below(name, lines):
     return found
 
 
+def link(made, copy):
+    """Gives a file that a proof made a second name. Where that can't be, it is copied, and so is a small one: a lock is taken on it, not on its name."""
+    try:
+        if os.path.getsize(made) < SMALL:
+            raise OSError
+        os.link(made, copy)
+    except OSError:
+        shutil.copy2(made, copy)
+
+
 def copy_for(name, lines, folder):
     """Copies what a check of a crate reads: the crate with its kept work, and those below it with the libraries that they made."""
     names = [*below(name, lines), name]
@@ -30,5 +42,5 @@ def copy_for(name, lines, folder):
     shutil.copy(TOP / "HANDLES", folder)
     for it in names:
         left_out = shutil.ignore_patterns("wrong", "must-fail", *["incremental"] * (it != name))
-        shutil.copytree(CRATES / it, Path(folder, "crates", it), ignore=left_out)
+        shutil.copytree(CRATES / it, Path(folder, "crates", it), ignore=left_out, copy_function=shutil.copy2 if it == name else link)
     return Path(folder, "crates", name)

@@ -98,16 +98,15 @@ def rounds(edits):
     """Wrong bodies of one function each, in lists that have no function twice."""
     found = []
     for edit in edits:
-        free = next((it for it in found if all(other.functions != edit.functions for other in it)), None)
-        if free is None:
-            found.append([edit])
-        else:
-            free.append(edit)
+        free = next((it for it in found if all(other.functions != edit.functions for other in it)), [])
+        free.append(edit)
+        if free == [edit]:
+            found.append(free)
     return found
 
 
 def is_at(function, words):
-    """Whether the words of a function's full name, or those of a proof's folder, are this method's, of whatever trait."""
+    """Whether the words of a function's full name, or those of a proof's folder, are this method's, of whatever trait. Ask for the longest owner first."""
     modules = [it for it in function.path[len("src/"):-len(".rt")].split("/") if it not in ("lib", "main", "mod")]
     return words[1:-2] == modules and words[-1] == function.name and words[-2].startswith(function.owner)
 
@@ -167,7 +166,7 @@ class Crate:
 
     def in_place(self, edits):
         """Tries wrong bodies of different methods in their places by one check. Gives those that are refused, each with its goal."""
-        methods = [(edit.name, function) for edit in edits for function in edit.functions]
+        methods = sorted(((edit.name, it) for edit in edits for it in edit.functions), key=lambda it: -len(it[1].owner))
         return settled(lambda words: next((it for it, method in methods if is_at(method, words)), None), *self.check(self.planted(*edits))) or {}
 
     def alone(self, edit):

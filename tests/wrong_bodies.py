@@ -88,10 +88,11 @@ def try_all(named=(), every=False, deadline=float("inf")):
                     print("".join(f"{word}: {runs[ran]}/{it}: {why}\n" for it, why in found.items()), end="", flush=True)
         finally:
             goes_on[0] = False
+    after = hashes(lines)
     for it, (refused, failed) in tried.items():
         if failed:
             rows.pop(it, None)
-        elif len(refused) == len(bodies[it]) and now[it] == hashes(lines)[it]:  # nothing changed meanwhile
+        elif len(refused) == len(bodies[it]) and now[it] == after[it]:  # nothing changed meanwhile
             rows[it] = [str(len(refused)), time.strftime("%Y-%m-%d"), now[it], kit]
     SEEN.write_text("".join(" ".join([it, *rows[it]]) + "\n" for it in sorted(bodies.keys() & rows.keys())))
     unseen = 0 if named else sum(len(bodies[it]) for it in bodies.keys() - names)

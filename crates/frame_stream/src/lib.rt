@@ -38,6 +38,3 @@ pub use fault::{Fault, ReadError};
 pub use feeder::{Fed, Feeder};
 pub use laws::{one_frame, one_reading};
 pub use side::Side;
-
-#[cfg(test)]
-mod tests;

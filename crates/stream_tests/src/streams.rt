@@ -1,8 +1,7 @@
 // Streams in pieces.
 
-use super::sample::Sample;
-use crate::fault::Fault;
-use crate::feeder::Feeder;
+use crate::sample::Sample;
+use frame_stream::{Fault, Feeder};
 use std::test::Fail;
 
 // A frame of each kind, and one of a kind that is not there.
@@ -16,11 +15,11 @@ const STREAM: [u8; 36] = [
 ];
 
 const VALUES: [Sample; 5] = [
-    None,
-    Some(Ok(258)),
-    Some(Err(true)),
-    Some(Ok(65_535)),
-    Some(Err(false)),
+    Sample(None),
+    Sample(Some(Ok(258))),
+    Sample(Some(Err(true))),
+    Sample(Some(Ok(65_535))),
+    Sample(Some(Err(false))),
 ];
 
 #[test]
@@ -31,7 +30,7 @@ fn example_of_the_page(rt: HostRuntime) -> Result<(), Fail> {
         ([0, 0, 0, 3, 2].as_slice(), [].as_slice(), None),
         (
             [0, 7, 0, 0, 0, 0].as_slice(),
-            [Some(Ok(7))].as_slice(),
+            [Sample(Some(Ok(7)))].as_slice(),
             Some(Fault::BadLengthField),
         ),
         ([].as_slice(), [].as_slice(), Some(Fault::BadLengthField)),

@@ -1,11 +1,11 @@
 -- The laws of the example of a side.
 use Rattle.std.specs.Prelude.{◌≡◌, ℕ, ◌<◌, ◌≤◌, List, [], ◌∷◌, length, Bool, true, false, Option, Some, None, Result, Ok, Err}
 use Rattle.std.specs.Int.{w16, from_be_bytes}
-use Rattle.std.proofs.Common.{refl, sym, ap, subst, eqb, zero, suc, arith}
+use Rattle.std.proofs.Common.{refl, sym, ◌∙◌, ap, subst, eqb, zero, suc, arith}
 use Rattle.std.proofs.lemmas.Bool.{ne_eqb}
 use Rattle.std.proofs.lemmas.Nat.{be_bytes_2, from_be_bytes-to_be_bytes_2}
 use Rattle.frame_stream.specs.Frame.{IsBytes}
-use Rattle.frame_stream.specs.Sample.{sample_body, SampleFits, nothing_at, number_at, flag_at, sample_at}
+use Rattle.stream_tests.specs.Sample.{sample_body, SampleFits, nothing_at, number_at, flag_at, sample_at, made_of}
 use Rattle.frame_stream.specs.declared.fault.Fault.{Fault}
 
 pub sample_in_limits : (v : Option (Result ℕ Bool)) → SampleFits v → (0 < length (sample_body v)) × (length (sample_body v) ≤ 32787)
@@ -68,3 +68,14 @@ sample_spelled (suc (suc (suc (suc k))) ∷ fields) v are few e =
     let n = suc (suc (suc (suc k))) in
     let bad = rw (above n 1 (omega arith), above n 2 (omega arith), above n 3 (omega arith)) at e in
     absurd cc
+
+found : {T : Type 0} (made : Option (Result ℕ Bool) → T) (of : T → Option (Result ℕ Bool)) → ((x : Option (Result ℕ Bool)) → of (made x) ≡ x)
+    → (r : Result (Option (Result ℕ Bool)) Fault) (v : T) → made_of made r ≡ Ok v → r ≡ Ok (of v)
+found made of back (Ok x) v e = let same : made x ≡ v = cc in ap (λ (y : Option (Result ℕ Bool)). Ok y) (sym (back x) ∙ ap of same)
+found made of back (Err f) v e = absurd cc
+
+-- of a type that is made of such a value, what is read fits, and the bytes are its body (for the tests)
+pub made_spelled : {T : Type 0} (made : Option (Result ℕ Bool) → T) (of : T → Option (Result ℕ Bool))
+    → ((x : Option (Result ℕ Bool)) → of (made x) ≡ x) → (bytes : List ℕ) (v : T) → IsBytes bytes → length bytes ≤ 32787
+    → made_of made (sample_at bytes) ≡ Ok v → SampleFits (of v) × (bytes ≡ sample_body (of v))
+made_spelled made of back bytes v are few e = sample_spelled bytes (of v) are few (found made of back (sample_at bytes) v e)

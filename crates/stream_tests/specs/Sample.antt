@@ -40,3 +40,8 @@ sample_at (kind ∷ fields) =
     else if kind == 2 then number_at fields
     else if kind == 3 then flag_at fields
     else Err BadKind
+
+-- the same of a type that is made of such a value (for the tests)
+abbrev pub made_of : {T : Type 0} → (Option (Result ℕ Bool) → T) → Result (Option (Result ℕ Bool)) Fault → Result T Fault
+made_of made (Ok v) = Ok (made v)
+made_of made (Err f) = Err f

@@ -1,9 +1,7 @@
 // One frame, there and back.
 
-use super::sample::Sample;
-use crate::decoding::decode;
-use crate::encoding::encode;
-use crate::fault::{Fault, ReadError};
+use crate::sample::Sample;
+use frame_stream::{Fault, ReadError, decode, encode};
 use std::test::Fail;
 
 #[test]
@@ -17,9 +15,9 @@ fn there_and_back(rt: HostRuntime) -> Result<(), Fail> {
         (Some(Err(false)), [0, 0, 0, 2, 3, 0].as_slice()),
         (Some(Err(true)), [0, 0, 0, 2, 3, 1].as_slice()),
     ] {
-        let made = encode::<Sample>(alloc, &value)?;
+        let made = encode(alloc, &Sample(value))?;
         assert_eq!(rt; made.as_slice(), frame);
-        assert_eq!(rt; decode::<Sample>(alloc, frame), Ok(value));
+        assert_eq!(rt; decode(alloc, frame), Ok(Sample(value)));
     }
     Ok(())
 }
