@@ -1,7 +1,7 @@
 #!/usr/bin/env python3
 """Time and memory of `bfqhost sim`, for each accepted call.
 
-    python3 bench/sim.py [--against PROGRAM] [WORKLOAD]...
+    python3 bench/sim.py [--against PROGRAM] [--as-started] [WORKLOAD]...
 
 There are six workloads, each of cycles after an opening, over 1,024 sectors of zeros but for the last two. With no
 workload named all are run.
@@ -30,12 +30,11 @@ Each figure is the median of 25 rounds, in user plus system time of the process,
 same round taken off. Peak memory is that of the process, by getrusage, with that of an empty script taken off. Beside
 each figure that has a bound stands the bound, and the status is 1 where one is not kept.
 
-A program runs with the setting of the C library that the launcher of its checkout gives it, if it has one, or with that of the
-environment, if there is one.
-
 With `--against` another build of the program runs in the same rounds, and this one runs twice in each. The time per call of
 60,000 calls is divided by that of the other build. Beside it stands the ratio of this build to itself, that is, of its two
 times the longer divided by the shorter. The bound of 1.05 is kept too where the first ratio is not above the second.
+
+The programs run with the environment as it is. With `--as-started` each has besides what the launcher of its checkout sets for it.
 """
 
 import argparse
@@ -244,18 +243,18 @@ class Workload(namedtuple("Workload", FIELDS)):
             "redone": undone + [(f"redo {back}", f"moved {length} {length}")],
         }
 
-    def runs(self, against):
-        """The program, the scheduler and the script of each run to be timed, by name. Those that are to be compared with another
+    def runs(self, own, against):
+        """The words that start the program, the scheduler and the script of each run to be timed, by name. Those that are to be compared with another
         build's stand side by side."""
         scripts, runs = self.scripts(), {}
         for name, pairs in scripts.items():
-            runs[name] = (PROGRAM, self.scheduler, pairs)
+            runs[name] = (own, self.scheduler, pairs)
             if against is not None and name in ("nothing", "empty", "many"):
-                runs[f"{name}, again"] = (PROGRAM, self.scheduler, pairs)
+                runs[f"{name}, again"] = (own, self.scheduler, pairs)
                 runs[f"{name}, against"] = (against, self.scheduler, pairs)
         if self.most_against_none is not None:
-            runs["empty, none"] = (PROGRAM, "none", scripts["empty"])
-            runs["many, none"] = (PROGRAM, "none", scripts["many"])
+            runs["empty, none"] = (own, "none", scripts["empty"])
+            runs["many, none"] = (own, "none", scripts["many"])
         return runs
 
 
@@ -272,14 +271,14 @@ WORKLOADS = [
 ]
 
 
-def environment(program):
-    """The environment in which the launcher of a program's checkout starts it."""
+def as_launched(program):
+    """The words that start a program with the environment that the launcher of its checkout gives it."""
     launcher = os.path.normpath(os.path.join(program, "..", "..", "..", "..", "tests", "launch"))
-    text = ""
+    settings = {}
     if os.path.exists(launcher):
         with open(launcher, encoding="utf-8") as file:
-            text = file.read()
-    return {**dict(re.findall(r'^export (\w+)="\$\{\w+-(\S+)\}"$', text, re.M)), **os.environ}
+            settings = dict(re.findall(r'^export (\w+)="\$\{\w+-(\S+)\}"$', file.read(), re.M))
+    return ["env", *(f"{name}={os.environ.get(name, value)}" for name, value in settings.items()), program]
 
 
 def spent(program, words, path):
@@ -291,8 +290,8 @@ def spent(program, words, path):
     """
     shell = 'exec 3<&0; { read -r go <&3; exec 3<&-; exec "$@" <"$script"; } >/dev/null & echo $!'
     started = subprocess.Popen(
-        ["/bin/sh", "-c", shell, "sh", program, *words],
-        env={**environment(program), "script": path}, stdin=subprocess.PIPE, stdout=subprocess.PIPE)
+        ["/bin/sh", "-c", shell, "sh", *program, *words],
+        env={**os.environ, "script": path}, stdin=subprocess.PIPE, stdout=subprocess.PIPE)
     pid = int(started.stdout.read())
     if started.wait() != 0:
         sys.exit("bench: the program was not started")
@@ -333,12 +332,12 @@ def in_any_order(lines):
 def check(program, words, path, wanted):
     """Stops unless the script's output is as wanted: a call that is refused would cost less."""
     with open(path, "rb") as script:
-        run = subprocess.run([program, *words], env=environment(program), stdin=script, stdout=subprocess.PIPE)
+        run = subprocess.run([*program, *words], stdin=script, stdout=subprocess.PIPE)
     if run.returncode != 0:
-        sys.exit(f"bench: {program} did not end well as {' '.join(words)}")
+        sys.exit(f"bench: {program[-1]} did not end well as {' '.join(words)}")
     # The last line has its end too, so nothing stands behind it.
     if in_any_order(run.stdout.decode().split("\n")) != in_any_order([*wanted, ""]):
-        sys.exit(f"bench: the answers of {program} are not those of accepted calls")
+        sys.exit(f"bench: the answers of {program[-1]} are not those of accepted calls")
 
 
 class Rounds:
@@ -409,13 +408,13 @@ def show_first_pass(rounds, calls, against):
           f"per call{other}")
 
 
-def run(workload, against):
+def run(workload, own, against):
     """Measures one workload and prints its figures. Gives whether each bound is kept."""
     few, many, back = workload.whole(FEW), workload.whole(MANY), workload.whole(BACK)
     # A first pass is taken off with the process, so it is none of the calls either.
     opening = 0 if workload.has_first_pass else len(workload.opening)
     payload = workload.payload_sectors * SECTOR_BYTES / workload.calls
-    rounds = Rounds(workload.runs(against), workload.has_image, workload.more_words)
+    rounds = Rounds(workload.runs(own, against), workload.has_image, workload.more_words)
 
     alone = "nothing" if workload.has_first_pass else "empty"
     start = statistics.median(rounds.seconds[alone])
@@ -441,9 +440,9 @@ def run(workload, against):
         show(f"redo {back:,} against its steps", f"{redo / steps:.2f}", f"at most {MOST_UNDO}", redo <= MOST_UNDO * steps),
     ]
     if workload.most_against_none is not None:
-        against = rounds.between("many", "empty") / rounds.between("many, none", "empty, none")
-        kept.append(show("time per call against the scheduler none", f"{against:.2f}", f"at most {workload.most_against_none}",
-                         against <= workload.most_against_none))
+        part = rounds.between("many", "empty") / rounds.between("many, none", "empty, none")
+        kept.append(show("time per call against the scheduler none", f"{part:.2f}", f"at most {workload.most_against_none}",
+                         part <= workload.most_against_none))
     if workload.most_bytes is not None:
         beyond = rounds.bytes_per_call("many", opening + many) - payload
         kept.append(show("peak memory per call beyond payload", f"{beyond:.0f} bytes", f"at most {workload.most_bytes}",
@@ -457,6 +456,7 @@ def main():
     names = [workload.name for workload in WORKLOADS]
     words = argparse.ArgumentParser(description=__doc__, formatter_class=argparse.RawDescriptionHelpFormatter)
     words.add_argument("--against", metavar="PROGRAM")
+    words.add_argument("--as-started", action="store_true")
     words.add_argument("workloads", nargs="*", metavar="WORKLOAD")
     given = words.parse_args()
     wanted = given.workloads or names
@@ -469,7 +469,9 @@ def main():
         sys.exit(f"bench: no program {against}")
     if ctypes.CDLL(None).prctl(PR_SET_CHILD_SUBREAPER, 1, 0, 0, 0) != 0:
         sys.exit("bench: no prctl")
-    kept = [run(workload, against) for workload in WORKLOADS if workload.name in wanted]
+    started = as_launched if given.as_started else lambda program: [program]
+    own, other = started(PROGRAM), against and started(against)
+    kept = [run(workload, own, other) for workload in WORKLOADS if workload.name in wanted]
     return 0 if all(kept) else 1
 
 

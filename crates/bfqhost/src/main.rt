@@ -1,9 +1,6 @@
 #![tactic(auto)]
-//! `bfqhost`: a block I/O host whose every step can be undone, run from a script, or served over sockets.
-//!
-//! | call | rule that it meets |
-//! |---|---|
-//! | `run_script` | what is written is the text of the lines read, with answers that the keeper's rules allow |
+//! `bfqhost`: a block I/O host whose every step can be undone, run from a script (`script_host`), or served over sockets
+//! (`host_server`).
 //!
 //! ```text
 //! bfqhost sim < SCRIPT
@@ -22,8 +19,6 @@
 //! | 7 | a socket or a thread cannot be had |
 
 mod faults;
-mod host;
-mod script;
 mod serving;
 mod start;
 

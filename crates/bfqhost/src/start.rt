@@ -7,10 +7,10 @@ ghost use Rattle.bfqhost.specs.Status.{status_of, IsRefused, IsSimStatus, IsStat
 use crate::faults::{
     BAD_LINE, DONE, NO_MEMORY, READ_FAULT, REFUSED, WRITE_FAULT, bad_field, no_image, no_memory,
 };
-use crate::script::run_script;
 use crate::serving::serve;
 use base_image::{Image, ZeroImage, file_image};
 use host_options::{Request, WordFault, help_text, request_of};
+use script_host::run_script;
 use script_run::ScriptEnd;
 use sector_core::{Config, ConfigDraft};
 use std::env;

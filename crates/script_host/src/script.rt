@@ -2,7 +2,7 @@
 ghost use Rattle.std.specs.Prelude.{◌<◌, ◌^◌};
 ghost use Rattle.plain_machine.specs.Step.{of_sizes};
 ghost use Rattle.dispatch_core.specs.Running.{sizes_of};
-ghost use Rattle.bfqhost.specs.Run.{IsRun};
+ghost use Rattle.script_host.specs.Run.{IsRun};
 
 use crate::host::Host;
 use base_image::Image;
