@@ -25,7 +25,7 @@ from checkout import CRATES, TOP, below, copy_for, crate_lines
 
 PROGRAMS = ["bfqhost", "bfqctl"]
 # What all crates may take, in minutes by the clock times processors, of which the longest chain of crates leaves some idle.
-MINUTES_OF_ALL = 100
+MINUTES_OF_ALL = 150
 
 
 def tell(text):
