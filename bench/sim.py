@@ -27,7 +27,7 @@ a row at a time. A cycle is one more write of 64 sectors, all over them, its dis
 first pass and has a figure of its own: it adds each block, where the cycles replace them. From the other figures it is taken off.
 
 Each figure is the median of 25 rounds, in user plus system time of the process, with that of an empty script of the
-same round taken off. Peak memory is that of the process, by getrusage, with that of an empty script taken off. Beside
+same round taken off. In a round each script runs twice, and the run that took less counts. Peak memory is that of the process, by getrusage, with that of an empty script taken off. Beside
 each figure that has a bound stands the bound, and the status is 1 where one is not kept.
 
 With `--against` another build of the program runs in the same rounds, and this one runs twice in each. The time per call of
@@ -362,7 +362,8 @@ class Rounds:
             # One round after the other, so that a slow moment of the machine meets all scripts alike.
             for _ in range(RUNS):
                 for name, (program, _, _) in runs.items():
-                    time, peak = spent(program, words[name], os.path.join(folder, name))
+                    # Of two runs in a row the one that took less: to the first a virtual machine may have to get memory from its host again.
+                    time, peak = min(spent(program, words[name], os.path.join(folder, name)) for _ in range(2))
                     self.seconds[name].append(time)
                     self.peaks[name].append(peak)
                 if has_image and shutil.which("dd"):
