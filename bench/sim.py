@@ -27,10 +27,11 @@ a row at a time. A cycle is one more write of 64 sectors, all over them, its dis
 first pass and has a figure of its own: it adds each block, where the cycles replace them. From the other figures it is taken off.
 
 Each figure is the median of 25 rounds, in user plus system time of the process, with that of an empty script of the
-same round taken off. In a round each script runs twice, and the run that took less counts. Peak memory is that of the process, by getrusage, with that of an empty script taken off. Beside
-each figure that has a bound stands the bound, and the status is 1 where one is not kept.
+same round taken off. In a round each script runs twice in a row, and the run that took less counts. Peak memory is that of the
+process, by getrusage, with that of an empty script taken off. Beside each figure that has a bound stands the bound, and the status is 1
+where one is not kept.
 
-With `--against` another build of the program runs in the same rounds, and this one runs twice in each. The time per call of
+With `--against` another build of the program runs in the same rounds, and this one has two figures in each. The time per call of
 60,000 calls is divided by that of the other build. Beside it stands the ratio of this build to itself, that is, of its two
 times the longer divided by the shorter. The bound of 1.05 is kept too where the first ratio is not above the second.
 
@@ -244,8 +245,8 @@ class Workload(namedtuple("Workload", FIELDS)):
         }
 
     def runs(self, own, against):
-        """The words that start the program, the scheduler and the script of each run to be timed, by name. Those that are to be compared with another
-        build's stand side by side."""
+        """The words that start the program, the scheduler and the script of each run to be timed, by name. Those that are to be
+        compared with another build's stand side by side."""
         scripts, runs = self.scripts(), {}
         for name, pairs in scripts.items():
             runs[name] = (own, self.scheduler, pairs)

@@ -7,7 +7,6 @@ from pathlib import Path
 
 TOP = Path(__file__).resolve().parent.parent
 CRATES = TOP / "crates"
-SMALL = 1 << 16  # bytes
 
 
 def crate_lines():
@@ -26,10 +25,8 @@ def below(name, lines):
 
 
 def link(made, copy):
-    """Gives a file that a proof made a second name. Where that can't be, it is copied, and so is a small one: a lock is taken on it, not on its name."""
+    """Gives a file a second name. Where that can't be, it is copied."""
     try:
-        if os.path.getsize(made) < SMALL:
-            raise OSError
         os.link(made, copy)
     except OSError:
         shutil.copy2(made, copy)
@@ -41,6 +38,10 @@ def copy_for(name, lines, folder):
     Path(folder, "crates.txt").write_text("".join(lines[it] + "\n" for it in names))
     shutil.copy(TOP / "HANDLES", folder)
     for it in names:
-        left_out = shutil.ignore_patterns("wrong", "must-fail", *["incremental"] * (it != name))
-        shutil.copytree(CRATES / it, Path(folder, "crates", it), ignore=left_out, copy_function=shutil.copy2 if it == name else link)
+        left_out = shutil.ignore_patterns("wrong", "must-fail", *["out"] * (it != name))
+        shutil.copytree(CRATES / it, Path(folder, "crates", it), ignore=left_out)
+        if it != name and (CRATES / it / "out").exists():
+            # These are large, and nobody writes into them: who makes a library anew makes new files.
+            made = Path(folder, "crates", it, "out")
+            shutil.copytree(CRATES / it / "out", made, ignore=shutil.ignore_patterns("incremental"), copy_function=link)
     return Path(folder, "crates", name)
