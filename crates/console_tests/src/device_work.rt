@@ -1,8 +1,9 @@
 // Device work over images that no file is: each line, and what it prints.
-use crate::host::{Host, opened};
+use crate::host::opened;
 use base_image::{FailingImage, Image, ImageFault, MemoryImage, ZeroImage};
 use bytes::Bytes;
 use host_console::{Teller, run_keeper};
+use script_host::Host;
 use script_run::ScriptEnd;
 use std::alloc::Global;
 use std::process::Abort;

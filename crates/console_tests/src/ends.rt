@@ -1,8 +1,9 @@
 // How a script's run at a host's keeper ends where its input or its output fails.
 use crate::fakes::{Narrow, Pieces};
-use crate::host::{Host, opened};
+use crate::host::opened;
 use base_image::ZeroImage;
 use host_console::{Teller, run_keeper};
+use script_host::Host;
 use script_run::ScriptEnd;
 use std::alloc::Global;
 use std::io::ErrorKind;

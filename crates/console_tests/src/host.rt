@@ -1,14 +1,8 @@
-// The keeper of the history, as the program gives it to a console; no crate can call a program.
+// The keeper of a history.
 
-use dispatch_core::SectorView;
 use history::Keeper;
-use host_console::{Content, Keeps};
-use look_text::put_look;
-use plain_machine::{Answer, Call, EntityView, RequestView, Work};
-use script_line::Look;
 use sector_core::{Config, ConfigDraft};
 use std::alloc::Global;
-use std::io;
 use std::test::Fail;
 
 /// The keeper of the default configuration, over an image of so many sectors, before its first call.
@@ -26,63 +20,5 @@ fn checked(draft: ConfigDraft) -> Result<Config, Fail> {
     match Config::check(draft) {
         Ok(config) => Ok(config),
         Err(_) => Err(Fail::from("a configuration within its limits")),
-    }
-}
-
-/// A keeper that a script is run at.
-#[derive(Drop)]
-pub struct Host {
-    /// The keeper.
-    pub keeper: Keeper,
-}
-
-impl Keeps for Host {
-    ghost state = { λ host. host.keeper.state };
-
-    fn call(&mut self, alloc: Global, call: &Call) -> Answer {
-        self.keeper.call(alloc, call)
-    }
-
-    fn work(&self, tag: u8, issue: u64) -> Option<Work> {
-        match self.keeper.view().machine().in_flight(tag) {
-            Some(work) if work.issue == issue => Some(work),
-            _ => None,
-        }
-    }
-
-    fn sector(&self, number: u64) -> Content<'_> {
-        match self.keeper.view().machine().sector(number) {
-            SectorView::Outside => Content::Outside,
-            SectorView::Base => Content::Base,
-            SectorView::Stored(block) => Content::Stored(block),
-        }
-    }
-
-    fn request(&self, seat: u8, place: usize) -> RequestView {
-        self.keeper.view().machine().request(seat, place)
-    }
-
-    fn vtime(&self, group: u8) -> Option<u64> {
-        self.keeper.view().machine().vtime(group)
-    }
-
-    fn entity(&self, number: u8) -> Option<EntityView> {
-        self.keeper.view().machine().entity(number)
-    }
-
-    fn cursor(&self) -> u32 {
-        self.keeper.view().cursor()
-    }
-
-    fn length(&self) -> u32 {
-        self.keeper.view().length()
-    }
-
-    fn put_look(&self, look: Look, out: &mut Vec<u8>) -> io::Result<()> {
-        put_look(&self.keeper.view(), look, out)
-    }
-
-    fn last_serial(&self) -> u64 {
-        self.keeper.view().last_serial()
     }
 }

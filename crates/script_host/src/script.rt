@@ -15,7 +15,7 @@ use std::io::{Read, Write};
 
 /// Runs the lines of the reader in turn on a new keeper over the image, and writes what each prints before the next runs.
 /// The writer is flushed before each read and at the end; a flush that fails is a write fault. Where there is no memory for
-/// the keeper nothing is read or written, and so nothing flushed.
+/// the keeper nothing is read or written, and so nothing flushed. The keeper and the image are never given back: the process is to end.
 /// So few reads of the image have failed before that those of a script can be counted too.
 pub fn run_script<R: Read, W: Write, I: Image + Drop>(
     alloc: Global,
@@ -39,6 +39,6 @@ pub fn run_script<R: Read, W: Write, I: Image + Drop>(
     let Ok(teller) = Box::new(alloc, teller) else {
         return ScriptEnd::OutOfMemory;
     };
-    // The process ends after the run. To give back what the history keeps, block by block, would take a part of its time.
+    // To give back what the history keeps, block by block, would take a part of the run's time.
     run_keeper(alloc, reader, writer, Box::leak(teller))
 }
