@@ -1,4 +1,3 @@
-pub mod Takes
 pub mod Rules
 pub mod Rows
 pub mod Ends

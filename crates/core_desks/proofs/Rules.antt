@@ -19,7 +19,7 @@ use Rattle.host_calls.specs.declared.ring.RingReply.TheVariants.{Answer as Answe
 use Rattle.host_calls.specs.declared.seat.SeatName.{SeatName}
 use Rattle.host_calls.specs.declared.seat.SeatName.TheVariants.{Client, Device, Operator}
 use Rattle.host_calls.specs.Frames.{HasFrame}
-use Rattle.host_book.specs.Journal.{Entry, calls_of}
+use Rattle.host_journal.specs.Journal.{Entry, calls_of}
 use Rattle.reply_laws.specs.Answered.{IsAnswer, ClientsAreAnswered, OperatorIsAnswered}
 use Rattle.seats.specs.Kinds.{is_client_step, is_client_call, is_operator_step, is_operator_call, IsOfKind}
 use Rattle.seats.specs.Rules.{IsFinal, IsForClients}

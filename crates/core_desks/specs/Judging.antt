@@ -1,18 +1,15 @@
 -- What the core answers to what waits at a seat.
-use Rattle.std.specs.Prelude.{◌≡◌, ◌≢◌, ℕ, Bool, true, false, List, Option, None, Some}
+use Rattle.std.specs.Prelude.{◌≡◌, ℕ, Bool, true, false, List, Option}
 use Rattle.plain_machine.specs.declared.answer.Answer.{Answer}
 use Rattle.plain_machine.specs.declared.answer.Answer.TheVariants.{Accepted, Refused, NotYet}
 use Rattle.plain_machine.specs.declared.answer.Cause.{Cause}
-use Rattle.plain_machine.specs.declared.answer.Cause.TheVariants.{Held, NothingToTake}
-use Rattle.plain_machine.specs.declared.answer.Code.TheVariants.{BadWorker}
-use Rattle.plain_machine.specs.declared.answer.Reply.TheVariants.{Taken}
-use Rattle.plain_machine.specs.declared.answer.Work.{Work}
-use Rattle.plain_machine.specs.Keeper.{State, machine_of, replay}
+use Rattle.plain_machine.specs.declared.answer.Cause.TheVariants.{Held}
+use Rattle.plain_machine.specs.Keeper.{replay}
 use Rattle.plain_machine.specs.Step.{Limits}
-use Rattle.device_take.specs.Takes.{IsBest}
 use Rattle.host_calls.specs.declared.seat.SeatName.{SeatName}
 use Rattle.host_calls.specs.declared.seat.SeatName.TheVariants.{Device, Operator}
-use Rattle.host_book.specs.Journal.{Entry, calls_of, entered_by, Allows}
+use Rattle.host_journal.specs.Journal.{Entry, calls_of, entered_by, Allows}
+use Rattle.host_journal.specs.Takes.{TakeRule}
 use Rattle.seats.specs.declared.asked.Asked.{Asked}
 use Rattle.seats.specs.declared.asked.Asked.TheVariants.{Ask, Take, Stop}
 
@@ -20,18 +17,6 @@ use Rattle.seats.specs.declared.asked.Asked.TheVariants.{Ask, Take, Stop}
 abbrev pub own_number : SeatName → ℕ
 own_number (Device n) = n
 own_number other = 0
-
--- work, or that there is none yet
-abbrev pub of_best : Option Work → Answer
-of_best None = NotYet NothingToTake
-of_best (Some work) = Accepted (Taken work)
-
--- a Take at a device's seat, on a keeper, where these are the issues that the devices took last: not while the host is held, not under
--- another's number, and then the device's next work (our profile)
-pub record TakeRule (k : State) (own worker : ℕ) (lasts : List (Option ℕ)) (answer : Answer) : Type 0 where
-  pub held : k.held ≡ true → answer ≡ NotYet Held
-  pub stranger : k.held ≡ false → worker ≢ own → answer ≡ Refused BadWorker
-  pub takes : k.held ≡ false → worker ≡ own → (best : Option Work) × IsBest (machine_of k) lasts own best × (answer ≡ of_best best)
 
 -- what the core may answer to what is asked at the seat of a name, after these entries; nothing to Stop
 abbrev pub JudgedBy : Limits → ℕ → SeatName → List (Option ℕ) → List Entry → Asked → Answer → Type 0

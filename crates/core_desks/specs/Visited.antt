@@ -1,6 +1,6 @@
 -- A visit, by what it came to.
 use Rattle.std.specs.Prelude.{◌≡◌, ℕ, List, Option, None, Some}
-use Rattle.host_book.specs.Journal.{Pages}
+use Rattle.host_journal.specs.Journal.{Pages}
 use Rattle.seats.specs.Rows.{Row}
 use Rattle.core_desks.specs.Visits.{Serves, Idles, Stops, IsReady}
 use Rattle.core_desks.specs.declared.visit.Came.{Came}

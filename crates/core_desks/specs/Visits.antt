@@ -8,7 +8,7 @@ use Rattle.host_calls.specs.declared.ring.RingReply.{RingReply}
 use Rattle.host_calls.specs.declared.ring.RingReply.TheVariants.{Answer as Answered}
 use Rattle.host_calls.specs.declared.seat.SeatName.{SeatName}
 use Rattle.host_calls.specs.declared.seat.SeatName.TheVariants.{Operator}
-use Rattle.host_book.specs.Journal.{Pages, Entry}
+use Rattle.host_journal.specs.Journal.{Pages, Entry}
 use Rattle.seats.specs.Kinds.{IsOfKind, AreOfKind}
 use Rattle.seats.specs.Rows.{Row, Took}
 use Rattle.seats.specs.declared.asked.Asked.{Asked}

@@ -10,7 +10,6 @@
 //! | [`Desks::lasts`] | the issue that each device took last, by its number |
 //! | [`Desks::len`] | how many seats there are |
 //! | [`judge_asked`] | the answer is one that the journal's keeper may give, or by the rule of Take; an accepted call of the keeper is the next entry |
-//! | [`take_answer`] | the rule of Take: not while the host is held, not under another device's number, then the device's next work |
 //!
 //! The seats stand in one row: the clients, then the devices, then the operator. A client or a device is answered only what is final:
 //! a call that is not yet right to answer waits at its seat. The operator is told at once, and can be told that it is not yet time
@@ -33,7 +32,7 @@ mod settling;
 mod visit;
 
 pub use desks::Desks;
-pub use judging::{judge_asked, take_answer};
+pub use judging::judge_asked;
 pub use opening::Seats;
 pub use settling::SeatEnd;
 pub use visit::Came;

@@ -4,7 +4,7 @@ use crate::desks::Desks;
 use crate::row::visit_row;
 use crate::visit::{Came, visit_seat};
 use arrayvec::ArrayVec;
-use host_book::Book;
+use host_journal::Judges;
 use reply_laws::{clients_are_answered, operator_is_answered};
 use std::alloc::Global;
 
@@ -35,16 +35,16 @@ impl Desks {
 
     /// Visits the seat at a place: it tries the call that waits there, or else the next one, and answers it if it is not to wait. The
     /// clients stand first, then the devices, then the operator. `lasts` has the issue that each device took last, by its number.
-    pub fn visit(
+    pub fn visit<B: Judges>(
         &mut self,
         alloc: Global,
-        book: &mut Book,
+        book: &mut B,
         lasts: &[Option<u64>],
         place: usize,
     ) -> Option<Came>
         requires ready { AllReady (rows self.old) }
         requires within { place < length (rows self.old) }
-        ensures visited { Changes place (λ r s. VisitsSeat result lasts.now book.old r book.new s) (rows self.old) (rows self.new) }
+        ensures visited { Changes place (λ r s. VisitsSeat result lasts.now (B.pages book.old) r (B.pages book.new) s) (rows self.old) (rows self.new) }
         ensures desks { SameDesks self.old self.new }
     {
         // What the core answers has a frame: laws of the machine of every keeper, which change nothing.

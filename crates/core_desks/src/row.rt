@@ -6,16 +6,16 @@ ghost use Rattle.core_desks.specs.Visits.{AllReady, Changes, MayTell};
 ghost use Rattle.core_desks.specs.Visited.{VisitsSeat};
 
 use crate::visit::{Came, visit_seat};
-use host_book::Book;
 use host_calls::RingReply;
+use host_journal::Judges;
 use rtrb::Protocol;
 use seats::{Desk, Staged};
 use std::alloc::Global;
 
 // Visits the seat at a place of a row.
-pub(crate) fn visit_row<C: Staged, P: Protocol<RingReply>>(
+pub(crate) fn visit_row<B: Judges, C: Staged, P: Protocol<RingReply>>(
     alloc: Global,
-    book: &mut Book,
+    book: &mut B,
     desks: &mut Vec<Desk<C, P>>,
     place: usize,
     lasts: &[Option<u64>],
@@ -23,7 +23,7 @@ pub(crate) fn visit_row<C: Staged, P: Protocol<RingReply>>(
     requires within { place < vec_len desks.old }
     requires ready { AllReady (map (row_of C.asked_by C.named) desks.old.items) }
     requires rule { (n : ℕ) → MayTell (C.named n) P.allows }
-    ensures visited { Changes place (λ r s. VisitsSeat result lasts.now book.old r book.new s)
+    ensures visited { Changes place (λ r s. VisitsSeat result lasts.now (B.pages book.old) r (B.pages book.new) s)
         (map (row_of C.asked_by C.named) desks.old.items) (map (row_of C.asked_by C.named) desks.new.items) }
     ensures desks { SameEach desks.old.items desks.new.items }
     ensures len { vec_len desks.new ≡ vec_len desks.old }

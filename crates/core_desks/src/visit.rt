@@ -6,8 +6,8 @@ ghost use Rattle.core_desks.specs.Visits.{IsReady, MayTell};
 ghost use Rattle.core_desks.specs.Visited.{VisitsSeat};
 
 use crate::judging::judge_asked;
-use host_book::Book;
 use host_calls::{RingReply, SeatName};
+use host_journal::Judges;
 use plain_machine::Answer;
 use rtrb::Protocol;
 use seats::{Desk, Staged};
@@ -23,16 +23,16 @@ pub enum Came {
 }
 
 // Tries the call that waits at a desk, or else the next one of its ring, and answers it if it is not to wait.
-pub(crate) fn visit_seat<C: Staged, P: Protocol<RingReply>>(
+pub(crate) fn visit_seat<B: Judges, C: Staged, P: Protocol<RingReply>>(
     alloc: Global,
-    book: &mut Book,
+    book: &mut B,
     desk: &mut Desk<C, P>,
     lasts: &[Option<u64>],
 ) -> Option<Came>
     requires ready { IsReady (row_of C.asked_by C.named desk.old) }
     requires rule { MayTell (row_of C.asked_by C.named desk.old).name P.allows }
-    ensures visited { VisitsSeat result lasts.now book.old (row_of C.asked_by C.named desk.old)
-        book.new (row_of C.asked_by C.named desk.new) }
+    ensures visited { VisitsSeat result lasts.now (B.pages book.old) (row_of C.asked_by C.named desk.old)
+        (B.pages book.new) (row_of C.asked_by C.named desk.new) }
     ensures desk { SameDesk desk.old desk.new }
 {
     desk.take();

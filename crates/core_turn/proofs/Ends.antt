@@ -2,7 +2,7 @@
 use Rattle.std.proofs.Common.{◌≡◌, ℕ, ◌<◌, List, length, ◌∙◌, sym, subst, Bool, Option, None, Some}
 use Rattle.std.proofs.lemmas.Option.{slice_get_within}
 use Rattle.host_calls.specs.declared.seat.SeatName.{SeatName}
-use Rattle.host_book.specs.Journal.{Pages}
+use Rattle.host_journal.specs.Journal.{Pages}
 use Rattle.seats.specs.Rows.{Row, Took}
 use Rattle.core_desks.specs.Closing.{AllOpen}
 use Rattle.core_desks.specs.Visits.{AllReady}

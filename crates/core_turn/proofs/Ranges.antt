@@ -3,7 +3,7 @@ use Rattle.std.proofs.Common.{◌≡◌, ℕ, zero, suc, ◌+◌, ◌<◌, ◌�
 use Rattle.std.specs.List.{slice_get}
 use Rattle.std.proofs.lemmas.Option.{same_Some}
 use Rattle.host_calls.specs.declared.seat.SeatName.{SeatName}
-use Rattle.host_book.specs.Journal.{Pages}
+use Rattle.host_journal.specs.Journal.{Pages}
 use Rattle.seats.specs.Rows.{Row, Took}
 use Rattle.seats.specs.declared.asked.Asked.{Asked}
 use Rattle.core_desks.specs.Visits.{SamePages, MustWait, AllReady, Changes}

@@ -1,6 +1,6 @@
 -- A round over the seats.
 use Rattle.std.specs.Prelude.{◌≡◌, ℕ, ◌<◌, ◌≤◌, List, length, Option, None, Some, slice_get, ◌⊎◌}
-use Rattle.host_book.specs.Journal.{Pages}
+use Rattle.host_journal.specs.Journal.{Pages}
 use Rattle.seats.specs.Rows.{Row, Took}
 use Rattle.core_desks.specs.Visits.{SamePages, MustWait, AllReady, Changes}
 use Rattle.core_desks.specs.Visited.{VisitsSeat}

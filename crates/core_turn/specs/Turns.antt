@@ -7,7 +7,7 @@ use Rattle.plain_machine.specs.declared.call.Call.TheVariants.{Do}
 use Rattle.plain_machine.specs.declared.step.Step.TheVariants.{Dispatch}
 use Rattle.host_calls.specs.declared.seat.SeatName.{SeatName}
 use Rattle.host_calls.specs.declared.seat.SeatName.TheVariants.{Operator, Core}
-use Rattle.host_book.specs.Journal.{Pages, Allows, calls_of, entered_by}
+use Rattle.host_journal.specs.Journal.{Pages, Allows, calls_of, entered_by}
 use Rattle.seats.specs.Rows.{Row}
 use Rattle.core_desks.specs.Closing.{AllClose}
 use Rattle.core_desks.specs.Visits.{Serves, Stops, Changes}

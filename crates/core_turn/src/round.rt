@@ -6,21 +6,21 @@ ghost use Rattle.core_desks.specs.Visits.{AllReady};
 ghost use Rattle.core_turn.specs.Rounds.{RoundOver};
 
 use core_desks::{Came, Desks};
-use host_book::Book;
+use host_journal::Judges;
 use std::alloc::Global;
 
 // Visits each seat once, from one on, up to the first at which somebody is answered or asks for the end. Gives its place, and what
 // came there.
-pub(crate) fn visit_all(
+pub(crate) fn visit_all<B: Judges>(
     alloc: Global,
-    book: &mut Book,
+    book: &mut B,
     desks: &mut Desks,
     lasts: &[Option<u64>],
     from: usize,
 ) -> Option<(usize, Came)>
     requires ready { AllReady (rows desks.old) }
     requires within { from ≤ length (rows desks.old) }
-    ensures round { RoundOver lasts.now 0 (length (rows desks.old)) book.old (rows desks.old) book.new (rows desks.new) result }
+    ensures round { RoundOver lasts.now 0 (length (rows desks.old)) (B.pages book.old) (rows desks.old) (B.pages book.new) (rows desks.new) result }
     ensures desks { SameDesks desks.old desks.new }
 {
     let count = desks.len();
@@ -31,9 +31,9 @@ pub(crate) fn visit_all(
 }
 
 // Visits the seats at these places.
-fn visit_range(
+fn visit_range<B: Judges>(
     alloc: Global,
-    book: &mut Book,
+    book: &mut B,
     desks: &mut Desks,
     lasts: &[Option<u64>],
     from: usize,
@@ -42,7 +42,7 @@ fn visit_range(
     requires ready { AllReady (rows desks.old) }
     requires within { upto ≤ length (rows desks.old) }
     requires ordered { from ≤ upto }
-    ensures round { RoundOver lasts.now from upto book.old (rows desks.old) book.new (rows desks.new) result }
+    ensures round { RoundOver lasts.now from upto (B.pages book.old) (rows desks.old) (B.pages book.new) (rows desks.new) result }
     ensures desks { SameDesks desks.old desks.new }
 {
     for place in from..upto {

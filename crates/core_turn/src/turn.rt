@@ -7,8 +7,8 @@ ghost use Rattle.core_turn.specs.Turns.{is_accepted, is_starved, Dispatches, IsT
 
 use crate::round::visit_all;
 use core_desks::{Came, Desks};
-use host_book::Book;
 use host_calls::SeatName;
+use host_journal::Judges;
 use plain_machine::{Answer, Call, Code, Step};
 use std::alloc::Global;
 
@@ -34,14 +34,19 @@ pub struct Turned {
 
 /// Visits each seat once, from the place `next` on, up to the first that is answered; then it tries one Dispatch. If the operator asks
 /// for the end, each seat hears it, and nothing is dispatched. `next` is then the place after that of the seat that was answered.
-pub fn take_turn(alloc: Global, book: &mut Book, desks: &mut Desks, next: &mut usize) -> Turned
+pub fn take_turn<B: Judges>(
+    alloc: Global,
+    book: &mut B,
+    desks: &mut Desks,
+    next: &mut usize,
+) -> Turned
     requires ready { AllReady (rows desks.old) }
     requires within { next.old < length (rows desks.old) }
     ensures turn { result.report.ended ≡ false
-        → (t : IsTurn (lasts desks.old) book.old (rows desks.old) book.new (rows desks.new) result.report.answered result.report.dispatched)
+        → (t : IsTurn (lasts desks.old) (B.pages book.old) (rows desks.old) (B.pages book.new) (rows desks.new) result.report.answered result.report.dispatched)
         × (result.starved ≡ is_starved t.dispatch.answer) }
     ensures last { result.report.ended ≡ true
-        → IsLastTurn book.old (rows desks.old) book.new (rows desks.new) result.report.answered result.report.dispatched }
+        → IsLastTurn (B.pages book.old) (rows desks.old) (B.pages book.new) (rows desks.new) result.report.answered result.report.dispatched }
     ensures ready { result.report.ended ≡ false → AllReady (rows desks.new) }
     ensures within { next.new < length (rows desks.new) }
     ensures desks { SameDesks desks.old desks.new }
@@ -77,8 +82,8 @@ fn place_after(place: usize, count: usize) -> usize
 
 // Tries one Dispatch in a turn in which this seat was answered, if one was. If it is accepted it is the next entry, under the core's
 // own name.
-fn dispatch(alloc: Global, book: &mut Book, answered: Option<SeatName>) -> Turned
-    ensures dispatch { (d : Dispatches book.old book.new result.report.dispatched) × (result.starved ≡ is_starved d.answer) }
+fn dispatch<B: Judges>(alloc: Global, book: &mut B, answered: Option<SeatName>) -> Turned
+    ensures dispatch { (d : Dispatches (B.pages book.old) (B.pages book.new) result.report.dispatched) × (result.starved ≡ is_starved d.answer) }
     ensures answered { result.report.answered ≡ answered }
     ensures ended { result.report.ended ≡ false }
 {

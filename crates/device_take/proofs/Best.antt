@@ -5,7 +5,8 @@ use Rattle.change_record.specs.Machine.{Plain}
 use Rattle.dispatch_core.specs.Running.{Running, plain_of, IsFor}
 use Rattle.plain_machine.specs.declared.answer.Work.{Work}
 use Rattle.plain_machine.specs.Device.{work_of}
-use Rattle.device_take.specs.Takes.{IsOthers, IsFree, IsBest, IsBestOf, IsNearer}
+use Rattle.host_journal.specs.Takes.{IsOthers, IsFree, IsBest, IsBestOf}
+use Rattle.device_take.specs.Nearer.{IsNearer}
 
 -- a tag below the next is below this, or this
 below-next : (t n : ℕ) → t < n + 1 → (t < n) ⊎ (t ≡ n)

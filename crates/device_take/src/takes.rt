@@ -1,7 +1,8 @@
 // The choice of a device's next work.
 ghost use Rattle.std.specs.Prelude.{◌≡◌, ℕ, IsTrue, IsFalse};
 ghost use Rattle.dispatch_core.specs.Running.{plain_of, IsFor};
-ghost use Rattle.device_take.specs.Takes.{IsOthers, IsBest, IsNearer};
+ghost use Rattle.host_journal.specs.Takes.{IsOthers, IsBest};
+ghost use Rattle.device_take.specs.Nearer.{IsNearer};
 
 use dispatch_core::{View, Work};
 

@@ -14,7 +14,8 @@ use Rattle.plain_machine.specs.declared.answer.Cause.TheVariants.{Held}
 use Rattle.plain_machine.specs.Step.{step}
 use Rattle.plain_machine.specs.Keeper.{State, machine_of, has_room, entered, did, called, MayCall, replay}
 use Rattle.host_calls.specs.declared.seat.SeatName.{SeatName}
-use Rattle.host_book.specs.Journal.{entries, calls_of, entered_by, Allows, Pages, IsBook}
+use Rattle.host_journal.specs.Journal.{calls_of, entered_by, Allows, Pages}
+use Rattle.host_book.specs.Names.{entries, IsBook}
 use Rattle.std.specs.List.{slice_get}
 use Rattle.std.proofs.lemmas.List.{length-append}
 use Rattle.std.proofs.lemmas.Option.{same_Some}

@@ -4,7 +4,7 @@ ghost use Rattle.std.specs.Option.{option_map};
 ghost use Rattle.plain_machine.specs.Step.{of_sizes};
 ghost use Rattle.dispatch_core.specs.Running.{sizes_of};
 ghost use Rattle.plain_machine.specs.Keeper.{replay};
-ghost use Rattle.host_book.specs.Journal.{Allows, calls_of, entered_by, shown_entry};
+ghost use Rattle.host_journal.specs.Journal.{Allows, calls_of, entered_by, shown_entry};
 
 use change_record::push_within;
 use history::{Keeper, KeeperView};
@@ -23,7 +23,8 @@ pub struct Book {
 
 impl Model for Book {
     ghost use Rattle.std.specs.Prelude.{vec_len, vec_capacity};
-    ghost use Rattle.host_book.specs.Journal.{Pages, IsBook, entries};
+    ghost use Rattle.host_journal.specs.Journal.{Pages};
+    ghost use Rattle.host_book.specs.Names.{IsBook, entries};
 
     ghost Value = { Pages };
 

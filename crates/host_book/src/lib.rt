@@ -5,6 +5,7 @@
 //! |---|---|
 //! | [`Book::new`] | no entries yet |
 //! | [`Book::judge`] | the answer is one that the keeper of the journal may give; an accepted call is the next entry, under its seat's name |
+//! | [`Book::take`] | the rule of Take: not while the host is held, not under another device's number, then the device's next work |
 //! | [`Book::view`] | the keeper is what comes of the entries' calls, one after the other |
 //! | [`Book::entry`] | the entry of a number, from 0 |
 //!
@@ -17,5 +18,7 @@
 //! ```
 
 mod book;
+mod judging;
+mod taking;
 
 pub use book::Book;

@@ -7,7 +7,7 @@ use Rattle.plain_machine.specs.declared.call.Call.TheVariants.{Do}
 use Rattle.plain_machine.specs.declared.step.Step.TheVariants.{Dispatch}
 use Rattle.host_calls.specs.declared.seat.SeatName.{SeatName}
 use Rattle.host_calls.specs.declared.seat.SeatName.TheVariants.{Core}
-use Rattle.host_book.specs.Journal.{Pages, Entry}
+use Rattle.host_journal.specs.Journal.{Pages, Entry}
 use Rattle.seats.specs.Rows.{Row, Took}
 use Rattle.seats.specs.declared.asked.Asked.TheVariants.{Ask}
 use Rattle.core_desks.specs.Visits.{SamePages, Serves, Changes}

@@ -3,7 +3,7 @@ use Rattle.std.proofs.Common.{true, false, Bool, ◌≡◌, ℕ, ◌≤◌, List
 use Rattle.host_calls.specs.declared.ring.RingReply.{RingReply}
 use Rattle.host_calls.specs.declared.ring.RingReply.TheVariants.{Answer as Answered}
 use Rattle.host_calls.specs.declared.seat.SeatName.{SeatName}
-use Rattle.host_book.specs.Journal.{Pages}
+use Rattle.host_journal.specs.Journal.{Pages}
 use Rattle.seats.specs.Rows.{Row}
 use Rattle.seats.specs.Settling.{AreSettled}
 use Rattle.seats.specs.declared.asked.Asked.{Asked}

@@ -3,7 +3,7 @@ use Rattle.std.proofs.Common.{false, ◌≡◌, ◌≢◌, ℕ, ◌==◌, List, 
 use Rattle.host_calls.specs.declared.ring.RingReply.TheVariants.{Answer as Answered}
 use Rattle.host_calls.specs.declared.seat.SeatName.{SeatName}
 use Rattle.host_calls.specs.declared.seat.SeatName.TheVariants.{Core}
-use Rattle.host_book.specs.Journal.{Pages}
+use Rattle.host_journal.specs.Journal.{Pages}
 use Rattle.seats.specs.Rows.{Row}
 use Rattle.seat_account.proofs.Accounts.{account-none}
 use Rattle.seats.specs.Seats.{IsFresh, AreBeside}

@@ -7,7 +7,7 @@ use Rattle.plain_machine.specs.declared.answer.Answer.TheVariants.{Accepted, Ref
 use Rattle.host_calls.specs.declared.ring.RingReply.TheVariants.{Answer as Answered, Closed as Ended}
 use Rattle.host_calls.specs.declared.seat.SeatName.{SeatName}
 use Rattle.host_calls.specs.declared.seat.SeatName.TheVariants.{Client, Device, Operator, Core}
-use Rattle.host_book.specs.Journal.{Pages, Entry}
+use Rattle.host_journal.specs.Journal.{Pages, Entry}
 use Rattle.seats.specs.Rows.{Row, Took}
 use Rattle.seats.specs.declared.asked.Asked.{Asked}
 use Rattle.seats.specs.declared.asked.Asked.TheVariants.{Ask, Take, Stop}

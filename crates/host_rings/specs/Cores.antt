@@ -1,6 +1,6 @@
 -- What is seen of a core.
 use Rattle.std.specs.Prelude.{ℕ, Bool, List, Option}
-use Rattle.host_book.specs.Journal.{Pages}
+use Rattle.host_journal.specs.Journal.{Pages}
 use Rattle.seats.specs.Rows.{Row}
 use Rattle.core_desks.specs.Desks.{rows, lasts}
 use Rattle.core_desks.specs.Same.{SameDesks}

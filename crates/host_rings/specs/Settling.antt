@@ -5,7 +5,7 @@ use Rattle.host_calls.specs.declared.operator.OperatorCall.{OperatorCall}
 use Rattle.plain_machine.specs.declared.call.DeviceCall.{DeviceCall}
 use Rattle.rtrb.specs.declared.AnyItems.{AnyItems}
 use Rattle.host_calls.specs.declared.ring.RingReply.TheVariants.{Answer as Answered}
-use Rattle.host_book.specs.Journal.{Pages}
+use Rattle.host_journal.specs.Journal.{Pages}
 use Rattle.seats.specs.Rows.{Row}
 use Rattle.seat_account.specs.Account.{IsFirstPart}
 use Rattle.seats.specs.Seats.{AreBeside}

@@ -47,7 +47,7 @@ impl Core {
     ghost use Rattle.std.specs.Prelude.{None, slice_get};
     ghost use Rattle.std.specs.Option.{option_map};
     ghost use Rattle.plain_machine.specs.Keeper.{replay};
-    ghost use Rattle.host_book.specs.Journal.{calls_of, shown_entry};
+    ghost use Rattle.host_journal.specs.Journal.{calls_of, shown_entry};
     ghost use Rattle.core_turn.specs.Turns.{is_starved, IsTurn, IsLastTurn};
     ghost use Rattle.host_rings.specs.Cores.{pages, seats_of, last_works, has_ended, is_starving, SameSeats};
 

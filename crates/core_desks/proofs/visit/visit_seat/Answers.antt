@@ -8,7 +8,7 @@ use Rattle.core_desks.proofs.visit.visit_seat.Goals as goal
 
 pub returns-clause-visited : goal.returns-clause-visited
 returns-clause-visited g c =
-    served g.P.Protocol.allows c.args.lasts.now c.args.book.now c.judge_asked.new.book
+    served g.P.Protocol.allows c.args.lasts.now (g.B.Judges.pages c.args.book.now) (g.B.Judges.pages c.judge_asked.new.book)
     (row_of g.C.Staged.asked_by g.C.Staged.named c.args.desk.now) (row_of g.C.Staged.asked_by g.C.Staged.named c.take.new.self)
     (row_of g.C.Staged.asked_by g.C.Staged.named c.answer-2.new.self) c.name-name.result c.in-Some.asked.now c.in-Some-judge_asked.answer
     c.requires.ready c.requires.rule c.take.ensures.took c.name-name.ensures

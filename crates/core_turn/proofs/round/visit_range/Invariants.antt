@@ -4,4 +4,4 @@ use Rattle.core_turn.specs.Rounds.{Passes}
 use Rattle.core_turn.proofs.round.visit_range.Given as goal
 
 abbrev pub invariant-loop-place : goal.invariant-loop-place
-invariant-loop-place l = Passes l.fn.lasts l.fn.from l.place l.fn.book (rows l.fn.desks) l.book (rows l.desks) × SameDesks l.fn.desks l.desks
+invariant-loop-place g l = Passes l.fn.lasts l.fn.from l.place (g.B.Judges.pages l.fn.book) (rows l.fn.desks) (g.B.Judges.pages l.book) (rows l.desks) × SameDesks l.fn.desks l.desks

@@ -1,7 +1,7 @@
 use Rattle.core_turn.proofs.turn.dispatch.Goals as goal
 
 pub returns-clause-dispatch : goal.returns-clause-dispatch
-returns-clause-dispatch c = let judged = c.judge-answer.ensures in (
+returns-clause-dispatch g c = let judged = c.judge-answer.ensures in (
   record {
     answer = c.judge-answer.result;
     allows = judged.allows;

@@ -1,6 +1,6 @@
 use Rattle.std.proofs.Common.{ℕ, ◌<◌}
 use Rattle.dispatch_core.specs.Running.{plain_of, IsFor}
-use Rattle.device_take.specs.Takes.{IsBestOf}
+use Rattle.host_journal.specs.Takes.{IsBestOf}
 use Rattle.device_take.proofs.takes.take_work.Given as goal
 
 -- of the tags that were looked at, the best

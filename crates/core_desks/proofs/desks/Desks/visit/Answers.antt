@@ -10,35 +10,35 @@ use Rattle.core_desks.proofs.Same.{same-none, each-none}
 use Rattle.core_desks.proofs.desks.Desks.visit.Goals as goal
 
 pub visit_row-requires-clause-ready : goal.visit_row-requires-clause-ready
-visit_row-requires-clause-ready c = let d = c.args.self.now in
+visit_row-requires-clause-ready g c = let d = c.args.self.now in
     ready-left (caller_rows d) (device_rows d ++ operator_row d ∷ []) c.requires.ready
 
 pub visit_row-requires-clause-rule : goal.visit_row-requires-clause-rule
-visit_row-requires-clause-rule c = client-told c.clients_are_answered.ensures
+visit_row-requires-clause-rule g c = client-told c.clients_are_answered.ensures
 
 pub visit_row-requires-then-number-len-clause-ready : goal.visit_row-requires-then-number-len-clause-ready
-visit_row-requires-then-number-len-clause-ready c = let d = c.args.self.now in
+visit_row-requires-then-number-len-clause-ready g c = let d = c.args.self.now in
     ready-left (device_rows d) (operator_row d ∷ []) (ready-right (caller_rows d) (device_rows d ++ operator_row d ∷ []) c.requires.ready)
 
 pub visit_seat-requires-clause-ready : goal.visit_seat-requires-clause-ready
-visit_seat-requires-clause-ready c = let d = c.args.self.now in
+visit_seat-requires-clause-ready g c = let d = c.args.self.now in
     ready-right (device_rows d) (operator_row d ∷ []) (ready-right (caller_rows d) (device_rows d ++ operator_row d ∷ []) c.requires.ready) 0 (operator_row d) refl
 
 pub visit_seat-requires-clause-rule : goal.visit_seat-requires-clause-rule
-visit_seat-requires-clause-rule c = operator-told c.operator_is_answered.ensures
+visit_seat-requires-clause-rule g c = operator-told c.operator_is_answered.ensures
 
 pub returns-then-place-callers-clause-visited : goal.returns-then-place-callers-clause-visited
-returns-then-place-callers-clause-visited c = let d = c.args.self.now in
+returns-then-place-callers-clause-visited g c = let d = c.args.self.now in
     changes-left _ (caller_rows d) _ (device_rows d ++ operator_row d ∷ []) c.args.place c.visit_row.ensures.visited
 
 pub returns-then-number-len-clause-visited : goal.returns-then-number-len-clause-visited
-returns-then-number-len-clause-visited c = let d = c.args.self.now in let number = c.args.place - c.len-callers.result in
+returns-then-number-len-clause-visited g c = let d = c.args.self.now in let number = c.args.place - c.len-callers.result in
     changes-right _ (caller_rows d) (device_rows d ++ operator_row d ∷ []) _ number c.args.place
     (omega (arith, c.if-place-callers.false, c.len-callers.ensures, d.callers.ok.0, length-map d.callers.items (row_of client_asked Client)))
     (changes-left _ (device_rows d) _ (operator_row d ∷ []) number c.visit_row-then-number-len.ensures.visited)
 
 pub returns-clause-visited : goal.returns-clause-visited
-returns-clause-visited c = let d = c.args.self.now in let n = length (device_rows d) in
+returns-clause-visited g c = let d = c.args.self.now in let n = length (device_rows d) in
     changes-right _ (caller_rows d) (device_rows d ++ operator_row d ∷ []) _ n c.args.place
     (omega (
       arith,
@@ -58,10 +58,10 @@ returns-clause-visited c = let d = c.args.self.now in let n = length (device_row
     (changes-one _ (operator_row d) _ c.visit_seat.ensures.visited))
 
 pub returns-then-place-callers-clause-desks : goal.returns-then-place-callers-clause-desks
-returns-then-place-callers-clause-desks c = let d = c.args.self.now in (c.visit_row.ensures.desks, each-none d.devices.items, same-none d.operator)
+returns-then-place-callers-clause-desks g c = let d = c.args.self.now in (c.visit_row.ensures.desks, each-none d.devices.items, same-none d.operator)
 
 pub returns-then-number-len-clause-desks : goal.returns-then-number-len-clause-desks
-returns-then-number-len-clause-desks c = let d = c.args.self.now in (each-none d.callers.items, c.visit_row-then-number-len.ensures.desks, same-none d.operator)
+returns-then-number-len-clause-desks g c = let d = c.args.self.now in (each-none d.callers.items, c.visit_row-then-number-len.ensures.desks, same-none d.operator)
 
 pub returns-clause-desks : goal.returns-clause-desks
-returns-clause-desks c = let d = c.args.self.now in (each-none d.callers.items, each-none d.devices.items, c.visit_seat.ensures.desk)
+returns-clause-desks g c = let d = c.args.self.now in (each-none d.callers.items, each-none d.devices.items, c.visit_seat.ensures.desk)

@@ -1,8 +1,14 @@
--- What a device takes: of the requests in flight that no other device took last, the one of least issue (our profile).
-use Rattle.std.specs.Prelude.{◌≡◌, ◌≢◌, ℕ, ◌<◌, ◌≤◌, List, Option, None, Some, slice_get, ◌⊎◌}
+-- What a device takes: of the requests in flight that no other device took last, the one of least issue (our profile). And the rule of Take.
+use Rattle.std.specs.Prelude.{◌≡◌, ◌≢◌, ℕ, ◌≤◌, true, false, List, Option, None, Some, slice_get}
 use Rattle.std.specs.Option.{option_map}
 use Rattle.change_record.specs.Machine.{Plain}
+use Rattle.plain_machine.specs.declared.answer.Answer.{Answer}
+use Rattle.plain_machine.specs.declared.answer.Answer.TheVariants.{Accepted, Refused, NotYet}
+use Rattle.plain_machine.specs.declared.answer.Cause.TheVariants.{Held, NothingToTake}
+use Rattle.plain_machine.specs.declared.answer.Code.TheVariants.{BadWorker}
+use Rattle.plain_machine.specs.declared.answer.Reply.TheVariants.{Taken}
 use Rattle.plain_machine.specs.declared.answer.Work.{Work}
+use Rattle.plain_machine.specs.Keeper.{State, machine_of}
 use Rattle.plain_machine.specs.Device.{work_of}
 
 -- another device took this issue last
@@ -30,7 +36,14 @@ IsBestOf Among m lasts own (Some work) = IsLeast Among m lasts own work
 abbrev pub IsBest : Plain → List (Option ℕ) → ℕ → Option Work → Type 0
 IsBest m lasts own best = IsBestOf (λ tag. Unit {0}) m lasts own best
 
--- the one of lesser issue
-abbrev pub IsNearer : Option Work → Work → Option Work → Type 0
-IsNearer None work result = result ≡ Some work
-IsNearer (Some known) work result = ((known.issue ≤ work.issue) × (result ≡ Some known)) ⊎ ((work.issue < known.issue) × (result ≡ Some work))
+-- work, or that there is none yet
+abbrev pub of_best : Option Work → Answer
+of_best None = NotYet NothingToTake
+of_best (Some work) = Accepted (Taken work)
+
+-- a Take at a device's seat, on a keeper, where these are the issues that the devices took last: not while the host is held, not under
+-- another's number, and then the device's next work (our profile)
+pub record TakeRule (k : State) (own worker : ℕ) (lasts : List (Option ℕ)) (answer : Answer) : Type 0 where
+  pub held : k.held ≡ true → answer ≡ NotYet Held
+  pub stranger : k.held ≡ false → worker ≢ own → answer ≡ Refused BadWorker
+  pub takes : k.held ≡ false → worker ≡ own → (best : Option Work) × IsBest (machine_of k) lasts own best × (answer ≡ of_best best)

@@ -1,6 +1,6 @@
 -- The core's journal: the accepted calls, each under the name of its seat.
 use denote.Ref.{Bor}
-use Rattle.std.specs.Prelude.{◌≡◌, ℕ, ◌≤◌, List, [], ◌∷◌, ◌++◌, length, map}
+use Rattle.std.specs.Prelude.{ℕ, List, [], ◌∷◌, ◌++◌, map}
 use Rattle.plain_machine.specs.declared.call.Call.{Call}
 use Rattle.plain_machine.specs.declared.answer.Answer.{Answer}
 use Rattle.plain_machine.specs.declared.answer.Answer.TheVariants.{Accepted, Refused, NotYet}
@@ -12,12 +12,6 @@ use Rattle.host_calls.specs.declared.seat.SeatName.{SeatName}
 pub record Entry : Type 0 where
   pub name : SeatName
   pub call : Call
-
--- the entries of as many names and calls
-abbrev pub entries : List SeatName → List Call → List Entry
-entries [] calls = []
-entries (name ∷ names) [] = []
-entries (name ∷ names) (call ∷ calls) = record { name = name; call = call } ∷ entries names calls
 
 -- the calls of a journal, in order
 abbrev pub calls_of : List Entry → List Call
@@ -42,11 +36,3 @@ pub record Pages : Type 0 where
   pub limits : Limits
   pub most : ℕ
   pub entries : List Entry
-
--- each entry of the keeper's journal has a name, there is room for the names of all that it may hold, and it is the replay of its journal
-pub record IsBook (k : State) (names : List SeatName) (len capacity : ℕ) : Type 0 where
-  pub counted : len ≡ length names
-  pub even : length names ≡ length k.journal
-  pub room : k.most ≤ capacity
-  pub few : length k.journal ≤ k.most
-  pub replays : k ≡ replay k.limits k.most k.journal

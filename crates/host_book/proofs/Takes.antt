@@ -5,8 +5,7 @@ use Rattle.change_record.specs.Machine.{Plain}
 use Rattle.plain_machine.specs.Keeper.{State, machine_of}
 use Rattle.plain_machine.specs.declared.answer.Answer.{Answer}
 use Rattle.plain_machine.specs.declared.answer.Work.{Work}
-use Rattle.device_take.specs.Takes.{IsBest}
-use Rattle.core_desks.specs.Judging.{TakeRule, of_best}
+use Rattle.host_journal.specs.Takes.{IsBest, TakeRule, of_best}
 
 pub take-rule : (k s : State) (own worker : ℕ) (lasts : List (Option ℕ)) (m : Plain) (best : Option Work) (answer : Answer)
     → s ≡ k → s.held ≡ false → worker ≡ own → m ≡ machine_of s → IsBest m lasts own best → answer ≡ of_best best → TakeRule k own worker lasts answer
