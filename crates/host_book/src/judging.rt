@@ -16,4 +16,8 @@ impl Judges for Book {
     fn take(&self, lasts: &[Option<u64>], own: u8, worker: u8) -> Answer {
         Book::take(self, lasts, own, worker)
     }
+
+    fn entry(&self, at: usize) -> Option<(SeatName, &Call)> {
+        Book::entry(self, at)
+    }
 }

@@ -1,7 +1,8 @@
 // What a core asks of whoever keeps its journal.
-ghost use Rattle.std.specs.Prelude.{◌≡◌};
+ghost use Rattle.std.specs.Prelude.{◌≡◌, slice_get};
+ghost use Rattle.std.specs.Option.{option_map};
 ghost use Rattle.plain_machine.specs.Keeper.{replay};
-ghost use Rattle.host_journal.specs.Journal.{Pages, Allows, calls_of, entered_by};
+ghost use Rattle.host_journal.specs.Journal.{Pages, Allows, calls_of, entered_by, shown_entry};
 ghost use Rattle.host_journal.specs.Takes.{TakeRule};
 
 use host_calls::SeatName;
@@ -24,4 +25,8 @@ pub trait Judges {
     /// each device took last, by its number.
     fn take(&self, lasts: &[Option<u64>], own: u8, worker: u8) -> Answer
         ensures { TakeRule (replay (pages self.now).limits (pages self.now).most (calls_of (pages self.now).entries)) own worker lasts.now result };
+
+    /// The entry of a number, from 0: whose it is, and the call.
+    fn entry(&self, at: usize) -> Option<(SeatName, &Call)>
+        ensures { option_map shown_entry result ≡ slice_get (pages self.now).entries at };
 }

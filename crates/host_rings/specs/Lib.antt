@@ -1,6 +1,1 @@
-pub mod Names
-pub mod Keeping
-pub mod Cores
-pub mod Opening
-pub mod Running
-pub mod Settling
+pub mod Workers

@@ -1,17 +1,12 @@
 #![tactic(auto)]
-//! A host's core and the seats of its clients, its devices and its operator.
+//! A host's core over its machine, and the seats of its clients, its devices and its operator.
 //!
 //! | call | rule that it meets |
 //! |---|---|
 //! | [`host`] | a core and its seats, to which nothing has come; so many workers as it may have |
-//! | [`Core::turn`] | at most one call is answered, then one Dispatch is tried; the calls and answers of every seat fit the one journal; after the end nothing changes |
-//! | [`Core::run`] | it is a number of turns, and the core has ended; `run_watched` shows the core after each turn |
-//! | [`Core::finish`], [`settle`] | what a seat staged is what was taken and then what is left; what it collected are the first of what it was given |
-//! | [`Core::view`] | the keeper is what comes of the entries' calls, one after the other |
-//! | [`Core::entry`] | the entry of a number, from 0 |
 //!
-//! Each seat has two rings, one for its calls and one for its replies. The core owns the machine. Between it and the seats stands no
-//! lock: a seat may work on a thread of its own.
+//! What a core and its seats do, [`Core`] has from `host_core`, over the book of `host_book`: the keeper, and the names of its journal's
+//! entries.
 //!
 //! ```text
 //! let (mut core, mut callers, devices, operator) = host(alloc, config, 64, 2)?;
@@ -21,13 +16,6 @@
 //! ```
 
 mod opening;
-mod running;
-mod settling;
-mod turns;
 
-pub use core_desks::SeatEnd;
-pub use core_turn::TurnReport;
-pub use opening::{Caller, DeviceSeat, HostFault, OperatorSeat, host};
-pub use seats::Settled;
-pub use settling::{CoreEnd, NotSettled, settle};
-pub use turns::Core;
+pub use host_core::{Caller, DeviceSeat, NotSettled, OperatorSeat, SeatEnd, Settled, TurnReport, settle};
+pub use opening::{Core, CoreEnd, HostFault, host};

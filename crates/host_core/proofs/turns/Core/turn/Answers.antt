@@ -1,0 +1,26 @@
+use Rattle.std.proofs.Math.Logic.{∥∥₁_map}
+use Rattle.core_desks.specs.Desks.{rows, lasts}
+use Rattle.core_desks.proofs.Same.{desks-none}
+use Rattle.core_desks.proofs.Waiting.{few-devices}
+use Rattle.host_core.proofs.Accounts.{kept-any, named-any, shut-last}
+use Rattle.host_core.proofs.turns.Core.turn.Goals as goal
+
+pub take_turn-starved-requires-clause-ready : goal.take_turn-starved-requires-clause-ready
+take_turn-starved-requires-clause-ready g c = c.args.self.now.ready c.if-self.false
+
+pub invariant_of-self : goal.invariant_of-self
+invariant_of-self g c =
+    let was = c.args.self.now in
+    let now = c.take_turn-starved.new in
+    let report = c.take_turn-starved.result.report in
+    let turn = c.take_turn-starved.ensures in
+    record {
+      kept = ∥∥₁_map was.kept (λ h. kept-any (lasts was.desks) (g.B.Judges.pages was.book) (g.B.Judges.pages now.book) (rows was.desks) (rows now.desks) report.answered report.dispatched report.ended (λ e. (turn.turn e).0) turn.last (few-devices was.desks) was.named h);
+      named = named-any (lasts was.desks) (g.B.Judges.pages was.book) (g.B.Judges.pages now.book) (rows was.desks) (rows now.desks) report.answered report.dispatched report.ended (λ e. (turn.turn e).0) turn.last was.named;
+      ready = turn.ready;
+      shut = λ e. shut-last (g.B.Judges.pages was.book) (g.B.Judges.pages now.book) (rows was.desks) (rows now.desks) report.answered report.dispatched (turn.last e);
+      within = turn.within;
+    }
+
+pub returns-then-self-clause-desks : goal.returns-then-self-clause-desks
+returns-then-self-clause-desks g c = desks-none c.args.self.now.desks

@@ -1,0 +1,59 @@
+// The core at work: it takes turns until it has ended, and sleeps while there is nothing to do.
+
+use crate::turns::Core;
+use host_journal::Judges;
+use std::alloc::Global;
+use std::sync::Wait;
+use std::thread;
+
+// How many turns in a row may do nothing before the core sleeps: a peer's next call comes within some hundredths of a millisecond, and to be
+// woken costs as much. No contract depends on it.
+const IDLE_TURNS: u32 = 1000;
+
+impl<B: Judges> Core<B> {
+    ghost use Rattle.std.specs.Prelude.{◌≡◌, ℕ, true};
+    ghost use Rattle.host_core.specs.Cores.{pages, seats_of, has_ended, SameSeats};
+    ghost use Rattle.host_core.specs.Keeping.{AreKept, AreShut};
+    ghost use Rattle.host_core.specs.Running.{AreTurns};
+
+    /// Takes turns until the operator has asked for the end. If a turn answered nobody and dispatched nothing, nothing changes until a
+    /// seat rings; so after some of them the core sleeps. If a Dispatch found no memory, it tries again instead.
+    pub fn run<R: Wait>(&mut self, rt: &R, alloc: Global)
+        ensures turns { (n : ℕ) × AreTurns n self.old self.new }
+        ensures ended { has_ended self.new ≡ true }
+        ensures kept { ∥ AreKept (pages self.new) (seats_of self.new) ∥₁ }
+        ensures shut { AreShut (seats_of self.new) }
+        ensures desks { SameSeats self.old self.new }
+    {
+        self.run_watched(rt, alloc, |_| {})
+    }
+
+    /// The same, and shows whoever keeps the journal after each turn, and so before each sleep. No bound can name a core over any keeper.
+    pub fn run_watched<R: Wait, W: FnMut(&B)>(&mut self, rt: &R, alloc: Global, mut watch: W)
+        requires { W.IsAlwaysCallable watch }
+        ensures turns { (n : ℕ) × AreTurns n self.old self.new }
+        ensures ended { has_ended self.new ≡ true }
+        ensures kept { ∥ AreKept (pages self.new) (seats_of self.new) ∥₁ }
+        ensures shut { AreShut (seats_of self.new) }
+        ensures desks { SameSeats self.old self.new }
+    {
+        let mut looks = 0;
+        for _ in rt.forever() {
+            let report = self.turn(alloc);
+            watch(&self.book);
+            if report.ended {
+                return;
+            }
+            if report.answered.is_some() || report.dispatched {
+                looks = 0;
+            } else if self.starved {
+                // No bell tells when there is memory again.
+                thread::yield_now();
+            } else {
+                self.bell.rest(rt, looks, IDLE_TURNS);
+                looks = looks.saturating_add(1);
+            }
+        }
+        unreachable!()
+    }
+}
