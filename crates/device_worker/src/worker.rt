@@ -7,7 +7,7 @@ use crate::pauses::{FIRST, longer, sleep};
 use base_image::Image;
 use device_engine::work_once;
 use host_calls::{Closed, RingReply};
-use host_rings::DeviceSeat;
+use host_core::DeviceSeat;
 use plain_machine::{Answer, Code, DeviceCall, Reply, Work};
 use std::alloc::Global;
 use std::sync::Wait;

@@ -17,5 +17,7 @@
 
 mod opening;
 
-pub use host_core::{Caller, DeviceSeat, NotSettled, OperatorSeat, SeatEnd, Settled, TurnReport, settle};
+pub use host_core::{
+    Caller, DeviceSeat, NotSettled, OperatorSeat, SeatEnd, Settled, TurnReport, settle,
+};
 pub use opening::{Core, CoreEnd, HostFault, host};

@@ -1,2 +1,1 @@
-pub mod Operating
 pub mod Warning

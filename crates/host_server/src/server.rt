@@ -1,20 +1,21 @@
 // A host that is served.
 ghost use Rattle.std.specs.Prelude.{◌≤◌, length};
-ghost use Rattle.host_rings.specs.Opening.{IsIdle};
 
-use crate::doors::{Doors, open_doors, remove_all};
-use crate::operator::{serve_operators, tell_closed};
-use crate::threads::{start_clients, start_core, start_workers};
+use crate::running::start_core;
 use base_image::Image;
-use host_rings::{OperatorSeat, host};
+use host_paths::{
+    Doors, ServeEnd, open_doors, remove_all, start_clients, start_operator, start_workers,
+    tell_closed,
+};
+use host_rings::host;
 use sector_core::Config;
 use std::alloc::Global;
 use std::io::Eprint;
 use std::net::Net;
-use std::os::unix::net::{UnixListener, UnixStream};
+use std::os::unix::net::UnixStream;
 use std::rt::Files;
 use std::sync::Wait;
-use std::thread::{self, JoinHandle, Threads};
+use std::thread::Threads;
 use std::time::Clock;
 
 /// Where a host serves, and how many clients.
@@ -24,17 +25,6 @@ pub struct ServeOptions<'a> {
     pub dir: &'a str,
     /// How many clients have a path, 1 to 16.
     pub clients: u8,
-}
-
-/// How a server ended.
-#[derive(Clone, Copy, Debug, PartialEq, Eq)]
-pub enum ServeEnd {
-    /// The operator has stopped the host.
-    Stopped,
-    /// A path cannot be had, or a thread cannot be started.
-    Socket,
-    /// There is no memory for the host or its sockets.
-    OutOfMemory,
 }
 
 /// Serves a host over the images, one worker for each. The images are to tell one number of sectors; the host has as many as the first
@@ -93,25 +83,4 @@ fn serve_at<
     let ServeOptions { dir, clients } = options;
     let _ = eprintln!(rt; "serving {dir}, {clients} clients, {workers} workers");
     Ok(serving.join(&rt))
-}
-
-// Starts the operator's thread.
-fn start_operator<R: Threads + Wait + Clock + Copy + Drop + Send + 'static>(
-    rt: R,
-    alloc: Global,
-    listener: UnixListener,
-    seat: OperatorSeat,
-) -> Result<JoinHandle<UnixStream>, ServeEnd>
-    requires { IsIdle seat }
-{
-    let serving = thread::spawn(
-        &rt,
-        move || -> UnixStream
-            requires { IsIdle seat }
-        { serve_operators(&rt, alloc, &listener, seat) },
-    );
-    match serving {
-        Ok(serving) => Ok(serving),
-        Err(_) => Err(ServeEnd::Socket),
-    }
 }

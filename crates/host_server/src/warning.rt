@@ -1,7 +1,7 @@
 // When a history is nearly full.
 ghost use Rattle.host_server.specs.Warning.{IsNineTenths};
 
-use host_rings::Core;
+use host_book::Book;
 
 /// So many entries of a history that holds `most` are nine tenths, rounded down, and at least one.
 pub fn nine_tenths(most: u32) -> u32
@@ -11,7 +11,7 @@ pub fn nine_tenths(most: u32) -> u32
     count.max(1)
 }
 
-/// Whether the core's journal has an entry of this number, from 0.
-pub fn has_entry(core: &Core, number: usize) -> bool {
-    core.entry(number).is_some()
+/// Whether the journal has an entry of this number, from 0.
+pub fn has_entry(book: &Book, number: usize) -> bool {
+    book.entry(number).is_some()
 }

@@ -1,6 +1,6 @@
 // Clients that ask at once, with two devices at work, each in a thread of its own.
 ghost use Rattle.std.specs.Prelude.{◌≡◌, length, false, IfSome};
-ghost use Rattle.host_rings.specs.Opening.{IsIdle, AreIdle};
+ghost use Rattle.host_core.specs.Opening.{IsIdle, AreIdle};
 
 use crate::opening::opened;
 use crate::rounds::{run, stop};

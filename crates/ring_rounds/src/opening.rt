@@ -1,7 +1,7 @@
 // A host over 64 sectors.
 ghost use Rattle.std.specs.Prelude.{IfSome};
-ghost use Rattle.host_rings.specs.Opening.{IsIdle, AreIdle};
-ghost use Rattle.host_rings.specs.Settling.{AreCallersOf, AreDevicesOf, IsOperatorOf};
+ghost use Rattle.host_core.specs.Opening.{IsIdle, AreIdle};
+ghost use Rattle.host_core.specs.Settling.{AreCallersOf, AreDevicesOf, IsOperatorOf};
 
 use host_rings::{Caller, Core, DeviceSeat, OperatorSeat, host};
 use sector_core::{Config, ConfigDraft};

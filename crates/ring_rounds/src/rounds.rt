@@ -2,8 +2,8 @@
 ghost use Rattle.std.specs.Prelude.{IfSome};
 ghost use Rattle.std.specs.Thread.{IsSync};
 ghost use Rattle.seats.specs.Seats.{SameSeat};
-ghost use Rattle.host_rings.specs.Cores.{SameSeats};
-ghost use Rattle.host_rings.specs.Opening.{IsIdle};
+ghost use Rattle.host_core.specs.Cores.{SameSeats};
+ghost use Rattle.host_core.specs.Opening.{IsIdle};
 ghost use Rattle.ring_rounds.specs.Rounds.{AreFresh, AreFreshOf, AreSame, IsFreshOf};
 
 use crate::opening::opened;

@@ -1,7 +1,7 @@
 // All seats of a host, settled with its core.
 ghost use Rattle.std.specs.Prelude.{IfSome};
-ghost use Rattle.host_rings.specs.Cores.{SameSeats};
-ghost use Rattle.host_rings.specs.Settling.{AreCallersOf, AreDevicesOf, IsCallerOf, IsDeviceOf, IsOperatorOf, core_of};
+ghost use Rattle.host_core.specs.Cores.{SameSeats};
+ghost use Rattle.host_core.specs.Settling.{AreCallersOf, AreDevicesOf, IsCallerOf, IsDeviceOf, IsOperatorOf, core_of};
 ghost use Rattle.ring_rounds.specs.Rounds.{AreOf};
 
 use crate::rounds::{Asked, Done, Tally};

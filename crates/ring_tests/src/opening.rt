@@ -1,7 +1,7 @@
 // The hosts under test.
 ghost use Rattle.std.specs.Prelude.{IfOk};
-ghost use Rattle.host_rings.specs.Opening.{IsIdle, AreIdle, ArePaired};
-ghost use Rattle.host_rings.specs.Settling.{AreCallersOf, AreDevicesOf, IsOperatorOf};
+ghost use Rattle.host_core.specs.Opening.{IsIdle, AreIdle, ArePaired};
+ghost use Rattle.host_core.specs.Settling.{AreCallersOf, AreDevicesOf, IsOperatorOf};
 
 use host_rings::{Caller, Core, DeviceSeat, OperatorSeat, host};
 use sector_core::{Config, ConfigDraft};

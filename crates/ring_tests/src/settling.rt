@@ -1,6 +1,6 @@
 // A seat settled with its core, in one thread.
 ghost use Rattle.seats.specs.Seats.{SameSeat};
-ghost use Rattle.host_rings.specs.Cores.{SameSeats};
+ghost use Rattle.host_core.specs.Cores.{SameSeats};
 
 use crate::opening::opened;
 use bytes::Bytes;

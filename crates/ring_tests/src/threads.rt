@@ -1,5 +1,5 @@
 // A core with its clients and the operator, each in a thread of its own.
-ghost use Rattle.host_rings.specs.Opening.{IsIdle};
+ghost use Rattle.host_core.specs.Opening.{IsIdle};
 
 use crate::opening::opened;
 use host_calls::ClientCall;

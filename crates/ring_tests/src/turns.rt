@@ -1,6 +1,7 @@
 // Calls of all kinds of seat, one turn after each.
 use crate::opening::{opened, usual};
 use bytes::Bytes;
+use host_book::Book;
 use host_calls::{ClientCall, OperatorCall, RingReply, SeatName};
 use host_rings::{Caller, Core, DeviceSeat, HostFault, OperatorSeat, host};
 use plain_machine::{Answer, DeviceCall, Reply};
@@ -378,17 +379,17 @@ fn visits_go_on_after_the_last(rt: HostRuntime) -> Result<(), Fail> {
 }
 
 // How many entries a journal has, of the first ten.
-fn entries(core: &Core) -> u64 {
+fn entries(book: &Book) -> u64 {
     let mut count = 0u64;
     for at in 0..10usize {
-        if core.entry(at).is_some() {
+        if book.entry(at).is_some() {
             count = count.wrapping_add(1);
         }
     }
     count
 }
 
-// How often a run shows its core, and how many entries it has then, added up. Three clients sit down, and the operator asks for the end.
+// How often a run shows its journal, and how many entries it has then, added up. Three clients sit down, and the operator asks for the end.
 fn shown<R: Wait>(rt: &R, alloc: Global) -> Result<(u64, u64), Fail> {
     let mut host = seated(alloc, 1)?;
     for act in [Attach(0), Attach(1), Attach(2), Stop] {
@@ -396,16 +397,16 @@ fn shown<R: Wait>(rt: &R, alloc: Global) -> Result<(u64, u64), Fail> {
     }
     let mut times = 0u64;
     let mut sum = 0u64;
-    host.core.run_watched(rt, alloc, |core| {
+    host.core.run_watched(rt, alloc, |book| {
         times = times.wrapping_add(1);
-        sum = sum.wrapping_add(entries(core));
+        sum = sum.wrapping_add(entries(book));
     });
     Ok((times, sum))
 }
 
 // After each turn, the last too: 1, 2, 3 and 3 entries.
 #[test]
-fn a_run_shows_its_core_after_each_turn(rt: HostRuntime) -> Result<(), Fail> {
+fn a_run_shows_its_journal_after_each_turn(rt: HostRuntime) -> Result<(), Fail> {
     assert_eq!(rt; shown(&rt, rt.alloc())?, (4, 9));
     Ok(())
 }

@@ -1,7 +1,7 @@
 // From the words to the end.
 use crate::answering::{LOOKS, answer_all};
 use host_calls::ClientCall;
-use host_server::{Doors, ServeEnd, open_doors, remove_all, start_client};
+use host_paths::{Doors, ServeEnd, open_doors, remove_all, start_client};
 use script_line::number;
 use seats::{Bell, ClientReplies, Desk, open_seat};
 use std::alloc::Global;

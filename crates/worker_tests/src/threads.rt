@@ -1,7 +1,7 @@
 // A core, a worker and a client, each in a thread of its own.
 ghost use Rattle.std.specs.Prelude.{IfOk};
 ghost use Rattle.std.specs.Thread.{IsSync};
-ghost use Rattle.host_rings.specs.Opening.{IsIdle, AreIdle};
+ghost use Rattle.host_core.specs.Opening.{IsIdle, AreIdle};
 
 use base_image::{FailingImage, ImageFault, MemoryImage};
 use bytes::Bytes;

@@ -1,4 +1,4 @@
-use Rattle.host_rings.specs.Opening.{AreIdle}
+use Rattle.host_core.specs.Opening.{AreIdle}
 use Rattle.ring_rounds.proofs.busy.start_devices.Given as goal
 
 abbrev pub invariant-loop-number : goal.invariant-loop-number

@@ -1,4 +1,4 @@
-use Rattle.host_rings.proofs.Seated.{caller-stays, caller-works, device-stays, operator-stays, operator-works}
+use Rattle.host_core.proofs.Seated.{caller-stays, caller-works, device-stays, operator-stays, operator-works}
 use Rattle.ring_rounds.proofs.rounds.four_clients.Goals as goal
 
 pub last_of-requires : goal.last_of-requires

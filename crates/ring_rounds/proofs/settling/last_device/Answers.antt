@@ -1,4 +1,4 @@
-use Rattle.host_rings.specs.Settling.{core_of, IsDeviceOf}
+use Rattle.host_core.specs.Settling.{core_of, IsDeviceOf}
 use Rattle.ring_rounds.proofs.Last.{of-rest, of-last}
 use Rattle.ring_rounds.proofs.settling.last_device.Goals as goal
 

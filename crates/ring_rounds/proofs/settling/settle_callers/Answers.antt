@@ -1,6 +1,6 @@
 use Rattle.std.proofs.Common.{subst, sym}
-use Rattle.host_rings.specs.Cores.{SameSeats}
-use Rattle.host_rings.specs.Settling.{core_of, AreCallersOf}
+use Rattle.host_core.specs.Cores.{SameSeats}
+use Rattle.host_core.specs.Settling.{core_of, AreCallersOf}
 use Rattle.ring_rounds.proofs.Stays.{callers-stay}
 use Rattle.ring_rounds.proofs.settling.settle_callers.Goals as goal
 use Rattle.ring_rounds.proofs.settling.settle_callers.Goals.{in-Some, in_default}

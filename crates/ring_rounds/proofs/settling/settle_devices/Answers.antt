@@ -1,6 +1,6 @@
 use Rattle.std.proofs.Common.{subst, sym}
-use Rattle.host_rings.specs.Cores.{SameSeats}
-use Rattle.host_rings.specs.Settling.{core_of, AreDevicesOf}
+use Rattle.host_core.specs.Cores.{SameSeats}
+use Rattle.host_core.specs.Settling.{core_of, AreDevicesOf}
 use Rattle.ring_rounds.proofs.Stays.{devices-stay}
 use Rattle.ring_rounds.proofs.settling.settle_devices.Goals as goal
 use Rattle.ring_rounds.proofs.settling.settle_devices.Goals.{in-Some, in_default}

@@ -1,5 +1,5 @@
-use Rattle.host_rings.specs.Cores.{SameSeats}
-use Rattle.host_rings.specs.Settling.{core_of, AreDevicesOf}
+use Rattle.host_core.specs.Cores.{SameSeats}
+use Rattle.host_core.specs.Settling.{core_of, AreDevicesOf}
 use Rattle.ring_rounds.proofs.settling.settle_devices.Given as goal
 
 abbrev pub invariant-loop : goal.invariant-loop

@@ -1,5 +1,5 @@
 use Rattle.std.proofs.Common.{sym, subst}
-use Rattle.host_rings.specs.Settling.{core_of, IsCallerOf}
+use Rattle.host_core.specs.Settling.{core_of, IsCallerOf}
 use Rattle.ring_rounds.proofs.settling.settle_one.Goals as goal
 
 pub settle-requires : goal.settle-requires

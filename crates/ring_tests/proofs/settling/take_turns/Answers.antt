@@ -1,4 +1,4 @@
-use Rattle.host_rings.proofs.Seated.{seats-twice}
+use Rattle.host_core.proofs.Seated.{seats-twice}
 use Rattle.ring_tests.proofs.settling.take_turns.Goals as goal
 
 pub loop-preserved : goal.loop-preserved

@@ -1,4 +1,4 @@
-use Rattle.host_rings.specs.Cores.{SameSeats}
+use Rattle.host_core.specs.Cores.{SameSeats}
 use Rattle.ring_tests.proofs.settling.take_turns.Given as goal
 
 abbrev pub invariant-loop : goal.invariant-loop

@@ -1,7 +1,7 @@
 // The sockets of a server: their files are made when it starts, and removed when it ends.
 ghost use Rattle.std.specs.Prelude.{◌≡◌, ◌≤◌, length};
 
-use crate::server::ServeEnd;
+use crate::ServeEnd;
 use std::alloc::{AllocError, Global};
 use std::fs::{self, Permissions};
 use std::io::{self, ErrorKind};

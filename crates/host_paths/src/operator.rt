@@ -1,14 +1,14 @@
 // The connections of the operator's path, one after the other.
 ghost use Rattle.std.specs.Prelude.{◌≡◌, length, false};
-ghost use Rattle.host_rings.specs.Opening.{IsIdle};
-ghost use Rattle.host_server.specs.Operating.{IsBetween, Asks};
+ghost use Rattle.host_core.specs.Opening.{IsIdle};
+ghost use Rattle.host_paths.specs.Operating.{IsBetween, Asks};
 ghost use Rattle.seats.specs.Seats.{SameSeat, is_closed};
 
 use crate::clients::FRAME_LIMIT;
 use crate::threads::breathe;
 use frame_stream::{Feeder, encode};
 use host_calls::{OperatorCall, RingReply};
-use host_rings::OperatorSeat;
+use host_core::OperatorSeat;
 use session_proto::{Host, Operator};
 use std::alloc::Global;
 use std::io::{Read, Write};

@@ -1,8 +1,8 @@
 // The seats of a host, given out from the last.
 ghost use Rattle.std.specs.Prelude.{IfSome};
-ghost use Rattle.host_rings.specs.Opening.{IsIdle, AreIdle};
+ghost use Rattle.host_core.specs.Opening.{IsIdle, AreIdle};
 
-use host_rings::{Caller, DeviceSeat};
+use host_core::{Caller, DeviceSeat};
 
 /// The last client's seat, to which nothing has come.
 pub fn last_caller(callers: &mut Vec<Caller>) -> Option<Caller>

@@ -1,8 +1,8 @@
 // The connections of a client's path, one after the other.
-ghost use Rattle.host_rings.specs.Opening.{IsIdle};
+ghost use Rattle.host_core.specs.Opening.{IsIdle};
 
 use crate::threads::breathe;
-use host_rings::Caller;
+use host_core::Caller;
 use session_seat::SeatAsker;
 use session_serve::serve;
 use std::alloc::Global;

@@ -1,18 +1,17 @@
 // The threads of a server.
-ghost use Rattle.host_rings.specs.Opening.{IsIdle, AreIdle};
+ghost use Rattle.host_core.specs.Opening.{IsIdle, AreIdle};
 
+use crate::ServeEnd;
 use crate::clients::serve_clients;
+use crate::operator::serve_operators;
 use crate::places::{last_caller, last_device};
-use crate::server::ServeEnd;
-use crate::warning::{has_entry, nine_tenths};
 use base_image::Image;
 use device_worker::run_worker;
-use host_rings::{Caller, Core, DeviceSeat};
+use host_core::{Caller, DeviceSeat, OperatorSeat};
 use std::alloc::Global;
-use std::io::Eprint;
-use std::os::unix::net::UnixListener;
+use std::os::unix::net::{UnixListener, UnixStream};
 use std::sync::Wait;
-use std::thread::{self, Threads};
+use std::thread::{self, JoinHandle, Threads};
 use std::time::{Clock, Duration};
 
 /// How long a path waits after a connection that could not be met, in milliseconds. The cause may last, as too many open files do.
@@ -21,34 +20,6 @@ const BREATH: u64 = 10;
 /// Waits a little.
 pub fn breathe(clock: &impl Clock) {
     thread::sleep(clock, Duration::from_millis(BREATH));
-}
-
-/// Starts the core. It tells once that nine tenths of its history are used.
-///
-/// # Errors
-///
-/// The thread cannot be started.
-pub fn start_core<R: Threads + Wait + Eprint + Copy + Drop + Send + 'static>(
-    rt: R,
-    alloc: Global,
-    mut core: Core,
-    most: u32,
-) -> Result<(), ServeEnd> {
-    let near = nine_tenths(most);
-    let last = near.saturating_sub(1) as usize;
-    let running = thread::spawn(&rt, move || {
-        let mut is_told = false;
-        core.run_watched(&rt, alloc, |core: &Core| {
-            if !is_told && has_entry(core, last) {
-                is_told = true;
-                let _ = eprintln!(rt; "history: {near} of {most} calls");
-            }
-        });
-    });
-    match running {
-        Ok(_) => Ok(()),
-        Err(_) => Err(ServeEnd::Socket),
-    }
 }
 
 /// Starts a worker for each image, at the device's seat of its number.
@@ -131,6 +102,31 @@ pub fn start_client<R: Threads + Wait + Clock + Copy + Drop + Send + 'static>(
     );
     match serving {
         Ok(_) => Ok(()),
+        Err(_) => Err(ServeEnd::Socket),
+    }
+}
+
+/// Starts the operator's thread. Once the operator has stopped the host, it gives the connection on which he is to be told so.
+///
+/// # Errors
+///
+/// The thread cannot be started.
+pub fn start_operator<R: Threads + Wait + Clock + Copy + Drop + Send + 'static>(
+    rt: R,
+    alloc: Global,
+    listener: UnixListener,
+    seat: OperatorSeat,
+) -> Result<JoinHandle<UnixStream>, ServeEnd>
+    requires { IsIdle seat }
+{
+    let serving = thread::spawn(
+        &rt,
+        move || -> UnixStream
+            requires { IsIdle seat }
+        { serve_operators(&rt, alloc, &listener, seat) },
+    );
+    match serving {
+        Ok(serving) => Ok(serving),
         Err(_) => Err(ServeEnd::Socket),
     }
 }

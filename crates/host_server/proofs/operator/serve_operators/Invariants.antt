@@ -1,5 +1,0 @@
-use Rattle.host_server.specs.Operating.{IsBetween}
-use Rattle.host_server.proofs.operator.serve_operators.Given as goal
-
-abbrev pub invariant-loop : goal.invariant-loop
-invariant-loop g l = IsBetween l.seat

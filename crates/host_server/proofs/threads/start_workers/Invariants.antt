@@ -1,5 +1,0 @@
-use Rattle.host_rings.specs.Opening.{AreIdle}
-use Rattle.host_server.proofs.threads.start_workers.Given as goal
-
-abbrev pub invariant-loop : goal.invariant-loop
-invariant-loop g l = AreIdle l.devices.items
