@@ -7,11 +7,15 @@ use crate::pauses::{FIRST, longer, sleep};
 use base_image::Image;
 use device_engine::work_once;
 use host_calls::{Closed, RingReply};
-use host_core::DeviceSeat;
 use plain_machine::{Answer, Code, DeviceCall, Reply, Work};
+use rtrb::AnyItems;
+use seats::Seat;
 use std::alloc::Global;
 use std::sync::Wait;
 use std::time::Clock;
+
+// A device's seat.
+type DeviceSeat = Seat<DeviceCall, AnyItems>;
 
 /// Why a worker ended.
 #[derive(Clone, Copy, Debug, PartialEq, Eq)]

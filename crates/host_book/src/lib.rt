@@ -1,5 +1,6 @@
 #![tactic(auto)]
-//! The journal of a host's core: a keeper, and for each entry of its journal the name of the seat whose call it was.
+//! The journal of a host's core: a keeper, and for each entry of its journal the name of the seat whose call it was. A core can ask it
+//! (`Judges` of `host_journal`).
 //!
 //! | call | rule that it meets |
 //! |---|---|

@@ -4,7 +4,7 @@ use Rattle.host_calls.specs.declared.ring.RingReply.{RingReply}
 use Rattle.host_calls.specs.declared.ring.RingReply.TheVariants.{Answer as Answered}
 use Rattle.host_calls.specs.declared.seat.SeatName.{SeatName}
 use Rattle.host_journal.specs.Journal.{Pages}
-use Rattle.host_journal.specs.declared.judges.Judges as judges
+use Rattle.host_journal.specs.declared.judges.Judges as journal
 use Rattle.seats.specs.Rows.{Row}
 use Rattle.seats.specs.Settling.{AreSettled}
 use Rattle.seats.specs.declared.asked.Asked.{Asked}
@@ -30,7 +30,7 @@ first-row p r name calls replies left uncollected named s h =
     (account-first (judges p.limits p.most r.name) is_entry (entry_under r.name) (is_own r.name) Answered p.entries r.taken r.waiting calls s.untaken replies s.rest
     r.replied (closing r.closed) h s.replies_are s.calls_are (one-closing r.closed))
 
-pub first-of : {B : Type 0} {j : judges.Ghosts B} (p : Pages) (core : Core B j) (end : SeatEnd) (left uncollected : ℕ)
+pub first-of : {B : Type 0} {j : journal.Ghosts B} (p : Pages) (core : Core B j) (end : SeatEnd) (left uncollected : ℕ)
     → IsSettled (seats_of core) (name_of end) (staged_calls end) (collected_replies end) left uncollected → AreKept p (seats_of core) → IsFirst p core end
 first-of p core end left uncollected s h = record {
   row = s.row;

@@ -1,14 +1,14 @@
 -- One turn more.
 use Rattle.std.proofs.Common.{true, false, Bool, ◌≡◌, ℕ, suc, refl, sym, subst, Option}
 use Rattle.host_calls.specs.declared.seat.SeatName.{SeatName}
-use Rattle.host_journal.specs.declared.judges.Judges as judges
+use Rattle.host_journal.specs.declared.judges.Judges as journal
 use Rattle.core_turn.specs.Turns.{is_starved, IsTurn, IsLastTurn}
 use Rattle.host_core.specs.Cores.{pages, seats_of, last_works, has_ended, is_starving, SameSeats}
 use Rattle.host_core.specs.Keeping.{AreKept}
 use Rattle.host_core.specs.Running.{AreTurns}
 use Rattle.host_core.specs.declared.turns.Core.{Core}
 
-module _ {B : Type 0} {j : judges.Ghosts B} where
+module _ {B : Type 0} {j : journal.Ghosts B} where
   -- a core that has ended takes none
   more-turns : (n : ℕ) (a b c : Core B j) (was : Bool) (answered : Option SeatName) (dispatched : Bool) → has_ended b ≡ was → AreTurns n a b
       → (has_ended b ≡ true → c ≡ b)

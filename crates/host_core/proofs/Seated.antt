@@ -9,7 +9,7 @@ use Rattle.seats.specs.declared.desk.Desk.{Desk}
 use Rattle.seats.specs.declared.rules.ClientReplies.{ClientReplies}
 use Rattle.seats.specs.declared.rules.OperatorReplies.{OperatorReplies}
 use Rattle.seats.specs.declared.seat.Seat.{Seat}
-use Rattle.host_journal.specs.declared.judges.Judges as judges
+use Rattle.host_journal.specs.declared.judges.Judges as journal
 use Rattle.core_desks.specs.Same.{SameEach}
 use Rattle.core_desks.specs.Settling.{IsSeatedIn}
 use Rattle.core_desks.proofs.Same.{desks-twice}
@@ -34,7 +34,7 @@ module _ {C P : Type 0} where
   seated-seat s t xs h same =
       (h.0, subst (λ n. slice_get xs n ≡ Some h.0) (sym same.2) h.1, beside-seat s t h.0 h.2 same)
 
-module _ {B : Type 0} {j : judges.Ghosts B} where
+module _ {B : Type 0} {j : journal.Ghosts B} where
   pub seats-twice : (a b c : Core B j) → SameSeats a b → SameSeats b c → SameSeats a c
   seats-twice a b c first then = desks-twice a.desks b.desks c.desks first then
 

@@ -1,13 +1,17 @@
 -- What is seen of a core.
 use Rattle.std.specs.Prelude.{ℕ, Bool, List, Option}
 use Rattle.host_journal.specs.Journal.{Pages}
-use Rattle.host_journal.specs.declared.judges.Judges as judges
+use Rattle.host_journal.specs.declared.judges.Judges as journal
 use Rattle.seats.specs.Rows.{Row}
 use Rattle.core_desks.specs.Desks.{rows, lasts}
 use Rattle.core_desks.specs.Same.{SameDesks}
 use Rattle.host_core.specs.declared.turns.Core.{Core}
 
-module _ {B : Type 0} {j : judges.Ghosts B} where
+module _ {B : Type 0} {j : journal.Ghosts B} where
+  -- whoever keeps its journal
+  abbrev pub keeper : Core B j → B
+  keeper core = core.book
+
   -- its journal
   abbrev pub pages : Core B j → Pages
   pages core = j.pages core.book

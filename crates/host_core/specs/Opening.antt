@@ -8,7 +8,7 @@ use Rattle.seats.specs.Seats.{IsFresh, staged, collected, is_closed}
 use Rattle.seats.specs.declared.rules.ClientReplies.{ClientReplies}
 use Rattle.seats.specs.declared.rules.OperatorReplies.{OperatorReplies}
 use Rattle.seats.specs.declared.seat.Seat.{Seat}
-use Rattle.host_journal.specs.declared.judges.Judges as judges
+use Rattle.host_journal.specs.declared.judges.Judges as journal
 use Rattle.core_desks.specs.Opening.{AreFresh}
 use Rattle.host_core.specs.declared.turns.Core.{Core}
 
@@ -21,7 +21,7 @@ module _ {C P : Type 0} where
   AreIdle seats = (i : ℕ) (s : Seat C P) → slice_get seats i ≡ Some s → IsIdle s
 
 -- each seat and the desk of its number share two rings, through which nothing has come
-pub record ArePaired {B : Type 0} {j : judges.Ghosts B} (workers : ℕ) (core : Core B j) (callers : List (Seat ClientCall ClientReplies)) (devices : List (Seat DeviceCall AnyItems))
+pub record ArePaired {B : Type 0} {j : journal.Ghosts B} (workers : ℕ) (core : Core B j) (callers : List (Seat ClientCall ClientReplies)) (devices : List (Seat DeviceCall AnyItems))
     (operator : Seat OperatorCall OperatorReplies) : Type 0 where
   pub callers_are : AreFresh 16 callers core.desks.callers.items
   pub devices_are : AreFresh workers devices core.desks.devices.items

@@ -6,7 +6,7 @@ use Rattle.plain_machine.specs.declared.call.DeviceCall.{DeviceCall}
 use Rattle.rtrb.specs.declared.AnyItems.{AnyItems}
 use Rattle.host_calls.specs.declared.ring.RingReply.TheVariants.{Answer as Answered}
 use Rattle.host_journal.specs.Journal.{Pages}
-use Rattle.host_journal.specs.declared.judges.Judges as judges
+use Rattle.host_journal.specs.declared.judges.Judges as journal
 use Rattle.seats.specs.Rows.{Row}
 use Rattle.seat_account.specs.Account.{IsFirstPart}
 use Rattle.seats.specs.Seats.{AreBeside}
@@ -20,7 +20,7 @@ use Rattle.host_core.specs.Keeping.{judges, is_entry, entry_under, is_own, closi
 use Rattle.host_core.specs.declared.settling.CoreEnd.{CoreEnd}
 use Rattle.host_core.specs.declared.turns.Core.{Core}
 
-module _ {B : Type 0} {j : judges.Ghosts B} where
+module _ {B : Type 0} {j : journal.Ghosts B} where
   -- the core that has ended
   abbrev pub core_of : CoreEnd B j → Core B j
   core_of end = end.core

@@ -1,7 +1,7 @@
 // A core and its seats, made together.
 ghost use Rattle.std.specs.Prelude.{◌≡◌, ◌≤◌, [], IfOk, false};
 ghost use Rattle.core_desks.specs.Opened.{AreOpened};
-ghost use Rattle.host_core.specs.Cores.{pages, seats_of, has_ended};
+ghost use Rattle.host_core.specs.Cores.{keeper, seats_of, has_ended};
 ghost use Rattle.host_core.specs.Opening.{ArePaired, IsIdle, AreIdle};
 ghost use Rattle.host_core.specs.Settling.{AreCallersOf, AreDevicesOf, IsOperatorOf};
 
@@ -42,7 +42,7 @@ pub fn open_core<B: Judges + Drop>(
     requires entries { (B.pages book).entries ≡ [] }
     requires workers { workers ≤ 4 }
     ensures seats { IfOk result (λ r. AreOpened 16 workers (seats_of r.0)) }
-    ensures journal { IfOk result (λ r. (pages r.0 ≡ B.pages book) × (has_ended r.0 ≡ false)) }
+    ensures journal { IfOk result (λ r. (keeper r.0 ≡ book) × (has_ended r.0 ≡ false)) }
     ensures idle { IfOk result (λ r. AreIdle r.1.items × AreIdle r.2.items × IsIdle r.3) }
     ensures pairs { IfOk result (λ r. ArePaired workers r.0 r.1.items r.2.items r.3) }
     ensures seated { IfOk result (λ r. AreCallersOf r.0 r.1.items × AreDevicesOf r.0 r.2.items × IsOperatorOf r.0 r.3) }

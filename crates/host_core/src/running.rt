@@ -28,7 +28,7 @@ impl<B: Judges> Core<B> {
         self.run_watched(rt, alloc, |_| {})
     }
 
-    /// The same, and shows whoever keeps the journal after each turn, and so before each sleep. No bound can name a core over any keeper.
+    /// The same, and shows whoever keeps the journal after each turn, and so before each sleep.
     pub fn run_watched<R: Wait, W: FnMut(&B)>(&mut self, rt: &R, alloc: Global, mut watch: W)
         requires { W.IsAlwaysCallable watch }
         ensures turns { (n : ℕ) × AreTurns n self.old self.new }

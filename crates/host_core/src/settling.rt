@@ -1,7 +1,7 @@
 // A core and a seat that have ended their work.
 ghost use Rattle.std.specs.Prelude.{◌≡◌, IfOk, IsOk};
 ghost use Rattle.core_desks.specs.Settling.{name_of, staged_calls, collected_replies, IsSettled};
-ghost use Rattle.host_core.specs.Cores.{pages, seats_of, has_ended, SameSeats};
+ghost use Rattle.host_core.specs.Cores.{keeper, pages, seats_of, has_ended, SameSeats};
 ghost use Rattle.host_core.specs.Settling.{core_of, AreOfOneHost, IsFirst};
 
 use crate::turns::Core;
@@ -51,7 +51,7 @@ pub fn settle<B: Judges>(end: SeatEnd, core: &mut CoreEnd<B>) -> Result<Settled,
     ensures settled { IfOk result (λ s. IsSettled (seats_of (core_of core.old)) (name_of end) (staged_calls end) (collected_replies end)
         s.left s.uncollected) }
     ensures first { ∥ IsFirst (pages (core_of core.new)) (core_of core.new) end ∥₁ }
-    ensures journal { pages (core_of core.new) ≡ pages (core_of core.old) }
+    ensures keeper { keeper (core_of core.new) ≡ keeper (core_of core.old) }
     ensures rows { seats_of (core_of core.new) ≡ seats_of (core_of core.old) }
     ensures ended { has_ended (core_of core.new) ≡ has_ended (core_of core.old) }
     ensures seats { SameSeats (core_of core.old) (core_of core.new) }

@@ -47,7 +47,7 @@ impl<B: Judges> Core<B> {
     ghost use Rattle.std.specs.Option.{option_map};
     ghost use Rattle.host_journal.specs.Journal.{shown_entry};
     ghost use Rattle.core_turn.specs.Turns.{is_starved, IsTurn, IsLastTurn};
-    ghost use Rattle.host_core.specs.Cores.{pages, seats_of, last_works, has_ended, is_starving, SameSeats};
+    ghost use Rattle.host_core.specs.Cores.{keeper, pages, seats_of, last_works, has_ended, is_starving, SameSeats};
 
     /// Visits the seats, from the one after that which was answered last, up to the first that is answered; then it tries one Dispatch.
     /// If the operator asks for the end, every seat hears it, and from then on nothing changes.
@@ -84,7 +84,7 @@ impl<B: Judges> Core<B> {
 
     /// Whoever keeps the journal, to look at. Whenever a core is seen, what was taken at each seat and answered there fits its journal.
     pub fn book(&self) -> &B
-        ensures journal { B.pages result.now ≡ pages self.now }
+        ensures keeper { result.now ≡ keeper self.now }
         ensures kept { ∥ AreKept (pages self.now) (seats_of self.now) ∥₁ }
         ensures single { AreSingle (seats_of self.now) }
         ensures named { AreNamed (seats_of self.now) }

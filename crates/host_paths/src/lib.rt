@@ -8,9 +8,10 @@
 //! | [`start_clients`], [`start_client`] | a thread for each client's path, at the seat of its number |
 //! | [`start_operator`] | the thread of the operator's path |
 //! | [`serve_operator`] | each call of the operator is asked at his seat, and is answered before the next is asked |
+//! | [`tell_closed`] | the operator is told that the host has ended |
 //!
-//! There is no contract but that a seat can go on, and what is asked at the operator's: no clause can name what a socket or a thread
-//! does. The calls that it puts together have theirs.
+//! There is no contract but that a seat can go on: no clause can name what a socket or a thread does. The calls that it puts together
+//! have theirs.
 //!
 //! Each path has a thread, which owns a seat and meets one connection after the other. So has each device.
 //!

@@ -1,4 +1,4 @@
-// The threads of a server.
+// The threads of a host's seats.
 ghost use Rattle.host_core.specs.Opening.{IsIdle, AreIdle};
 
 use crate::ServeEnd;

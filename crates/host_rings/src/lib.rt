@@ -4,9 +4,9 @@
 //! | call | rule that it meets |
 //! |---|---|
 //! | [`host`] | a core and its seats, to which nothing has come; so many workers as it may have |
+//! | [`view`] | the keeper is what comes of the entries' calls, one after the other; the accounts of all seats fit them |
 //!
-//! What a core and its seats do, [`Core`] has from `host_core`, over the book of `host_book`: the keeper, and the names of its journal's
-//! entries.
+//! [`Core`] is that of `host_core` over the book of `host_book`: the keeper, and the names of its journal's entries.
 //!
 //! ```text
 //! let (mut core, mut callers, devices, operator) = host(alloc, config, 64, 2)?;
@@ -16,8 +16,10 @@
 //! ```
 
 mod opening;
+mod viewing;
 
 pub use host_core::{
     Caller, DeviceSeat, NotSettled, OperatorSeat, SeatEnd, Settled, TurnReport, settle,
 };
 pub use opening::{Core, CoreEnd, HostFault, host};
+pub use viewing::view;

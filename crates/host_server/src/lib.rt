@@ -5,7 +5,7 @@
 //! |---|---|
 //! | [`run_server`] | it ends once the operator has stopped the host; if a socket, a thread or memory is wanting, it says which |
 //!
-//! There is no contract: no clause can name what a socket or a thread does. The calls that it puts together have theirs.
+//! No clause says what it does: none can name what a socket or a thread does. The calls that it puts together have theirs.
 //!
 //! The core has a thread, and so has each path and each device (`host_paths`). Between them stand the rings of the seats alone.
 //!

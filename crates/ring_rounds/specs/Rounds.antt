@@ -1,7 +1,7 @@
 -- Four clients and the operator that work in threads of their own.
 use Rattle.std.specs.Prelude.{◌≡◌, ℕ, List, Some, slice_get}
 use Rattle.host_calls.specs.declared.client.ClientCall.{ClientCall}
-use Rattle.host_journal.specs.declared.judges.Judges as judges
+use Rattle.host_journal.specs.declared.judges.Judges as journal
 use Rattle.seats.specs.Seats.{SameSeat}
 use Rattle.seats.specs.declared.rules.ClientReplies.{ClientReplies}
 use Rattle.seats.specs.declared.seat.Seat.{Seat}
@@ -20,7 +20,7 @@ abbrev pub AreSame : Fresh → Done → Type 0
 AreSame s d = SameSeat s.first d.first.0.seat × SameSeat s.second d.first.1.seat × SameSeat s.third d.second.0.seat × SameSeat s.fourth d.second.1.seat
     × SameSeat s.operator d.operator
 
-module _ {B : Type 0} {j : judges.Ghosts B} where
+module _ {B : Type 0} {j : journal.Ghosts B} where
   -- a seat of this core's host to which nothing has come, and every seat of these
   abbrev pub IsFreshOf : Core B j → Seat ClientCall ClientReplies → Type 0
   IsFreshOf core s = IsIdle s × IsCallerOf core s

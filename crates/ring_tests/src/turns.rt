@@ -3,7 +3,7 @@ use crate::opening::{opened, usual};
 use bytes::Bytes;
 use host_book::Book;
 use host_calls::{ClientCall, OperatorCall, RingReply, SeatName};
-use host_rings::{Caller, Core, DeviceSeat, HostFault, OperatorSeat, host};
+use host_rings::{Caller, Core, DeviceSeat, HostFault, OperatorSeat, host, view};
 use plain_machine::{Answer, DeviceCall, Reply};
 use sector_core::{Op, Outcome, Range};
 use std::alloc::Global;
@@ -389,8 +389,9 @@ fn entries(book: &Book) -> u64 {
     count
 }
 
-// How often a run shows its journal, and how many entries it has then, added up. Three clients sit down, and the operator asks for the end.
-fn shown<R: Wait>(rt: &R, alloc: Global) -> Result<(u64, u64), Fail> {
+// How often a run shows its journal, how many entries it has then, added up, and how many steps the keeper has at the end. Three clients
+// sit down, and the operator asks for the end.
+fn shown<R: Wait>(rt: &R, alloc: Global) -> Result<(u64, u64, u32), Fail> {
     let mut host = seated(alloc, 1)?;
     for act in [Attach(0), Attach(1), Attach(2), Stop] {
         let _staged = stage(&mut host, act);
@@ -401,13 +402,13 @@ fn shown<R: Wait>(rt: &R, alloc: Global) -> Result<(u64, u64), Fail> {
         times = times.wrapping_add(1);
         sum = sum.wrapping_add(entries(book));
     });
-    Ok((times, sum))
+    Ok((times, sum, view(&host.core).length()))
 }
 
 // After each turn, the last too: 1, 2, 3 and 3 entries.
 #[test]
 fn a_run_shows_its_journal_after_each_turn(rt: HostRuntime) -> Result<(), Fail> {
-    assert_eq!(rt; shown(&rt, rt.alloc())?, (4, 9));
+    assert_eq!(rt; shown(&rt, rt.alloc())?, (4, 9, 3));
     Ok(())
 }
 

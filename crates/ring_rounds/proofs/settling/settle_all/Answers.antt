@@ -1,5 +1,5 @@
 use Rattle.std.proofs.Common.{sym, subst}
-use Rattle.host_journal.specs.declared.judges.Judges as judges
+use Rattle.host_journal.specs.declared.judges.Judges as journal
 use Rattle.host_core.specs.Cores.{SameSeats}
 use Rattle.host_core.specs.Settling.{core_of, IsCallerOf, IsDeviceOf}
 use Rattle.host_core.specs.declared.turns.Core.{Core}
@@ -31,7 +31,7 @@ settle_one-requires-4 c =
     c.settle_one.ensures) c.settle_one-2.ensures) c.settle_one-3.ensures
 
 -- the core after all that asked were settled speaks to the same seats
-stays : {B : Type 0} {j : judges.Ghosts B} (a b c d e f : Core B j) → SameSeats a b → SameSeats b c → SameSeats c d → SameSeats d e → SameSeats e f → SameSeats a f
+stays : {B : Type 0} {j : journal.Ghosts B} (a b c d e f : Core B j) → SameSeats a b → SameSeats b c → SameSeats c d → SameSeats d e → SameSeats e f → SameSeats a f
 stays a b c d e f one two three four five =
     seats-twice a b f one (seats-twice b c f two (seats-twice c d f three (seats-twice d e f four five)))
 
