@@ -2,8 +2,8 @@
 use Rattle.std.specs.Prelude.{◌≡◌, ℕ, ◌<◌, IsSome, ◌⊎◌}
 use Rattle.sector_core.specs.Config.{fault_of}
 use Rattle.sector_core.specs.declared.config.ConfigDraft.{ConfigDraft}
-use Rattle.host_server.specs.declared.server.ServeEnd.{ServeEnd}
-use Rattle.host_server.specs.declared.server.ServeEnd.TheVariants.{Stopped, Socket, OutOfMemory}
+use Rattle.host_paths.specs.declared.end.ServeEnd.{ServeEnd}
+use Rattle.host_paths.specs.declared.end.ServeEnd.TheVariants.{Stopped, Socket, OutOfMemory}
 
 -- the status of each end (our profile)
 abbrev pub serve_status_of : ServeEnd → ℕ
