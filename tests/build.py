@@ -26,6 +26,10 @@ from checkout import CRATES, TOP, below, copy_for, crate_lines
 PROGRAMS = ["bfqhost", "bfqctl"]
 # What all crates may take, in minutes by the clock times processors, of which the longest chain of crates leaves some idle.
 MINUTES_OF_ALL = 150
+# What a crate costs whatever its size, as so many bytes of sources: a check reads what was proved below first.
+BYTES_OF_EACH = 100_000
+# A crate is near the longest chain of crates if it has so much of that chain's work above it.
+NEAR = 0.6
 
 
 def tell(text):
@@ -67,13 +71,13 @@ def run(words, folder):
     return ran.returncode, ran.stdout
 
 
-def prove(name, lines, is_longest):
+def prove(name, lines, jobs):
     """Proves a crate in a copy, and moves what was made into the checkout. Gives what was said if it is not proved."""
     began = time.time()
     with tempfile.TemporaryDirectory(prefix="build-") as folder:
         crate = copy_for(name, lines, folder)
-        # The longest chain of crates sets the time, so its crate may use all processors, and the others what it leaves.
-        words = ["rt", "lib", "--jobs", str(lanes())] if is_longest else ["nice", "-n", "19", "rt", "lib", "--jobs", "1"]
+        # The longest chain of crates sets the time. What is near it shares the processors, and the others use what that leaves.
+        words = ["rt", "lib", "--jobs", str(jobs)] if jobs else ["nice", "-n", "19", "rt", "lib", "--jobs", "1"]
         status, said = run(words, crate)
         if status:
             return f"{said}bfqhost: {name} is not proved"
@@ -94,15 +98,17 @@ def prove_all(left, lines):
     behind = {}
     for name in reversed(left):
         above = [behind[it] for it in behind if name in below(it, lines)]
-        behind[name] = sum(it.stat().st_size for it in sources(name)) + max(above, default=0)
+        behind[name] = BYTES_OF_EACH + sum(it.stat().st_size for it in sources(name)) + max(above, default=0)
     number, count, running = len(left), lanes(), {}
     with ThreadPoolExecutor(count) as pool:
         while left or running:
             ready = [it for it in left if not {*below(it, lines)} & {*left, *running.values()}]
+            longest = max(behind[it] for it in [*left, *running.values()])
+            near = [it for it in [*ready, *running.values()] if behind[it] >= NEAR * longest]
             for name in sorted(ready, key=lambda it: -behind[it])[:count - len(running)]:
                 tell(f"proving {name}; {number - len(left) - len(running)} of {number} are proved")
-                is_longest = behind[name] == max(behind[it] for it in [*left, *running.values()])
-                running[pool.submit(prove, name, lines, is_longest)] = name
+                jobs = max(1, count // len(near)) if name in near else 0
+                running[pool.submit(prove, name, lines, jobs)] = name
                 left.remove(name)
             for ran in wait(running, return_when=FIRST_COMPLETED).done:
                 del running[ran]
