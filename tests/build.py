@@ -4,9 +4,7 @@
     tests/build.py [--program NAME] [CRATE..]
 
 Proved are those of the crates that are named and all that they stand on; with no name, all that the program stands on, and then
-the program, which is bfqhost where none is named. The toolchain lets only one run at a time work over the same library. So each
-library is proved in a copy of what it reads, and what was made is moved into the checkout. On standard error stand how long it
-may take, and each crate as it begins.
+the program, which is bfqhost where none is named. On standard error stand how long it may take, and each crate as it begins.
 """
 
 import argparse
@@ -16,18 +14,17 @@ import re
 import shutil
 import subprocess
 import sys
-import tempfile
 import time
 from concurrent.futures import FIRST_COMPLETED, ThreadPoolExecutor, wait
 from pathlib import Path
 
-from checkout import CRATES, TOP, below, copy_for, crate_lines
+from checkout import CRATES, TOP, below, command, crate_lines, kit, library, sources
 
 PROGRAMS = ["bfqhost", "bfqctl"]
 # What all crates may take, in minutes by the clock times processors, of which the longest chain of crates leaves some idle.
-MINUTES_OF_ALL = 150
-# What a crate costs whatever its size, as so many bytes of sources: a check reads what was proved below first.
-BYTES_OF_EACH = 100_000
+MINUTES_OF_ALL = 110
+# What a crate costs whatever its size, as so many bytes of code: a check reads what was proved below first.
+BYTES_OF_EACH = 3_000
 # A crate is near the longest chain of crates if it has so much of that chain's work above it.
 NEAR = 0.6
 
@@ -43,15 +40,9 @@ def lanes():
     return max(1, min(len(os.sched_getaffinity(0)), free // (4 << 20)))
 
 
-def sources(name):
-    """The files that a crate is made of."""
-    return [it for part in ("src", "specs", "proofs") for it in (CRATES / name / part).rglob("*") if it.is_file()]
-
-
 def made(name):
     """When the library of a crate was made, or 0."""
-    stamp = CRATES / name / "out" / "rlib" / "stamp"
-    return stamp.stat().st_mtime if stamp.exists() else 0
+    return library(name).stat().st_mtime if library(name).exists() else 0
 
 
 def stale(names, lines):
@@ -59,7 +50,7 @@ def stale(names, lines):
     found = []
     for name in dict.fromkeys(it for name in names for it in [*below(name, lines), name] if it not in PROGRAMS):
         newest = max([it.stat().st_mtime for it in sources(name)] + [made(it) for it in below(name, lines)])
-        if not made(name) or made(name) < newest or any(it in found for it in below(name, lines)):
+        if made(name) < newest or any(it in found for it in below(name, lines)):
             found.append(name)
     return found
 
@@ -72,24 +63,17 @@ def run(words, folder):
 
 
 def prove(name, lines, jobs):
-    """Proves a crate in a copy, and moves what was made into the checkout. Gives what was said if it is not proved."""
+    """Proves a crate, whose library then stands in the checkout. Gives what was said if it is not proved."""
     began = time.time()
-    with tempfile.TemporaryDirectory(prefix="build-") as folder:
-        crate = copy_for(name, lines, folder)
-        # The longest chain of crates sets the time. What is near it shares the processors, and the others use what that leaves.
-        words = ["rt", "lib", "--jobs", str(jobs)] if jobs else ["nice", "-n", "19", "rt", "lib", "--jobs", "1"]
-        status, said = run(words, crate)
-        if status:
-            return f"{said}bfqhost: {name} is not proved"
-        # The stamp comes last, so that a move that is interrupted leaves no library that counts.
-        stamp = (crate / "out" / "rlib" / "stamp").read_text()
-        (crate / "out" / "rlib" / "stamp").unlink()
-        shutil.rmtree(CRATES / name / "out", ignore_errors=True)
-        shutil.move(crate / "out", CRATES / name / "out")
-        made_stamp = CRATES / name / "out" / "rlib" / "stamp"
-        made_stamp.write_text(stamp)
-        # What was made gets the time from before, so that a file that is changed meanwhile is seen to be newer.
-        os.utime(made_stamp, (began, began))
+    # What is there is stale, and by a stamp beside it rt would take this library for one of its own, with all proofs in it.
+    shutil.rmtree(library(name).parent, ignore_errors=True)
+    library(name).parent.mkdir(parents=True)
+    words = [*command("build", name, lines), "--statements", "--jobs", str(jobs), "-o", library(name)]
+    status, said = run(words if jobs > 1 else ["nice", "-n", "19", *words], CRATES / name)
+    if status:
+        return f"{said}bfqhost: {name} is not proved"
+    # What was made gets the time from before, so that a file that is changed meanwhile is seen to be newer.
+    os.utime(library(name), (began, began))
     return None
 
 
@@ -98,16 +82,16 @@ def prove_all(left, lines):
     behind = {}
     for name in reversed(left):
         above = [behind[it] for it in behind if name in below(it, lines)]
-        behind[name] = BYTES_OF_EACH + sum(it.stat().st_size for it in sources(name)) + max(above, default=0)
+        behind[name] = BYTES_OF_EACH + sum(it.stat().st_size for it in sources(name) if it.suffix == ".rt") + max(above, default=0)
     number, count, running = len(left), lanes(), {}
     with ThreadPoolExecutor(count) as pool:
         while left or running:
             ready = [it for it in left if not {*below(it, lines)} & {*left, *running.values()}]
             longest = max(behind[it] for it in [*left, *running.values()])
-            near = [it for it in [*ready, *running.values()] if behind[it] >= NEAR * longest]
             for name in sorted(ready, key=lambda it: -behind[it])[:count - len(running)]:
                 tell(f"proving {name}; {number - len(left) - len(running)} of {number} are proved")
-                jobs = max(1, count // len(near)) if name in near else 0
+                # The longest chain of crates sets the time. It gets all processors, what is near it two, and the others use what that leaves.
+                jobs = count if behind[name] == longest else min(2, count) if behind[name] >= NEAR * longest else 1
                 running[pool.submit(prove, name, lines, jobs)] = name
                 left.remove(name)
             for ran in wait(running, return_when=FIRST_COMPLETED).done:
@@ -117,12 +101,17 @@ def prove_all(left, lines):
     return None
 
 
-def build_program(name, began):
+def build_program(name, lines, began):
     """Proves and builds a program over its libraries, which began at this time. Gives what was said where none results."""
-    program = CRATES / name / "out" / name
+    program, made_of = CRATES / name / "out" / name, CRATES / name / "out" / f"{name}.o"
     tell(f"proving and building the program {name}")
-    status, said = run(["rt", "run", "--jobs", str(lanes()), "--", "--help"], CRATES / name)
-    if status or not program.exists():
+    program.parent.mkdir(exist_ok=True)
+    tools = ["--toolchain", kit() / "toolchain"]
+    status, said = run([*command("build", name, lines), *tools, "--jobs", str(lanes()), "-o", made_of], CRATES / name)
+    if not status:
+        words = ["--target", "x86_64-unknown-linux-gnu", *tools, "-o", program, made_of, kit() / "c/libos_c.a", kit() / "c/liblibc_c.a"]
+        status, said = run([kit() / "bin/rattle-link", *words], CRATES / name)
+    if status:
         return f"{said}bfqhost: no program was built"
     os.utime(program, (began, began))
     return None
@@ -141,7 +130,7 @@ def main():
         if left:
             minutes = MINUTES_OF_ALL * len(left) / len(lines) / lanes()
             tell(f"libraries to be proved first: {len(left)}, which may take {max(1, round(minutes))} minutes on {lanes()} processors")
-        return prove_all(left, lines) or (None if given.crates else build_program(given.program, began))
+        return prove_all(left, lines) or (None if given.crates else build_program(given.program, lines, began))
 
 
 if __name__ == "__main__":

@@ -1,6 +1,5 @@
-"""The crates of this checkout, and a copy of what a check of one reads."""
+"""The crates of this checkout, their libraries, and the toolchain's commands over them."""
 
-import os
 import re
 import shutil
 from pathlib import Path
@@ -24,24 +23,31 @@ def below(name, lines):
     return found
 
 
-def link(made, copy):
-    """Gives a file a second name. Where that can't be, it is copied."""
-    try:
-        os.link(made, copy)
-    except OSError:
-        shutil.copy2(made, copy)
+def sources(name):
+    """The files that a crate is made of."""
+    return [it for part in ("src", "specs", "proofs") for it in (CRATES / name / part).rglob("*") if it.is_file()]
 
 
-def copy_for(name, lines, folder):
-    """Copies what a check of a crate reads: the crate with its kept work, and those below it with the libraries that they made."""
-    names = [*below(name, lines), name]
-    Path(folder, "crates.txt").write_text("".join(lines[it] + "\n" for it in names))
-    shutil.copy(TOP / "HANDLES", folder)
-    for it in names:
-        left_out = shutil.ignore_patterns("wrong", "must-fail", *["out"] * (it != name))
-        shutil.copytree(CRATES / it, Path(folder, "crates", it), ignore=left_out)
-        if it != name and (CRATES / it / "out").exists():
-            # These are large, and nobody writes into them: who makes a library anew makes new files.
-            made = Path(folder, "crates", it, "out")
-            shutil.copytree(CRATES / it / "out", made, ignore=shutil.ignore_patterns("incremental"), copy_function=link)
-    return Path(folder, "crates", name)
+def texts_of(name):
+    """The texts of these files, by their paths in the crate."""
+    return {str(it.relative_to(CRATES / name)): it.read_text() for it in sources(name)}
+
+
+def library(name):
+    """Where rt ci and tests/build.py leave the library of a crate."""
+    return CRATES / name / "out" / "rlib" / f"{name}.rlib"
+
+
+def kit():
+    """The folder of the toolchain."""
+    return Path(shutil.which("rattle")).resolve().parents[1]
+
+
+def command(verb, name, lines):
+    """The words by which rattle checks or builds a crate in the folder where it is run, over the libraries of this checkout."""
+    root = "src/main.rt" if (CRATES / name / "src" / "main.rt").exists() else "src/lib.rt"
+    uses, lower = ["std", *lines[name].partition(":")[2].split()], below(name, lines)
+    words = ["rattle", verb, "--crate-name", name, root, "-L", f"dependency={kit()}/rlibs"]
+    words += [word for it in uses for word in ("--extern", f"{it}={library(it) if it in lines else f'{kit()}/rlibs/{it}.rlib'}")]
+    words += [word for it in lower for word in ("-L", f"dependency={library(it).parent}")]
+    return words + ["--antt-project", f"{kit()}/rattle/logic/antt-project.json", "--logic-built", f"{kit()}/logic_built"]

@@ -1,13 +1,13 @@
 """Whether each wrong body still fits the code: a file of code that was changed may lack the text that an edit takes out of it."""
 
-from checkout import CRATES, crate_lines
-from twins import Crate, read_edit
+from checkout import CRATES, crate_lines, texts_of
+from twins import read_edit
 
 
 def edits():
     """The name of each crate with wrong bodies, and what is wrong with those that do not fit."""
     for name in crate_lines():
-        faults, texts = [], Crate(CRATES / name, lambda: True).texts
+        faults, texts = [], texts_of(name)
         paths = sorted((CRATES / name / "wrong").glob("*.edit"))
         for path in paths:
             try:

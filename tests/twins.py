@@ -1,15 +1,16 @@
 """Wrong bodies of one crate, tried in a copy of it, many by one check.
 
-A check proves each function over the contracts of those that it calls, and names the open goals. So a wrong body is planted in a twin
-of its function, a copy beside it with another name and with copies of its proof files. Callers stand on the true one. It is refused
-if a goal of its twin is open. What has no twin is planted in its place, with others of other functions. What is not settled so is
-tried alone.
+A check proves each function over the contracts of those that it calls, and names the open goals. So a wrong body is planted in a twin of
+its function, a copy beside it with another name and with copies of its proof files. Callers stand on the true one. It is refused if a goal
+of its twin is open. What has no twin is planted in its place, with others of other functions. What is not settled so is tried alone.
 """
 
 import re
 from collections import namedtuple
+from itertools import zip_longest
+from pathlib import Path
 
-from build import CRATES, run, sources
+from build import run
 
 # What a check prints of an open goal, of a function, and of a text or proof that it does not take.
 GOAL = re.compile(r"note: (?:\./)?(src/\S+\.rt):(\d+):\d+: (.* \(`[^`]+`\))")
@@ -96,13 +97,10 @@ def in_twins(edits, texts):
 
 def rounds(edits):
     """Wrong bodies of one function each, in lists that have no function twice."""
-    found = []
+    by_function = {}
     for edit in edits:
-        free = next((it for it in found if all(other.functions != edit.functions for other in it)), [])
-        free.append(edit)
-        if free == [edit]:
-            found.append(free)
-    return found
+        by_function.setdefault(*edit.functions, []).append(edit)
+    return [[*filter(None, it)] for it in zip_longest(*by_function.values())]
 
 
 def is_at(function, words):
@@ -132,20 +130,24 @@ def settled(whose, status, said):
 
 
 class Crate:
-    """A copy of a crate, in which wrong bodies are planted and checked, while `keeps_on` says so."""
+    """A copy of a crate in a folder, in which wrong bodies are planted and checked by these words, while `keeps_on` says so."""
 
-    def __init__(self, folder, keeps_on):
-        self.folder, self.keeps_on = folder, keeps_on
-        self.texts = {str(it.relative_to(CRATES / folder.name)): it.read_text() for it in sources(folder.name)}
+    def __init__(self, texts, folder, words, keeps_on):
+        self.texts, self.folder, self.keeps_on = texts, Path(folder), keeps_on
+        self.words = [*words, "--jobs", "1", "--incremental", "kept"]
+        self.write(texts)
+
+    def write(self, files):
+        for path, text in files.items():
+            (self.folder / path).parent.mkdir(parents=True, exist_ok=True)
+            (self.folder / path).write_text(text)
 
     def check(self, files):
         """Checks the crate with these texts in place of its own; gives the status and what was said. All is as it was, after."""
         if not self.keeps_on():
             raise TimeoutError
-        for path in files:
-            (self.folder / path).parent.mkdir(exist_ok=True)
-            (self.folder / path).write_text(files[path])
-        ended = run(["rt", "check", "--jobs", "1"], self.folder)
+        self.write(files)
+        ended = run(self.words, self.folder)
         for path in files:
             (self.folder / path).write_text(self.texts[path]) if path in self.texts else (self.folder / path).unlink()
         return ended
@@ -171,8 +173,7 @@ class Crate:
 
     def alone(self, edit):
         """Tries one wrong body in its place. Gives whether it is refused, and its goal or what is wrong with it."""
-        files = self.planted(edit)
-        status, said = self.check(files)
+        status, said = self.check(files := self.planted(edit))
         errors = [it for it in map(ERROR.match, said.splitlines()) if it]
         unread = [it[0] for it in errors if it[1][:6] != "proofs" and (it[1][:5] == "specs" or it[2][0] != "`" or UNREAD.search(it[2]))]
         told = [it[3] for it in map(GOAL.match, said.splitlines()) if it] + [it[2] for it in errors if not UNREAD.search(it[2])]

@@ -16,8 +16,8 @@ import tempfile
 import time
 from concurrent.futures import ThreadPoolExecutor, as_completed
 
-from build import PROGRAMS, lanes, stale
-from checkout import CRATES, TOP, below, copy_for, crate_lines
+from build import lanes
+from checkout import CRATES, TOP, below, command, crate_lines, texts_of
 from twins import Crate, has_twin, read_edit, rounds
 
 SEEN = TOP / "tests" / "wrong_bodies.seen"
@@ -45,15 +45,14 @@ def trial(name, texts, lines, keeps_on):
     """Tries wrong bodies of a crate. Gives those refused and those that failed, each with the reason; what is in neither waits."""
     refused, failed, edits = {}, {}, []
     with contextlib.suppress(TimeoutError), tempfile.TemporaryDirectory(prefix="wrong-bodies-") as folder:
-        crate = Crate(copy_for(name, lines, folder) if keeps_on() else CRATES / name, keeps_on)
-        # A library was proved by the build just now, if there was time for one.
-        if keeps_on() and stale([name], lines) or name in PROGRAMS and crate.check({})[0] != 0:
-            return {}, {it: "not tried, as the crate is not proved without it" for it in texts}
+        crate = Crate(texts_of(name), folder, command("check", name, lines), keeps_on)
         for it, text in texts.items():
             try:
                 edits.append(read_edit(it, text, crate.texts))
             except ValueError as why:
                 failed[it] = f"bad edit: {why}"
+        if edits and crate.check({})[0] != 0:
+            return {}, {it: "not tried, as the crate is not proved without it" for it in texts}
         refused.update(crate.together([it for it in edits if has_twin(it, crate.texts)]))
         of_methods = [it for it in edits if it.name not in refused and len(it.functions) == 1 and None not in it.functions]
         for some in [it for it in rounds(of_methods) if len(it) > 1]:
@@ -74,8 +73,8 @@ def try_all(named=(), every=False, deadline=float("inf")):
     others = sorted(bodies.keys() - as_seen.keys(), key=lambda it: -len(bodies[it]) - len(below(it, lines)))
     names = named or others + sorted(as_seen, key=lambda it: as_seen[it][1])[:1]
     tried = {it: ({}, {}) for it in names}
-    if time.time() < deadline:
-        subprocess.run([sys.executable, TOP / "tests" / "build.py", *names], check=False)
+    if time.time() < deadline and (lower := {low for it in names for low in below(it, lines)}):
+        subprocess.run([sys.executable, TOP / "tests" / "build.py", *lower], check=False)
     with ThreadPoolExecutor(lanes()) as pool:
         try:
             counts = {it: -(-len(bodies[it]) // PART) for it in names}

@@ -7,32 +7,42 @@ fn option<'a>(alloc: Global, name: &'a str) -> Arg<'a> {
     Arg::new(alloc, name).long(name).action(ArgAction::Set)
 }
 
+// A command with more options, of these names.
+fn with_options<'a>(
+    alloc: Global,
+    command: Command<'a>,
+    names: &[&'a str],
+) -> Result<Command<'a>, Error> {
+    let mut command = command;
+    for name in names {
+        command = command.arg(option(alloc, name))?;
+    }
+    Ok(command)
+}
+
 // A subcommand with the options of a configuration.
 fn configured<'a>(alloc: Global, name: &'a str) -> Result<Command<'a>, Error> {
-    let command = Command::new(alloc, name)
-        .arg(option(alloc, "scheduler"))?
-        .arg(option(alloc, "nr-requests"))?
-        .arg(option(alloc, "tags"))?
-        .arg(option(alloc, "first-budget"))?
-        .arg(option(alloc, "max-budget"))?
-        .arg(option(alloc, "timeout"))?
-        .arg(option(alloc, "history"))?
-        .arg(option(alloc, "first-vtime"))?
-        .arg(option(alloc, "image"))?;
-    Ok(command)
+    let names = [
+        "scheduler",
+        "nr-requests",
+        "tags",
+        "first-budget",
+        "max-budget",
+        "timeout",
+        "history",
+        "first-vtime",
+        "image",
+    ];
+    with_options(alloc, Command::new(alloc, name), &names)
 }
 
 fn sim<'a>(alloc: Global) -> Result<Command<'a>, Error> {
-    let command = configured(alloc, "sim")?.arg(option(alloc, "sectors"))?;
-    Ok(command)
+    with_options(alloc, configured(alloc, "sim")?, &["sectors"])
 }
 
 fn serve<'a>(alloc: Global) -> Result<Command<'a>, Error> {
-    let command = configured(alloc, "serve")?
-        .arg(option(alloc, "dir"))?
-        .arg(option(alloc, "clients"))?
-        .arg(option(alloc, "workers"))?;
-    Ok(command)
+    let names = ["dir", "clients", "workers"];
+    with_options(alloc, configured(alloc, "serve")?, &names)
 }
 
 /// The command with its subcommands, `sim` and `serve`.

@@ -37,16 +37,16 @@ pub fn text_of<T: Debug>(alloc: Global, value: &T) -> Result<String, Fail> {
     Ok(format!(in alloc; "{value:?}")?)
 }
 
-/// Whether a value's frame is that of the digits, and these are read as the value.
-pub fn is_framed<S: Side + Debug>(alloc: Global, value: &S, frame: &str) -> Result<bool, Fail>
-    requires { S.fits value.now }
-{
+/// Whether these digits are the frame of the value that prints so: they are read as it, and it is written as them.
+pub fn is_framed<S: Side + Debug>(alloc: Global, frame: &str, text: &str) -> Result<bool, Fail> {
     let frame = bytes_of(alloc, frame)?;
-    is_frame(alloc, value, &frame)
+    let value = decode::<S>(alloc, &frame)?;
+    let made = encode(alloc, &value)?;
+    Ok(made.as_slice() == frame.as_slice() && text_of(alloc, &value)?.as_str() == text)
 }
 
 /// Whether a value's frame is this one, which is read as the value.
-pub fn is_frame<S: Side + Debug>(alloc: Global, value: &S, frame: &[u8]) -> Result<bool, Fail>
+pub fn is_frame_of<S: Side + Debug>(alloc: Global, value: &S, frame: &[u8]) -> Result<bool, Fail>
     requires { S.fits value.now }
 {
     let made = encode(alloc, value)?;
