@@ -68,6 +68,10 @@ fn of_the_operator(rt: HostRuntime) -> Result<(), Fail> {
     for (frame, fault) in [
         ("00000000 14", SHORT),
         ("00008014", SHORT),
+        // Not one whole frame: no byte, a cut one, one with a byte behind it.
+        ("", SHORT),
+        ("00000004 13 01", SHORT),
+        ("00000001 14 14", SHORT),
         ("00000001 05", KIND),
         ("00000001 10", KIND),
         ("00000001 1d", KIND),
