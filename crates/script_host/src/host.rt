@@ -1,9 +1,9 @@
 // The keeper of the history, as a console needs it.
 
+use crate::looks::put_look;
 use dispatch_core::SectorView;
 use history::Keeper;
 use host_console::{Content, Keeps};
-use look_text::put_look;
 use plain_machine::{Answer, Call, EntityView, RequestView, Work};
 use script_line::Look;
 use std::alloc::Global;

@@ -5,9 +5,30 @@
 //! |---|---|
 //! | [`run_script`] | what is written is the text of the lines read, with answers that the keeper's rules allow |
 //! | [`Host`] | what a console asks of a keeper is what the keeper of a history answers |
+//! | [`put_look`] | the text of a line that begins with `show` is that of the keeper, and nothing else |
+//!
+//! A list of the machine is shown item by item, as it stands there. Nothing is copied, and memory is taken for the text alone. What each
+//! look shows is defined in `host_console`.
+//!
+//! ```text
+//! show seat 0         // seat 0 1 0 4 1 0 here
+//! show queue 0        // queue 0 fetch:5+1:2
+//! show outbox 0       // outbox 0
+//! show flight         // flight
+//! show tree 0         // tree 0 - 0 0:active:0:107374182:40:40
+//! show host           // host bfq running free 15 2 2 2 2
+//! show step 2         // step 2 2 read 0 1 5 1
+//! ```
 
+mod entities;
+mod flights;
 mod host;
+mod looks;
+mod requests;
 mod script;
+mod seats;
+mod steps;
 
 pub use host::Host;
+pub use looks::put_look;
 pub use script::run_script;
