@@ -1,9 +1,10 @@
 // Device work over images that no file is: each line, and what it prints.
-use crate::host::opened;
+ghost use Rattle.std.specs.Prelude.{◌<◌, ◌^◌};
+
+use crate::host::usual;
 use base_image::{FailingImage, Image, ImageFault, MemoryImage, ZeroImage};
 use bytes::Bytes;
-use host_console::{Teller, run_keeper};
-use script_host::Host;
+use script_host::run_script;
 use script_run::ScriptEnd;
 use std::alloc::Global;
 use std::process::Abort;
@@ -22,16 +23,13 @@ fn part_of(alloc: Global, rows: &str, is_text: bool) -> Result<Vec<u8>, Fail> {
 }
 
 // How the lines of the rows end on a new host over the image, and what they print.
-fn run<I: Image + Drop>(alloc: Global, image: I, rows: &str) -> Result<(ScriptEnd, Vec<u8>), Fail> {
+fn run<I: Image + Drop>(alloc: Global, image: I, rows: &str) -> Result<(ScriptEnd, Vec<u8>), Fail>
+    requires { (I.disk image).faults < 2 ^ 63 }
+{
     let script = part_of(alloc, rows, false)?;
-    let keeper = opened(alloc, image.sectors())?;
-    let mut teller = Teller {
-        keeper: Host { keeper },
-        image,
-    };
     let mut reader = script.as_slice();
     let mut written = Vec::new(alloc);
-    let end = run_keeper(alloc, &mut reader, &mut written, &mut teller);
+    let end = run_script(alloc, usual()?, &mut reader, &mut written, image);
     Ok((end, written))
 }
 
@@ -40,7 +38,9 @@ fn expect_rows<I: Image + Drop>(
     rt: &(impl Abort + AllocGlobal),
     image: I,
     rows: &str,
-) -> Result<(), Fail> {
+) -> Result<(), Fail>
+    requires { (I.disk image).faults < 2 ^ 63 }
+{
     let wanted = (ScriptEnd::Done, part_of(rt.alloc(), rows, true)?);
     assert_eq!(rt; run(rt.alloc(), image, rows)?, wanted, "{rows}");
     Ok(())

@@ -1,9 +1,8 @@
 // How a script's run at a host's keeper ends where its input or its output fails.
 use crate::fakes::{Narrow, Pieces};
-use crate::host::opened;
+use crate::host::usual;
 use base_image::ZeroImage;
-use host_console::{Teller, run_keeper};
-use script_host::Host;
+use script_host::run_script;
 use script_run::ScriptEnd;
 use std::alloc::Global;
 use std::io::ErrorKind;
@@ -11,11 +10,6 @@ use std::test::Fail;
 
 // How the run of these bytes ends, of which a read fails after the first, and what it wrote into so much room.
 fn run(alloc: Global, script: &[u8], room: usize) -> Result<(ScriptEnd, Vec<u8>), Fail> {
-    let keeper = opened(alloc, 1024)?;
-    let mut teller = Teller {
-        keeper: Host { keeper },
-        image: ZeroImage::new(1024),
-    };
     let mut reader = Pieces {
         bytes: script,
         step: 4096,
@@ -32,7 +26,8 @@ fn run(alloc: Global, script: &[u8], room: usize) -> Result<(ScriptEnd, Vec<u8>)
         flush_fails_at: 0,
         flushed: 0,
     };
-    let end = run_keeper(alloc, &mut reader, &mut writer, &mut teller);
+    let image = ZeroImage::new(1024);
+    let end = run_script(alloc, usual()?, &mut reader, &mut writer, image);
     Ok((end, writer.taken))
 }
 

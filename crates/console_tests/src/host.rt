@@ -10,14 +10,13 @@ pub fn opened(alloc: Global, sectors: u64) -> Result<Keeper, Fail> {
     if sectors >= 1 << 55 {
         return Err(Fail::from("too many sectors"));
     }
-    let config = checked(ConfigDraft::default())?;
-    Ok(Keeper::new(alloc, config, sectors)?)
+    Ok(Keeper::new(alloc, usual()?, sectors)?)
 }
 
-// The configuration of a draft. This has no clauses, so that nothing carries the limits of its numbers.
+/// The usual configuration. This has no clauses, so that nothing carries the limits of its numbers.
 // A match costs a proof less than `?`, which makes a text of the fault.
-fn checked(draft: ConfigDraft) -> Result<Config, Fail> {
-    match Config::check(draft) {
+pub fn usual() -> Result<Config, Fail> {
+    match Config::check(ConfigDraft::default()) {
         Ok(config) => Ok(config),
         Err(_) => Err(Fail::from("a configuration within its limits")),
     }

@@ -7,7 +7,6 @@
 //! | [`many_clients`] | up to 16 clients ask at once, with two devices at work |
 //! | [`bare_calls`] | one seat and its desk, with no keeper behind it |
 //! | [`held_until_input_ends`] | a held host with a call that waits |
-//! | [`run`], [`stop`] | a core that runs to its end, and the operator that asks for it |
 //!
 //! ```text
 //! four_clients(&rt, alloc, 25, 100)
@@ -24,4 +23,4 @@ mod settling;
 pub use bare::bare_calls;
 pub use busy::{Round, many_clients};
 pub use held::held_until_input_ends;
-pub use rounds::{Tally, four_clients, run, stop};
+pub use rounds::{Tally, four_clients};

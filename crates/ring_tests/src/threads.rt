@@ -2,9 +2,9 @@
 ghost use Rattle.host_core.specs.Opening.{IsIdle};
 
 use crate::opening::opened;
-use host_calls::ClientCall;
+use host_calls::{ClientCall, OperatorCall};
 use host_rings::{Caller, Core};
-use ring_rounds::{Tally, four_clients, run, stop};
+use ring_rounds::{Tally, four_clients};
 use std::alloc::Global;
 use std::sync::Wait;
 use std::test::Fail;
@@ -54,16 +54,19 @@ fn collect_late<R: Wait>(rt: &R, mut seat: Caller) {
 
 // A core that sleeps until a reply is collected, and then the end. Gives whether the operator hears of it.
 fn woken<R: Threads + Sync + Wait>(rt: &R, alloc: Global) -> Result<bool, Fail> {
-    let (core, mut callers, _devices, operator) = opened(alloc, 1)?;
+    let (mut core, mut callers, _devices, mut operator) = opened(alloc, 1)?;
     let seat = callers.swap_remove(0);
     let (_core, has_ended) = thread::join(
         rt,
-        move || -> Core { run(rt, alloc, core) },
+        move || -> Core {
+            core.run(rt, alloc);
+            core
+        },
         move || -> bool
             requires { IsIdle operator }
         {
             collect_late(rt, seat);
-            stop(rt, operator).1
+            operator.ask(rt, OperatorCall::Stop).is_err()
         },
     );
     Ok(has_ended)

@@ -4,11 +4,12 @@
 //! | call | rule that it meets |
 //! |---|---|
 //! | [`run_script`] | what is written is the text of the lines read, with answers that the keeper's rules allow |
-//! | [`Host`] | what a console asks of a keeper is what the keeper of a history answers |
-//! | [`put_look`] | the text of a line that begins with `show` is that of the keeper, and nothing else |
 //!
-//! A list of the machine is shown item by item, as it stands there. Nothing is copied, and memory is taken for the text alone. What each
-//! look shows is defined in `host_console`.
+//! What a console asks of a keeper the keeper of a history answers (`host`). The text of a line that begins with `show` is that of the
+//! keeper, and nothing else (`looks`). A list of the machine is shown item by item, as it stands there: nothing is copied, and memory is
+//! taken for the text alone. What each look shows is defined in `host_console`.
+//!
+//! Nothing else is public. Who shows a type shows all that it is made of, and that made this library ten times as large.
 //!
 //! ```text
 //! show seat 0         // seat 0 1 0 4 1 0 here
@@ -29,6 +30,4 @@ mod script;
 mod seats;
 mod steps;
 
-pub use host::Host;
-pub use looks::put_look;
 pub use script::run_script;
