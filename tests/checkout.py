@@ -39,15 +39,15 @@ def library(name):
 
 
 def kit():
-    """The folder of the toolchain."""
-    return Path(shutil.which("rattle")).resolve().parents[1]
+    """The folder of the toolchain, whose command rt is on the path."""
+    return Path(shutil.which("rt")).resolve().parents[1]
 
 
 def command(verb, name, lines):
     """The words by which rattle checks or builds a crate in the folder where it is run, over the libraries of this checkout."""
     root = "src/main.rt" if (CRATES / name / "src" / "main.rt").exists() else "src/lib.rt"
     uses, lower = ["std", *lines[name].partition(":")[2].split()], below(name, lines)
-    words = ["rattle", verb, "--crate-name", name, root, "-L", f"dependency={kit()}/rlibs"]
+    words = [f"{kit()}/bin/rattle", verb, "--crate-name", name, root, "-L", f"dependency={kit()}/rlibs"]
     words += [word for it in uses for word in ("--extern", f"{it}={library(it) if it in lines else f'{kit()}/rlibs/{it}.rlib'}")]
     words += [word for it in lower for word in ("-L", f"dependency={library(it).parent}")]
     return words + ["--antt-project", f"{kit()}/rattle/logic/antt-project.json", "--logic-built", f"{kit()}/logic_built"]
