@@ -34,10 +34,10 @@ def tell(text):
     print(f"bfqhost: {text}", file=sys.stderr, flush=True)
 
 
-def lanes():
-    """How many checks run side by side: one for each processor, and no more than memory holds at 4 GB each."""
+def lanes(more=0, gigabytes=4):
+    """How many checks run side by side: one for each processor and so many more, and no more than memory holds at so much each."""
     free = int(re.search(r"MemAvailable:\s+(\d+)", Path("/proc/meminfo").read_text())[1])
-    return max(1, min(len(os.sched_getaffinity(0)), free // (4 << 20)))
+    return max(1, min(len(os.sched_getaffinity(0)) + more, free // (gigabytes << 20)))
 
 
 def made(name):
@@ -83,12 +83,13 @@ def prove_all(left, lines):
     for name in reversed(left):
         above = [behind[it] for it in behind if name in below(it, lines)]
         behind[name] = BYTES_OF_EACH + sum(it.stat().st_size for it in sources(name) if it.suffix == ".rt") + max(above, default=0)
-    number, count, running = len(left), lanes(), {}
-    with ThreadPoolExecutor(count) as pool:
+    # A crate of the longest chain leaves processors idle while it reads and writes libraries, whatever its jobs: two crates more use them.
+    number, count, most, running = len(left), lanes(), lanes(2, 3), {}
+    with ThreadPoolExecutor(most) as pool:
         while left or running:
             ready = [it for it in left if not {*below(it, lines)} & {*left, *running.values()}]
             longest = max(behind[it] for it in [*left, *running.values()])
-            for name in sorted(ready, key=lambda it: -behind[it])[:count - len(running)]:
+            for name in sorted(ready, key=lambda it: -behind[it])[:most - len(running)]:
                 tell(f"proving {name}; {number - len(left) - len(running)} of {number} are proved")
                 # The longest chain of crates sets the time. It gets all processors, what is near it two, and the others use what that leaves.
                 jobs = count if behind[name] == longest else min(2, count) if behind[name] >= NEAR * longest else 1

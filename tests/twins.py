@@ -12,9 +12,9 @@ from pathlib import Path
 
 from build import run
 
-# What a check prints of an open goal, of a function, and of a text or proof that it does not take.
+# What a check prints of an open goal, of a function, a type or an impl, and of a text or proof that it does not take.
 GOAL = re.compile(r"note: (?:\./)?(src/\S+\.rt):(\d+):\d+: (.* \(`[^`]+`\))")
-FUNCTION = re.compile(r"fn (\S+): (.*)")
+FUNCTION = re.compile(r"(?:fn|struct|enum|union|trait|impl) (\S+): (.*)")
 ERROR = re.compile(r"(?:\./)?((?:src|specs|proofs)/\S+?):\d+:\d+: error(?:\[\S+\])?: (.*)")
 # What an error says if a name is gone or a text unread, so that no goal was tried.
 UNREAD = re.compile(r"is not in scope|has no field|has no `|is no name|not admitted|was rejected|operand is missing|expected the end|cannot continue|\(nearest: ")
@@ -147,19 +147,20 @@ class Crate:
         if not self.keeps_on():
             raise TimeoutError
         self.write(files)
-        ended = run(self.words, self.folder)
+        status, said = run(self.words, self.folder)
         for path in files:
             (self.folder / path).write_text(self.texts[path]) if path in self.texts else (self.folder / path).unlink()
-        return ended
+        return status, re.sub(r"\n  (?=has no )", " ", said)  # That a name is gone may stand on the line after its error.
 
     def together(self, edits):
-        """Tries wrong bodies in twins by one check. Gives those that are refused, each with its goal."""
+        """Tries wrong bodies in twins by one check. Gives those that are refused, each with its goal; None if the check counts for nothing."""
         files, names = in_twins(edits, self.texts)
-        found = settled(lambda words: next((names[it] for it in names if it in words), None), *self.check(files)) if edits else {}
-        if found is None and len(edits) > 1:
-            # One of them does not compile, or meets a limit of the check. Halves find it.
-            return {**self.together(edits[::2]), **self.together(edits[1::2])}
-        return found or {}
+        return settled(lambda words: next((names[it] for it in names if it in words), None), *self.check(files))
+
+    def in_halves(self, edits):
+        """Tries wrong bodies of which one does not compile, or meets a limit of the check. Halves find it."""
+        halves = [(it, self.together(it)) for it in (edits[::2], edits[1::2]) if it and len(edits) > 1]
+        return {name: goal for half, found in halves for name, goal in (self.in_halves(half) if found is None else found).items()}
 
     def planted(self, *edits):
         """The files that change if wrong bodies stand in their places."""
@@ -182,5 +183,5 @@ class Crate:
         if status == 1:
             return bool(told), [*told, "bad edit: no goal is open, and a proof only names what it took away"][0]
         # A check refuses what is no text, in any file that it reads.
-        is_read = self.check({path: "} " + text for path, text in files.items()})[0] != 0
-        return False, "not refused" if is_read else f"bad edit: no check reads {min(files)}"
+        status, _ = self.check({path: "} " + text for path, text in files.items()})
+        return False, "not refused" if status else f"bad edit: no check reads {min(files)}"

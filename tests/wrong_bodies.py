@@ -21,7 +21,6 @@ from checkout import CRATES, TOP, below, command, crate_lines, texts_of
 from twins import Crate, has_twin, read_edit, rounds
 
 SEEN = TOP / "tests" / "wrong_bodies.seen"
-PART = 64  # Wrong bodies of a crate that are tried in one copy, at most; if it has more, several copies are worked on side by side.
 
 
 def hashes(lines):
@@ -51,9 +50,11 @@ def trial(name, texts, lines, keeps_on):
                 edits.append(read_edit(it, text, crate.texts))
             except ValueError as why:
                 failed[it] = f"bad edit: {why}"
-        if edits and crate.check({})[0] != 0:
+        # The first check proves the crate as it is, and judges all twins beside it.
+        found = crate.together(twins := [it for it in edits if has_twin(it, crate.texts)])
+        if found is None and crate.check({})[0] != 0:
             return {}, {it: "not tried, as the crate is not proved without it" for it in texts}
-        refused.update(crate.together([it for it in edits if has_twin(it, crate.texts)]))
+        refused.update(crate.in_halves(twins) if found is None else found)
         of_methods = [it for it in edits if it.name not in refused and len(it.functions) == 1 and None not in it.functions]
         for some in [it for it in rounds(of_methods) if len(it) > 1]:
             refused.update(crate.in_place(some))
@@ -77,13 +78,11 @@ def try_all(named=(), every=False, deadline=float("inf")):
         subprocess.run([sys.executable, TOP / "tests" / "build.py", *lower], check=False)
     with ThreadPoolExecutor(lanes()) as pool:
         try:
-            counts = {it: -(-len(bodies[it]) // PART) for it in names}
-            parts = [(it, dict(bodies[it][at::counts[it]])) for it in names for at in range(counts[it])]
-            runs = {pool.submit(trial, *it, lines, lambda: goes_on[0] and time.time() < deadline): it[0] for it in parts}
+            runs = {pool.submit(trial, it, dict(bodies[it]), lines, lambda: goes_on[0] and time.time() < deadline): it for it in names}
             for ran in as_completed(runs):
                 results = ({}, {"some of them": f"not tried: {ran.exception()!r}"}) if ran.exception() else ran.result()
-                for word, found, so_far in zip(("refused", "failed"), results, tried[runs[ran]]):
-                    so_far.update(found)
+                tried[runs[ran]] = results
+                for word, found in zip(("refused", "failed"), results):
                     print("".join(f"{word}: {runs[ran]}/{it}: {why}\n" for it, why in found.items()), end="", flush=True)
         finally:
             goes_on[0] = False
