@@ -1,16 +1,17 @@
 -- What came of a round, as a turn tells it.
-use Rattle.std.proofs.Common.{◌≡◌, ℕ, ◌<◌, List, length, ◌∙◌, sym, subst, Bool, Option, None, Some}
+use Rattle.std.proofs.Common.{◌≡◌, ℕ, ◌<◌, List, length, ◌∙◌, refl, sym, subst, Bool, false, Option, None, Some}
 use Rattle.std.proofs.lemmas.Option.{slice_get_within}
 use Rattle.host_calls.specs.declared.seat.SeatName.{SeatName}
+use Rattle.host_calls.specs.declared.seat.SeatName.TheVariants.{Operator}
 use Rattle.host_journal.specs.Journal.{Pages}
 use Rattle.seats.specs.Rows.{Row, Took}
-use Rattle.core_desks.specs.Closing.{AllOpen}
+use Rattle.core_desks.specs.Closing.{AllOpen, AllClose}
 use Rattle.core_desks.specs.Visits.{AllReady}
 use Rattle.core_desks.specs.declared.visit.Came.{Came}
 use Rattle.core_desks.specs.declared.visit.Came.TheVariants.{Answered, Stopped}
 use Rattle.core_turn.specs.Rounds.{Comes}
 use Rattle.core_turn.specs.Rounds.{RoundOver}
-use Rattle.core_turn.specs.Turns.{is_starved, RoundBy, Dispatches, IsTurn, Ends}
+use Rattle.core_turn.specs.Turns.{is_starved, RoundBy, Dispatches, IsTurn, Ends, IsLastTurn}
 use Rattle.core_turn.proofs.Took.{all-one, all-twice, changes-so, ready-changes}
 
 -- somebody was answered
@@ -64,3 +65,15 @@ pub turn-of : (lasts : List (Option ℕ)) (answered told : Option SeatName) (p b
     → (t : IsTurn lasts p xs q ys told dispatched) × (starved ≡ is_starved t.dispatch.answer)
 turn-of lasts answered told p between q xs ys dispatched starved e round d =
     (record { between = between; round = subst (RoundBy lasts p xs between ys) (sym e) round; dispatch = d.0 }, d.1)
+
+-- the turn in which the operator asked for the end
+pub last-turn : (lasts : List (Option ℕ)) (place : ℕ) (came : Came) (p q : Pages) (xs between ys : List Row) → came ≡ Stopped → Comes lasts place came p xs q between
+    → AllClose between ys → IsLastTurn p xs q ys (Some Operator) false
+last-turn lasts place came p q xs between ys e c h = record {
+  between = between;
+  place = place;
+  ends = round-ends lasts place p q xs between (subst (λ v. Comes lasts place v p xs q between) e c);
+  closes = h;
+  answered_is = refl;
+  dispatched_is = refl;
+}

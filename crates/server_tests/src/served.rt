@@ -1,5 +1,5 @@
 // A host that serves clients and the operator over sockets.
-ghost use Rattle.std.specs.Prelude.{◌≡◌, length};
+ghost use Rattle.std.specs.Prelude.{◌≡◌, ◌≤◌, length, IfOk};
 
 use crate::gate::Gated;
 use crate::peer::{Frame, Talk, answers, connected, has_ended};
@@ -17,8 +17,8 @@ use std::{fs, process, thread};
 const OPERATOR: usize = 2;
 
 // Client 0 writes sector 5 and reads it, client 1 reads sector 9. Both reads are asked before one is reaped: neither ends until the other
-// has begun. Then the operator stops the host.
-const AT_ONCE: [Talk; 9] = [
+// has begun.
+const AT_ONCE: [Talk; 8] = [
     Talk(
         0,
         Frame("00000003 01 00 04", None),
@@ -61,11 +61,6 @@ const AT_ONCE: [Talk; 9] = [
         1,
         Frame("00000009 04 0000000000000002", None),
         Frame("00000209 83 0000000000000009", Some(9)),
-    ),
-    Talk(
-        OPERATOR,
-        Frame("00000001 1c", None),
-        Frame("00000001 9f", None),
     ),
 ];
 
@@ -137,9 +132,9 @@ fn two_in(dir: &str) -> ServeOptions<'_>
 }
 
 // A new folder for sockets.
-fn folder(rt: HostRuntime, name: &str) -> Result<String, Fail> {
+fn folder(rt: HostRuntime) -> Result<String, Fail> {
     let process = process::id(rt.process());
-    let path = format!(in rt.alloc(); "/tmp/bfq-server-{name}-{process}")?;
+    let path = format!(in rt.alloc(); "/tmp/bfq-server-{process}")?;
     fs::create_dir(&rt, path.as_str())?;
     Ok(path)
 }
@@ -168,55 +163,52 @@ fn freezes_and_stops(alloc: Global, stream: &UnixStream) -> bool {
     is_frozen && is_stopped
 }
 
-// Two clients are served at once, by two workers at once.
-#[test]
-fn two_clients_at_once(rt: HostRuntime) -> Result<(), Fail> {
-    let dir = folder(rt, "two")?;
-    let (first, second) = Gated::two(rt.alloc())?;
-    let images = vec![in rt.alloc(); first, second]?;
-    let config = usual()?;
-    let theirs = format!(in rt.alloc(); "{dir}")?;
-    let serving = thread::spawn(
-        &rt,
-        move || -> ServeEnd
-            requires { length images.items ≡ 2 }
-        { run_server(rt, rt.alloc(), config, images, two_in(theirs.as_str())) },
-    )?;
-    let peers = peers(rt, dir.as_str())?;
-    for talk in AT_ONCE {
-        assert!(rt; answers(rt.alloc(), &peers[talk.0], talk), "{talk:?}");
+// Two images at one gate, or one at a gate that is open.
+fn images_of(alloc: Global, are_two: bool) -> Result<Vec<Gated>, Fail>
+    ensures { IfOk result (λ images. 1 ≤ length images.items × length images.items ≤ 4) }
+{
+    if are_two {
+        let (first, second) = Gated::two(alloc)?;
+        return Ok(vec![in alloc; first, second]?);
     }
-    assert!(rt; has_ended(&peers[OPERATOR]));
-    assert_eq!(rt; serving.join(&rt), ServeEnd::Stopped);
-    // The sockets are gone, so the folder is empty.
-    fs::remove_dir(&rt, dir.as_str())?;
-    Ok(())
+    Ok(vec![in alloc; Gated::open(alloc)?]?)
 }
 
-// The operator steps the host back and forth over one connection, and freezes and stops it by what his command does.
-#[test]
-fn stepped_and_frozen(rt: HostRuntime) -> Result<(), Fail> {
-    let alloc = rt.alloc();
-    let dir = folder(rt, "stepped")?;
-    let images = vec![in alloc; Gated::open(alloc)?]?;
-    let config = usual()?;
-    let theirs = format!(in alloc; "{dir}")?;
-    let serving = thread::spawn(
-        &rt,
-        move || -> ServeEnd
-            requires { length images.items ≡ 1 }
-        { run_server(rt, alloc, config, images, two_in(theirs.as_str())) },
-    )?;
-    let [zero, one, operator] = peers(rt, dir.as_str())?;
-    for talk in STEPPED {
-        let stream = if talk.0 == OPERATOR { &operator } else { &zero };
-        assert!(rt; answers(alloc, stream, talk), "{talk:?}");
+// Whether each talk goes as it is wanted, and the host then freezes and stops by what the operator's command does.
+fn all_answer(alloc: Global, peers: &[UnixStream; 3], are_two: bool) -> bool {
+    let talks: &[Talk] = if are_two { &AT_ONCE } else { &STEPPED };
+    for talk in talks {
+        if !answers(alloc, &peers[talk.0.min(OPERATOR)], *talk) {
+            return false;
+        }
     }
-    assert!(rt; freezes_and_stops(alloc, &operator));
-    assert_eq!(rt; serving.join(&rt), ServeEnd::Stopped);
-    // A client that never said anything was in nobody's way.
-    drop(one);
-    fs::remove_dir(&rt, dir.as_str())?;
+    freezes_and_stops(alloc, &peers[OPERATOR]) && has_ended(&peers[OPERATOR])
+}
+
+// Two clients are served at once, by two workers at once; and the operator steps a host back and forth over one connection, where a
+// client that says nothing is in nobody's way.
+#[test]
+fn clients_and_the_operator(rt: HostRuntime) -> Result<(), Fail> {
+    for are_two in [true, false] {
+        let dir = folder(rt)?;
+        let images = images_of(rt.alloc(), are_two)?;
+        let config = usual()?;
+        let theirs = format!(in rt.alloc(); "{dir}")?;
+        let serving = thread::spawn(
+            &rt,
+            move || -> ServeEnd
+                requires { 1 ≤ length images.items × length images.items ≤ 4 }
+            { run_server(rt, rt.alloc(), config, images, two_in(theirs.as_str())) },
+        )?;
+        let peers = peers(rt, dir.as_str())?;
+        assert!(rt;
+            all_answer(rt.alloc(), &peers, are_two),
+            "two at once: {are_two}"
+        );
+        assert_eq!(rt; serving.join(&rt), ServeEnd::Stopped);
+        // The sockets are gone, so the folder is empty.
+        fs::remove_dir(&rt, dir.as_str())?;
+    }
     Ok(())
 }
 

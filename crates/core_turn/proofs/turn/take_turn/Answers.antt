@@ -1,7 +1,8 @@
-use Rattle.std.proofs.Common.{◌∙◌}
+use Rattle.std.proofs.Common.{◌∙◌, rules}
+use Rattle.std.proofs.lemmas.Bool.{true≢false}
 use Rattle.core_desks.specs.Desks.{rows, lasts}
 use Rattle.core_desks.proofs.Same.{desks-twice}
-use Rattle.core_turn.proofs.Ends.{turn-answers, ready-answers, round-none, turn-of}
+use Rattle.core_turn.proofs.Ends.{turn-answers, ready-answers, round-none, turn-of, last-turn}
 use Rattle.core_turn.proofs.turn.take_turn.Goals as goal
 
 pub returns-in-None-clause-turn : goal.returns-in-None-clause-turn
@@ -26,3 +27,14 @@ returns-in-Some-default-Answered-clause-ready g c = λ _. ready-answers c.as_sli
 
 pub returns-in-Some-default-Stopped-clause-desks : goal.returns-in-Some-default-Stopped-clause-desks
 returns-in-Some-default-Stopped-clause-desks g c = desks-twice c.args.desks.now c.visit_all.new.desks c.close.new.self c.visit_all.ensures.desks c.close.ensures.desks
+
+pub returns-in-Some-default-Stopped-clause-turn : goal.returns-in-Some-default-Stopped-clause-turn
+returns-in-Some-default-Stopped-clause-turn g c = λ e. absurd (true≢false e)
+
+pub returns-in-Some-default-Stopped-clause-last : goal.returns-in-Some-default-Stopped-clause-last
+returns-in-Some-default-Stopped-clause-last g c = λ _. last-turn c.as_slice.result.now c.in-Some-default-Stopped.field-0-0 c.in-Some-default-Stopped.field-0-1
+    (g.B.Judges.pages c.args.book.now) (g.B.Judges.pages c.visit_all.new.book) (rows c.args.desks.now) (rows c.visit_all.new.desks) _
+    c.in-Some-default-Stopped.field-0-1-is c.in-Some-default-Stopped.ensures.round (search rules)
+
+pub returns-in-Some-default-Stopped-clause-ready : goal.returns-in-Some-default-Stopped-clause-ready
+returns-in-Some-default-Stopped-clause-ready g c = λ e. absurd (true≢false e)

@@ -1,7 +1,7 @@
 // An example of a side: the body of a value is one byte.
 ghost use Rattle.std.specs.Prelude.{◌≡◌, ◌∷◌, [], ⊤};
 ghost use Rattle.std.proofs.Common.{ap, ◌∙◌, refl, rules, lit<, lit≤};
-ghost use Rattle.asking_tests.specs.Letter.{one_byte, one_byte-spelled};
+ghost use Rattle.proto_tests.specs.Letter.{one_byte, one_byte-spelled};
 
 use frame_stream::{Fault, ReadError, Side};
 use std::alloc::{AllocError, Global};

@@ -1,5 +1,5 @@
 use Rattle.seats.specs.Seats.{SameSeat, SameDesk}
-use Rattle.seat_tests.proofs.desks.worked.Given as goal
+use Rattle.ring_tests.proofs.desks.worked.Given as goal
 
 abbrev pub invariant-loop-session : goal.invariant-loop-session
 invariant-loop-session l = SameSeat l.fn.seat l.seat

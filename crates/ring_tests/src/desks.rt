@@ -171,14 +171,21 @@ fn due(step: &Step) -> u8 {
 fn each_kind_of_seat(rt: HostRuntime) {
     let reap = ClientCall::Reap { session: 9 };
     let requeue = DeviceCall::Requeue { tag: 4, issue: 9 };
-    assert_eq!(rt; asked(&reap.asked(2)), 1);
-    assert_eq!(rt; asked(&requeue.asked(2)), 1);
-    assert_eq!(rt; asked(&DeviceCall::Take { worker: 3 }.asked(2)), 13);
-    assert_eq!(rt; asked(&OperatorCall::Freeze.asked(2)), 1);
-    assert_eq!(rt; asked(&OperatorCall::Stop.asked(2)), 2);
-    assert_eq!(rt; ClientCall::name(2), SeatName::Client(2));
-    assert_eq!(rt; DeviceCall::name(2), SeatName::Device(2));
-    assert_eq!(rt; OperatorCall::name(2), SeatName::Operator);
+    let found = [
+        asked(&reap.asked(2)),
+        asked(&requeue.asked(2)),
+        asked(&DeviceCall::Take { worker: 3 }.asked(2)),
+        asked(&OperatorCall::Freeze.asked(2)),
+        asked(&OperatorCall::Stop.asked(2)),
+    ];
+    assert_eq!(rt; found, [1, 1, 13, 1, 2]);
+    let names = [
+        ClientCall::name(2),
+        DeviceCall::name(2),
+        OperatorCall::name(2),
+    ];
+    let wanted = [SeatName::Client(2), SeatName::Device(2), SeatName::Operator];
+    assert_eq!(rt; names, wanted);
 }
 
 // Work of this issue under tag 2.
