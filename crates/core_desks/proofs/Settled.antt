@@ -1,7 +1,8 @@
 -- A seat that is settled with its desk, in a row and among all rows.
 use Rattle.std.proofs.Common.{◌≡◌, ℕ, zero, suc, ◌+◌, List, [], ◌∷◌, ◌++◌, length, map, set, get_or, refl, sym, ap, ◌∙◌, Some}
 use Rattle.std.specs.List.{slice_get}
-use Rattle.std.proofs.lemmas.Option.{slice_get_within, same_Some}
+use Rattle.std.specs.Option.{option_map}
+use Rattle.std.proofs.lemmas.Option.{slice_get_within, slice_get-map, same_Some}
 use Rattle.host_calls.specs.declared.ring.RingReply.{RingReply}
 use Rattle.host_calls.specs.declared.seat.SeatName.{SeatName}
 use Rattle.seats.specs.Rows.{Row}
@@ -18,6 +19,10 @@ map-set f (y ∷ xs) (suc i) d e s k = ap (λ zs. f y ∷ zs) (map-set f xs i d 
 -- what stands at a place is what an index gives
 pub or-stands : {X : Type 0} (xs : List X) (i : ℕ) (d e : X) → slice_get xs i ≡ Some d → e ≡ get_or xs i e → d ≡ e
 or-stands xs i d e at s = same_Some d e (sym at ∙ or-at xs i e (slice_get_within xs i d at) ∙ ap Some (sym s))
+
+-- and its row among the rows
+pub row-stands : {X Y : Type 0} (f : X → Y) (xs : List X) (i : ℕ) (d e : X) → slice_get xs i ≡ Some d → d ≡ e → slice_get (map f xs) i ≡ Some (f e)
+row-stands f xs i d e at same = slice_get-map f xs i ∙ ap (λ o. option_map f o) (at ∙ ap Some same)
 
 -- it is settled also where other rows stand behind, and before
 pub settled-left : (xs zs : List Row) (name : SeatName) (calls : List Asked) (replies : List RingReply) (left uncollected : ℕ)

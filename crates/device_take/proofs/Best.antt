@@ -1,6 +1,8 @@
 -- The best of one tag more.
 use Rattle.std.proofs.Common.{◌≡◌, ℕ, zero, suc, ◌+◌, ◌<◌, ◌≤◌, List, [], ◌∷◌, length, slice_index_or, refl, sym, ap, ◌∙◌, subst, arith, Option, None, Some, ◌⊎◌, inl, inr}
 use Rattle.std.specs.Option.{option_map}
+use Rattle.std.specs.List.{slice_get}
+use Rattle.std.proofs.lemmas.Option.{slice_get_within}
 use Rattle.change_record.specs.Machine.{Plain}
 use Rattle.dispatch_core.specs.Running.{Running, plain_of, IsFor}
 use Rattle.plain_machine.specs.declared.answer.Work.{Work}
@@ -128,3 +130,14 @@ best-of-all tags m lasts own (Some work) beyond h = record {
     | inr past ↦ absurd (none-some other (ap (option_map (work_of t)) (sym (beyond t past)) ∙ free.flies))
   ];
 }
+
+-- before the first tag
+pub none-before : (m : Plain) (lasts : List (Option ℕ)) (own : ℕ) → IsBestOf (λ t. t < 0) m lasts own None
+none-before m lasts own = λ t other lt free. absurd (omega (arith, lt))
+
+-- past the last device, no other one took it
+pub not-others : (lasts : List (Option ℕ)) (own issue device : ℕ) → length lasts ≤ device
+    → ((k : ℕ) → k < device → (k ≡ own → ⊥) → slice_get lasts k ≡ Some (Some issue) → ⊥) → IsOthers lasts own issue → ⊥
+not-others lasts own issue device past before others =
+    let within : others.0 < length lasts = slice_get_within lasts others.0 (Some issue) others.2 in
+    before others.0 (omega (arith, within, past)) others.1 others.2

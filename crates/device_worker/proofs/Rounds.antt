@@ -1,5 +1,5 @@
 -- Rounds, one after the other.
-use Rattle.std.proofs.Common.{◌≡◌, ℕ, List, [], ◌∷◌, ◌++◌, Option, None, Some, map, refl, ap, sym, subst, ◌∙◌, append_assoc, append-nil}
+use Rattle.std.proofs.Common.{◌≡◌, ℕ, ◌-◌, ◌^◌, ◌<◌, List, [], ◌∷◌, ◌++◌, Option, None, Some, map, refl, ap, sym, subst, ◌∙◌, append_assoc, append-nil, arith}
 use Rattle.std.proofs.lemmas.List.{map-append}
 use Rattle.base_image.specs.Image.{Disk}
 use Rattle.device_engine.specs.Work.{Works}
@@ -88,3 +88,7 @@ module _ (s m t : Device) (number : ℕ) (reply : RingReply) (before after : Dis
 
 pub seat-twice : (a b c : Device) → SameSeat a b → SameSeat b c → SameSeat a c
 seat-twice a b c first then = search
+
+-- an image that has not counted as many faults as it can may count one more
+pub countable : (disk : Disk) (faults : ℕ) → faults ≡ disk.faults → faults < 2 ^ 64 → (faults ≡ 2 ^ 64 - 1 → ⊥) → disk.faults < 2 ^ 64 - 1
+countable disk faults is fits less = omega (arith, is, fits, less)

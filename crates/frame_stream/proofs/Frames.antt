@@ -1,5 +1,5 @@
 -- A frame's length and body are read again, and bytes with their length before them are a frame.
-use Rattle.std.proofs.Common.{◌≡◌, ℕ, ◌+◌, ◌^◌, ◌<◌, ◌≤◌, List, [], ◌++◌, length, take, drop, refl, sym, ap, ◌∙◌, append_assoc, arith, inl, inr}
+use Rattle.std.proofs.Common.{◌≡◌, ℕ, ◌+◌, ◌-◌, ◌^◌, ◌<◌, ◌≤◌, List, [], ◌++◌, length, take, drop, refl, sym, ap, ◌∙◌, append_assoc, arith, inl, inr}
 use Rattle.std.specs.Int.{w32, to_be_bytes, from_be_bytes}
 use Rattle.std.proofs.lemmas.Bool.{cases_lt}
 use Rattle.std.proofs.lemmas.List.{append-nil, nil_from_length, take_at, take_all, drop_at, take-append-le, take-append-drop, length-append, length-take-le, length-drop, get_or-take, get_or-drop, get_or_past, length-take}
@@ -70,3 +70,8 @@ frame_put items zeros body made len is four all e =
     let size : length made ≡ 4 + length body = ap length frame ∙ length-framed body in
     let none : drop (length made) items ≡ [] = nil_from_length (drop (length made) items) (omega (arith, length-drop (length made) items, size, n)) in
     ap (λ (x : List ℕ). take len (made ++ x)) none ∙ ap (take len) (append-nil made) ∙ take_all len made (omega (arith, all, n, size)) ∙ frame
+
+-- a length that was put in its place
+pub length_put : (bytes field rest : List ℕ) → field ≡ to_be_bytes w32 (length bytes - 4) → rest ≡ drop 4 bytes → field ++ rest ≡ framed (drop 4 bytes)
+unfolding framed
+length_put bytes field rest is behind = rw (is, behind, length-drop 4 bytes) refl

@@ -57,6 +57,21 @@ unfolding next_of
 next_said body_at most bytes h low high whole =
     rw (le-ltb (length bytes) 4 h, in_limits most (length_field bytes) low high, le-ltb (length bytes) (4 + length_field bytes) whole) refl
 
+-- a body that was read
+pub next_read : {T : Type 0} (body_at : List ℕ → Result T Fault) (most : ℕ) (bytes : List ℕ) {rest body : List ℕ} {n : ℕ} {r : Result T Fault} → 4 ≤ length bytes
+    → n ≡ length_field bytes → 0 < n → n ≤ most → rest ≡ drop 4 bytes → n ≤ length rest → body ≡ take n rest → body_at body ≡ r → said (4 + n) r ≡ next_of body_at most bytes
+next_read body_at most bytes {rest} {body} {n} {r} four field low high behind whole front is =
+    let same : body ≡ body_field bytes = front ∙ ap (take n) behind ∙ ap (λ (k : ℕ). take k (drop 4 bytes)) field in
+    let k : next_of body_at most bytes ≡ said (4 + length_field bytes) (body_at (body_field bytes)) =
+    next_said body_at most bytes four (omega arith) (omega arith) (omega (arith, length-drop 4 bytes, ap length behind)) in
+    sym (k ∙ rw (← same, ← field, is) refl)
+
+-- a body that is not there yet
+pub next_wait : {T : Type 0} (body_at : List ℕ → Result T Fault) (most : ℕ) (bytes : List ℕ) {rest : List ℕ} {n : ℕ} → 4 ≤ length bytes
+    → n ≡ length_field bytes → 0 < n → n ≤ most → rest ≡ drop 4 bytes → length rest < n → More ≡ next_of body_at most bytes
+next_wait body_at most bytes {rest} {n} four field low high behind cut =
+    sym (next_cut body_at most bytes four (omega arith) (omega arith) (omega (arith, length-drop 4 bytes, ap length behind)))
+
 -- ---- from what they begin with
 
 -- the four cases of the bytes, each with what they begin with
@@ -186,6 +201,13 @@ pub one_whole : {T : Type 0} (body : T → List ℕ) (fits : T → Type 0) (body
 one_whole body fits body_at most side bytes v are e =
     let found = next_found body fits body_at most side bytes v (length bytes) are (whole_is (length bytes) (next_of body_at most bytes) v e) in
     (found.does_fit, sym (take_all (length bytes) bytes (omega arith)) ∙ found.is_frame)
+
+-- a value whose frame has this length, and one whose frame has another
+pub whole_at : {T : Type 0} (size : ℕ) (v : T) (n : ℕ) → n ≡ size → whole_of size (Whole v n) ≡ Ok v
+whole_at size v n e = rw (eq-eqb n size e) refl
+
+pub whole_not_at : {T : Type 0} (size : ℕ) (v : T) (n : ℕ) → (n ≡ size → ⊥) → whole_of size (Whole v n) ≡ Err BadLengthField
+whole_not_at size v n other = rw (ne_eqb n size other) refl
 
 pub is_found : {T : Type 0} (body : T → List ℕ) (fits : T → Type 0) (body_at : List ℕ → Result T Fault) (most : ℕ) → IsSide body fits body_at most
     → (bytes : List ℕ) (r : Result T ReadError) → IsBytes bytes → Gives r (whole_of (length bytes) (next_of body_at most bytes))

@@ -1,6 +1,7 @@
 -- A stream is cut in one way, and a piece more is cut where the bytes before it were.
-use Rattle.std.proofs.Common.{◌≡◌, ℕ, ◌+◌, ◌<◌, ◌≤◌, List, [], ◌∷◌, ◌++◌, length, drop, Result, Option, Some, None, refl, sym, ap, ◌∙◌, append_assoc, arith}
+use Rattle.std.proofs.Common.{◌≡◌, ℕ, ◌+◌, ◌<◌, ◌≤◌, List, [], ◌∷◌, ◌++◌, length, drop, Result, Ok, Err, Option, Some, None, refl, sym, ap, ◌∙◌, append_assoc, arith}
 use Rattle.std.specs.List.{AllByRecursion}
+use Rattle.std.specs.Result.{OnErr}
 use Rattle.std.proofs.lemmas.List.{append-nil, append_cancel_left, take-append-drop, drop-drop, length-drop}
 use Rattle.std.proofs.lemmas.List.Concat.{flat_map-append}
 use Rattle.frame_stream.specs.Frame.{IsBytes, IsFrame, framed}
@@ -138,6 +139,52 @@ comes_unheld {T} body fits body_at most held stream piece before f is came =
       };
       all_held = λ none. let e : Some f ≡ None = sym is ∙ none in absurd cc;
     }
+
+-- a piece is read behind what is held
+pub reads_piece : {T : Type 0} {body : T → List ℕ} {fits : T → Type 0} {body_at : List ℕ → Result T Fault} {most : ℕ}
+    → {now bytes rest : List ℕ} {values : List T} {fault : Option Fault} (held piece : List ℕ) (size : ℕ) → now ≡ held ++ piece → bytes ≡ now → rest ≡ drop size now
+    → IsStream body fits body_at most bytes values (drop size bytes) fault → IsStream body fits body_at most (held ++ piece) values rest fault
+reads_piece held piece size a b d reads = rw (d, ← a, ← b) reads
+
+none_of : (fault : Option Fault) → ((f : Fault) → fault ≡ Some f → ⊥) → fault ≡ None
+none_of None none = refl
+none_of (Some f) none = absurd (none f refl)
+
+-- without a fault a piece comes behind what is held
+pub comes_piece : {T : Type 0} {body : T → List ℕ} {fits : T → Type 0} {body_at : List ℕ → Result T Fault} {most : ℕ}
+    → {next : Held} {before values : List T} (held : Held) (stream piece : List ℕ)
+    → ((f : Fault) → held.fault ≡ Some f → ⊥) → IsStream body fits body_at most (held.bytes ++ piece) values next.bytes next.fault
+    → HasCome body fits body_at most held stream before → HasCome body fits body_at most next (stream ++ piece) (before ++ values)
+comes_piece {body} {fits} {body_at} {most} {next} {before} {values} held stream piece none reads came =
+    let all : held.bytes ++ came.unheld ≡ held.bytes = ap (λ (x : List ℕ). held.bytes ++ x) (came.all_held (none_of held.fault none)) ∙ append-nil held.bytes in
+    let same : next.bytes ++ [] ≡ next.bytes = append-nil next.bytes in
+    record {
+      unheld = [];
+      reads = record {
+        whole = ap (λ (x : List ℕ). x ++ piece) (came.reads.whole ∙ ap (λ (x : List ℕ). frames body before ++ x) all)
+            ∙ append_assoc (frames body before) held.bytes piece ∙ ap (λ (x : List ℕ). frames body before ++ x) reads.whole
+            ∙ sym (append_assoc (frames body before) (frames body values) next.bytes)
+            ∙ ap (λ (x : List ℕ). x ++ next.bytes) (sym (flat_map-append (λ v. framed (body v)) before values))
+            ∙ ap (λ (x : List ℕ). frames body (before ++ values) ++ x) (sym same);
+        each = each-append fits before values came.reads.each reads.each;
+        ends = ap (next_of body_at most) same ∙ reads.ends;
+      };
+      all_held = λ _. refl;
+    }
+
+-- where no value comes no byte is let go
+pub grows_by : {T : Type 0} {body : T → List ℕ} {fits : T → Type 0} {body_at : List ℕ → Result T Fault} {most : ℕ} {stream rest : List ℕ} {values : List T} {fault : Option Fault}
+    → IsStream body fits body_at most stream values rest fault → values ≡ [] → rest ≡ stream
+grows_by {body} {rest} reads none = sym (reads.whole ∙ ap (λ vs. frames body vs ++ rest) none)
+
+-- what holds in any case holds where growth was refused
+pub refused : {T E P : Type 0} (r : Result T E) → P → OnErr r P
+refused (Ok v) p = tt
+refused (Err e) p = p
+
+-- no fault is not a fault
+pub is_fault : (f : Fault) → ◌≡◌ {A = Option Fault} (Some f) None → ⊥
+is_fault f e = cc
 
 pub none_came : {T : Type 0} (body : T → List ℕ) (fits : T → Type 0) (body_at : List ℕ → Result T Fault) (most : ℕ) (held : Held)
     → held.bytes ≡ [] → held.fault ≡ None → HasCome body fits body_at most held [] []

@@ -31,3 +31,7 @@ front-more frame front left rest n a b c e h d k = (
   e ∙ ap (λ l. front ++ l) (sym (take-append-drop n left) ∙ ap (λ l. take n left ++ l) (sym d)) ∙ sym (append_assoc front (take n left) rest),
   Appends-more a b c front (take n left) h k,
 )
+
+pub front-left : (frame front left : List ℕ) (n : ℕ) (a b c : Known) → frame ≡ front ++ left → Appends a b front
+    → Appends b c (take n left) → (x : List ℕ) × (y : List ℕ) × (frame ≡ x ++ y) × Appends a c x
+front-left frame front left n a b c e h k = let more = front-more frame front left (drop n left) n a b c e h refl k in (more.0, drop n left, more.1, more.2)

@@ -1,2 +1,3 @@
+mod Asks
 mod Bytes
 mod Waits

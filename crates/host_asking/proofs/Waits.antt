@@ -1,8 +1,8 @@
 -- What is known while no whole frame has come, and what a piece more makes of it.
-use Rattle.std.proofs.Common.{◌≡◌, ℕ, ◌+◌, ◌<◌, ◌≤◌, List, [], ◌∷◌, ◌++◌, length, true, false, Result, Ok, Err, Option, Some, None, refl, sym, ap, subst, ◌∙◌, append_assoc, inl}
-use Rattle.std.specs.Prelude.{is_some, IsErrAnd}
+use Rattle.std.proofs.Common.{◌≡◌, ℕ, ◌+◌, ◌-◌, ◌<◌, ◌≤◌, List, [], ◌∷◌, ◌++◌, length, true, false, Result, Ok, Err, Option, Some, None, refl, sym, ap, subst, ◌∙◌, append_assoc, length-append, inl, arith}
+use Rattle.std.specs.Prelude.{is_some, IsSome, IsErrAnd}
 use Rattle.std.specs.List.{AllByRecursion}
-use Rattle.std.specs.Io.KnownBytes.{Consumes}
+use Rattle.std.specs.Io.KnownBytes.{Consumes, Keeps}
 use Rattle.frame_stream.specs.Frame.{framed}
 use Rattle.frame_stream.specs.Reading.{next_of}
 use Rattle.frame_stream.specs.Stream.{Held, IsStream, frames, rest_of}
@@ -12,6 +12,7 @@ use Rattle.host_asking.specs.Asked.{Known, HasRead, HasNoFrame, Receives}
 use Rattle.host_asking.specs.declared.fault.AskFault.{AskFault}
 use Rattle.host_asking.specs.declared.fault.AskFault.TheVariants.{Socket, Frame, OutOfMemory}
 use Rattle.host_asking.proofs.Bytes.{Consumes-more}
+use Rattle.std.proofs.KnownBytes.{Consumes-kept}
 
 -- all that was read is held, and it is no whole frame
 pub record Waits {T : Type 0} (body_at : List ℕ → Result T Fault) (most : ℕ) (r0 r1 : Known) (held : Held) : Type 0 where
@@ -89,3 +90,17 @@ unfed body fits body_at most r0 r2 bytes (Ok v) read some is = absurd is
 unfed body fits body_at most r0 r2 bytes (Err Socket) read some is = absurd cc
 unfed body fits body_at most r0 r2 bytes (Err Frame) read some is = absurd cc
 unfed body fits body_at most r0 r2 bytes (Err OutOfMemory) read some is = (bytes, read, some)
+
+-- there is no first value: there is none
+pub no_values : {T : Type 0} (values : List T) (n : ℕ) (first : Option T) → n ≡ length values → (0 < n → IsSome first) → first ≡ None → values ≡ []
+no_values [] n first e some none = refl
+no_values (v ∷ vs) n first e some none = let k : false ≡ true = subst IsSome none (some (omega (arith, e))) in absurd cc
+
+-- what is held grows towards its limit
+pub closer : (most : ℕ) (held piece new : List ℕ) → new ≡ held ++ piece → 0 < length piece → length new < 4 + most → (4 + most) - length new < (4 + most) - length held
+closer most held piece new grew some short = omega (arith, ap length grew, length-append held piece)
+
+-- a read failed
+pub unread : {T : Type 0} (body_at : List ℕ → Result T Fault) (most : ℕ) (r0 r1 r2 : Known) (held : Held) → Waits body_at most r0 r1 held → Keeps r1 r2
+    → (x : List ℕ) × Consumes r0 r2 x × (next_of body_at most x ≡ More)
+unread body_at most r0 r1 r2 held waits kept = (held.bytes, Consumes-kept r0 r1 r2 held.bytes waits.read kept, waits.unfinished)

@@ -11,8 +11,8 @@ use Rattle.plain_machine.specs.declared.answer.Code.TheVariants.{NotHeld, Alread
 use Rattle.plain_machine.specs.declared.answer.Reply.TheVariants.{Moved, Done}
 use Rattle.plain_machine.specs.declared.answer.Cause.{Cause}
 use Rattle.plain_machine.specs.declared.answer.Cause.TheVariants.{Held}
-use Rattle.plain_machine.specs.Step.{step}
-use Rattle.plain_machine.specs.Keeper.{State, machine_of, has_room, entered, did, called, MayCall, replay}
+use Rattle.plain_machine.specs.Step.{Limits, step}
+use Rattle.plain_machine.specs.Keeper.{State, machine_of, has_room, entered, did, called, MayCall, opened, replay}
 use Rattle.host_calls.specs.declared.seat.SeatName.{SeatName}
 use Rattle.host_journal.specs.Journal.{calls_of, entered_by, Allows, Pages}
 use Rattle.host_book.specs.Names.{entries, IsBook}
@@ -155,6 +155,21 @@ book-waits k next names len capacity n call answer cause h may e count few repla
     let even : length names ≡ length k.journal = h.even in
     let room : k.most ≤ capacity = h.room in
     record { counted = h.counted; even = omega (arith, even, same); room = omega (arith, most, room); few = omega (arith, count, few); replays = replays }
+
+-- a book of a keeper before its first call
+pub book-new : (k : State) (limits : Limits) (most : ℕ) (names : List SeatName) (len capacity : ℕ) → k ≡ opened limits most → names ≡ [] → len ≡ 0 → most ≤ capacity
+    → k ≡ replay k.limits k.most k.journal → IsBook k names len capacity
+book-new k limits most names len capacity e none counted room replays =
+    let journal : length k.journal ≡ 0 = ap (λ s. length s.journal) e in
+    let most' : k.most ≡ most = ap (λ s. s.most) e in
+    let unnamed : length names ≡ 0 = ap length none in
+    record {
+      counted = omega (arith, counted, unnamed);
+      even = omega (arith, unnamed, journal);
+      room = omega (arith, most', room);
+      few = omega (arith, journal);
+      replays = replays;
+    }
 
 -- what a caller sees
 pub seen-allows : (k next : State) (p : Pages) (names : List SeatName) (len capacity : ℕ) (call : Call) (answer : Answer)

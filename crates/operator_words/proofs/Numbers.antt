@@ -12,3 +12,7 @@ pub not_below : (limit m n : ℕ) (word : List ℕ) → limit ≤ 2 ^ 64 → m <
 not_below limit m n word within fits past is below e =
     let same : m ≡ n = one_number m n fits (omega arith) (sym is ∙ e) in
     past (omega arith)
+
+-- a word that spells no number spells none below the limit
+pub none_below : (limit : ℕ) (word : List ℕ) → limit ≤ 2 ^ 64 → ((n : ℕ) → n < 2 ^ 64 → word ≡ decimal n → ⊥) → (n : ℕ) → n < limit → word ≡ decimal n → ⊥
+none_below limit word within none n below e = none n (omega arith) e

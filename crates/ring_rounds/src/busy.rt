@@ -1,5 +1,6 @@
 // Clients that ask at once, with two devices at work, each in a thread of its own.
 ghost use Rattle.std.specs.Prelude.{◌≡◌, length, false, IfSome};
+ghost use Rattle.seats.specs.Seats.{staged, collected};
 ghost use Rattle.host_core.specs.Opening.{IsIdle, AreIdle};
 
 use crate::opening::opened;
@@ -116,16 +117,24 @@ fn serve<R: Wait>(rt: &R, alloc: Global, mut seat: DeviceSeat, worker: u8)
     requires { IsIdle seat }
 {
     for _ in rt.forever() {
-        let Ok(taken) = seat.ask(rt, DeviceCall::Take { worker }) else {
+        let Some(taken) = ask_again(rt, &mut seat, DeviceCall::Take { worker }) else {
             return;
         };
         if let Some(call) = finish_of(alloc, &taken) {
-            let Ok(_finished) = seat.ask(rt, call) else {
+            let Some(_finished) = ask_again(rt, &mut seat, call) else {
                 return;
             };
         }
     }
     unreachable!()
+}
+
+// What a device is answered where each of its calls before has a reply; nothing if the host has ended.
+fn ask_again<R: Wait>(rt: &R, seat: &mut DeviceSeat, call: DeviceCall) -> Option<Answer>
+    requires { length (staged seat.old) ≡ length (collected seat.old) }
+    ensures { IfSome result (λ _. length (staged seat.new) ≡ length (collected seat.new)) }
+{
+    seat.ask(rt, call).ok()
 }
 
 // How work ends; none if none was taken, or there is no memory for its bytes.

@@ -1,6 +1,6 @@
 use Rattle.std.proofs.Common.{arith}
 use Rattle.dispatch_core.specs.Running.{plain_of}
-use Rattle.device_take.proofs.Best.{best-skips, best-nearer, none-free, taken-skips, found-free, best-upto, best-of-all, none-beyond}
+use Rattle.device_take.proofs.Best.{best-skips, best-nearer, none-free, taken-skips, found-free, best-upto, best-of-all, none-before, none-beyond}
 use Rattle.device_take.proofs.takes.take_work.Goals as goal
 use Rattle.device_take.proofs.takes.take_work.Goals.{in-None, in-Some+then-not-is_others, in-Some+else-not-is_others}
 
@@ -23,3 +23,6 @@ pub returns : goal.returns
 returns c = λ n ok. best-of-all c.tags-tag-end.result (plain_of c.args.view.now) c.args.lasts.now c.args.own c.loop-tag.best
     (λ t past. none-beyond n c.args.view.now ok t (omega (arith, past, c.tags-tag-end.ensures)))
     (best-upto c.loop-tag.tag c.tags-tag-end.result (plain_of c.args.view.now) c.args.lasts.now c.args.own c.loop-tag.best (omega arith) (c.loop-tag.invariant n ok))
+
+pub loop-tag-init : goal.loop-tag-init
+loop-tag-init c = λ n ok. none-before (plain_of c.args.view.now) c.args.lasts.now c.args.own

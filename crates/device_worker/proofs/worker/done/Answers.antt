@@ -2,5 +2,5 @@ use Rattle.device_worker.proofs.Rounds.{told}
 use Rattle.device_worker.proofs.worker.done.Goals as goal
 
 pub returns-in-Ok-clause-told : goal.returns-in-Ok-clause-told
-returns-in-Ok-clause-told g c = told c.args.seat.now c.tell.new.seat c.args.work.now c.in-Ok.call (g.I.Image.disk c.args.image.now)
-    (g.I.Image.disk c.work_once.new.image) c.in-Ok.ensures.ok c.tell.ensures.made
+returns-in-Ok-clause-told g c = told c.args.seat.now _ c.args.work.now c.in-Ok.call (g.I.Image.disk c.args.image.now)
+    (g.I.Image.disk c.work_once.new.image) c.in-Ok.ensures.ok assumption

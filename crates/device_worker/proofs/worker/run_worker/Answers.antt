@@ -1,6 +1,6 @@
 use Rattle.std.proofs.Common.{None, subst, sym}
 use Rattle.device_worker.specs.Working.{IsGoing}
-use Rattle.device_worker.proofs.Rounds.{done-more, seat-twice}
+use Rattle.device_worker.proofs.Rounds.{done-more, seat-twice, countable}
 use Rattle.device_worker.proofs.worker.run_worker.Goals as goal
 
 pub loop-preserved-in-Told : goal.loop-preserved-in-Told
@@ -22,3 +22,6 @@ loop-preserved g c = (
 pub returns-in-Ended-clause-works : goal.returns-in-Ended-clause-works
 returns-in-Ended-clause-works g c = done-more None c.args.seat.now c.loop.seat c.work.new.seat (g.I.Image.disk c.args.image.now)
     (g.I.Image.disk c.loop.image) (g.I.Image.disk c.work.new.image) c.loop.invariant.2 c.work.ensures.round c.loop.invariant.1.2
+
+pub work-requires-clause-countable : goal.work-requires-clause-countable
+work-requires-clause-countable g c = countable (g.I.Image.disk c.loop.image) c.faults.result c.faults.ensures c.faults.type_inv (assumption)

@@ -21,3 +21,6 @@ returns-in-Answer-clause-round g c = asked c.args.seat.now c.exchange.new.seat c
 pub returns-clause-round : goal.returns-clause-round
 returns-clause-round g c = asked c.args.seat.now c.exchange.new.seat c.exchange.new.seat c.number-worker.result c.exchange.result
     (g.I.Image.disk c.args.image.now) (g.I.Image.disk c.args.image.now) c.number-worker.ensures c.exchange.ensures.made.0 c.exchange.ensures.made.1
+
+pub returns-in-Answer-clause-why : goal.returns-in-Answer-clause-why
+returns-in-Answer-clause-why g c = tt

@@ -1,8 +1,8 @@
-use Rattle.std.proofs.Common.{◌≡◌, ◌<◌, ◌++◌, ◌∷◌, [], ◌+◌, drop, arith, sym, ap, ◌∙◌}
+use Rattle.std.proofs.Common.{◌≡◌, ◌<◌, ◌++◌, ◌∷◌, [], ◌+◌, Some, None, drop, arith, sym, ap, ◌∙◌}
 use Rattle.frame_stream.specs.Reading.{next_of}
 use Rattle.frame_stream.specs.declared.next.Next.TheVariants.{Whole}
-use Rattle.frame_stream.proofs.Nexts.{IsSide}
-use Rattle.frame_stream.proofs.Streams.{IsCut, cut_more}
+use Rattle.frame_stream.proofs.Nexts.{IsSide, more_short}
+use Rattle.frame_stream.proofs.Streams.{IsCut, cut_more, cut_ends, is_fault}
 use Rattle.frame_stream.proofs.split.split_frames.Given as given
 use Rattle.frame_stream.proofs.split.split_frames.Goals as goal
 
@@ -27,3 +27,20 @@ frames-smaller g c = let f = further g c in omega (arith, f.1, f.0.within)
 
 pub frames-preserved : goal.frames-preserved
 frames-preserved g c = let f = further g c in rw c.in_ok-push-in-Whole.ensures.items f.0
+
+pub returns-in-More-clause-read : goal.returns-in-More-clause-read
+returns-in-More-clause-read g c =
+    cut_ends g.S.Side.body g.S.Side.fits g.S.Side.body_at g.S.Side.MOST c.args.bytes.now c.frames.values.items c.frames.size None c.frames.invariant
+    (ap (next_of g.S.Side.body_at g.S.Side.MOST) (sym c.split_at.ensures.back) ∙ sym c.in_ok-next_in.ensures ∙ c.in-More.is)
+
+pub returns-in-More-clause-short : goal.returns-in-More-clause-short
+returns-in-More-clause-short g c = λ _. more_short g.S.Side.body_at g.S.Side.MOST (drop c.frames.size c.args.bytes.now)
+    (ap (next_of g.S.Side.body_at g.S.Side.MOST) (sym c.split_at.ensures.back) ∙ sym c.in_ok-next_in.ensures ∙ c.in-More.is)
+
+pub returns-in-Bad-clause-read : goal.returns-in-Bad-clause-read
+returns-in-Bad-clause-read g c =
+    cut_ends g.S.Side.body g.S.Side.fits g.S.Side.body_at g.S.Side.MOST c.args.bytes.now c.frames.values.items c.frames.size (Some c.in-Bad.fault) c.frames.invariant
+    (ap (next_of g.S.Side.body_at g.S.Side.MOST) (sym c.split_at.ensures.back) ∙ sym c.in_ok-next_in.ensures ∙ c.in-Bad.is)
+
+pub returns-in-Bad-clause-short : goal.returns-in-Bad-clause-short
+returns-in-Bad-clause-short g c = λ none. absurd (is_fault c.in-Bad.fault none)

@@ -1,4 +1,4 @@
-use Rattle.std.proofs.Common.{arith}
+use Rattle.std.proofs.Common.{refl, arith}
 use Rattle.std.proofs.lemmas.Bool.{false≢true}
 use Rattle.core_desks.specs.Desks.{rows}
 use Rattle.host_core.proofs.Fresh.{kept-fresh, ready-fresh, named-fresh, idle-fresh, seated-fresh, beside-fresh}
@@ -15,6 +15,17 @@ invariant_of-core g c =
       shut = λ e. absurd (false≢true e);
       within = omega (arith, opened.long);
     }
+
+pub returns-clause-seats : goal.returns-clause-seats
+returns-clause-seats g c = c.in_ok-desks.ensures.rows
+
+pub returns-clause-journal : goal.returns-clause-journal
+returns-clause-journal g c = (refl, refl)
+
+pub returns-clause-pairs : goal.returns-clause-pairs
+returns-clause-pairs g c =
+    let pairs = c.in_ok-desks.ensures.pairs in
+    record { callers_are = pairs.callers; devices_are = pairs.devices; operator_is = pairs.operator }
 
 pub returns-clause-idle : goal.returns-clause-idle
 returns-clause-idle g c =

@@ -1,4 +1,4 @@
-use Rattle.std.proofs.Common.{◌<◌, length, sym, subst}
+use Rattle.std.proofs.Common.{◌<◌, length, refl, sym, subst}
 use Rattle.std.proofs.Math.Logic.{∥∥₁_map}
 use Rattle.core_desks.specs.Settling.{name_of, staged_calls, collected_replies, IsSettled}
 use Rattle.core_desks.specs.Visits.{AllReady}
@@ -18,6 +18,15 @@ invariant_of-core g c =
       shut = λ e. subst AreShut same (was.shut e);
       within = subst (λ rs. was.next < length rs) same was.within;
     }
+
+pub returns-clause-settles : goal.returns-clause-settles
+returns-clause-settles g c = refl
+
+pub returns-clause-settled : goal.returns-clause-settled
+returns-clause-settled g c = c.settle.ensures.settled
+
+pub returns-clause-ended : goal.returns-clause-ended
+returns-clause-ended g c = refl
 
 pub returns-clause-first : goal.returns-clause-first
 returns-clause-first g c =

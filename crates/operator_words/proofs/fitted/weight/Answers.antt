@@ -1,4 +1,5 @@
-use Rattle.std.proofs.Common.{◌^◌, lit≤}
+use Rattle.std.proofs.Common.{◌^◌, lit≤, sym, ap, ◌∙◌}
+use Rattle.std.specs.Fmt.{decimal}
 use Rattle.operator_words.proofs.Numbers.{not_below}
 use Rattle.operator_words.proofs.fitted.weight.Goals as goal
 
@@ -6,3 +7,6 @@ pub returns-in-Err : goal.returns-in-Err
 returns-in-Err c = λ n below e.
     let read = c.in_ok-number.ensures in
     not_below (2 ^ 16) c.in_ok-number.field-0 n c.args.word.now (lit≤ tt) read.fits c.in-Err.ensures read.found below e
+
+pub returns-in-Ok : goal.returns-in-Ok
+returns-in-Ok c = (rw c.in-Ok.ensures.1 c.in-Ok.ensures.0, c.in_ok-number.ensures.found ∙ ap decimal (sym c.in-Ok.ensures.1))

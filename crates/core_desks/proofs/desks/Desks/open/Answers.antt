@@ -17,3 +17,6 @@ returns-clause-rows c =
     (fresh-rows client_asked Client c.args.callers callers.caller_seats.items callers.caller_desks.items callers.ensures)
     (fresh-rows device_asked Device c.args.devices devices.device_seats.items devices.device_desks.items devices.ensures)
     (fresh-row operator_asked (λ _. Operator) operator.operator_seat operator.operator_desk 0 operator.ensures)
+
+pub returns-clause-pairs : goal.returns-clause-pairs
+returns-clause-pairs c = record { callers = c.in_ok-caller_seats.ensures; devices = c.in_ok-device_seats.ensures; operator = c.in_ok-operator_seat.ensures }

@@ -1,6 +1,6 @@
 use Rattle.std.proofs.Common.{ap, ◌∙◌, sym}
 use Rattle.std.specs.Vec.{vec_len, vec_capacity}
-use Rattle.host_book.proofs.Entries.{may-enters, room-for-name, book-more, book-refused, seen-allows, seen-more, seen-refused}
+use Rattle.host_book.proofs.Entries.{may-enters, room-for-name, book-more, book-refused, book-waits, seen-allows, seen-more, seen-refused, seen-waits}
 use Rattle.host_book.proofs.book.Book.judge.Goals as goal
 
 pub push_within-requires : goal.push_within-requires
@@ -48,3 +48,18 @@ returns-in-Refused-clause-limits c = (may-enters c.self.inside.keeper.state c.ar
 
 pub returns-in-Refused-clause-most : goal.returns-in-Refused-clause-most
 returns-in-Refused-clause-most c = (may-enters c.self.inside.keeper.state c.args.call.now c.call-answer.result c.call-answer.new.self.state c.call-answer.ensures.may).most ∙ ap (λ q. q.most) c.self.view_is
+
+pub invariant_of-self-in-NotYet : goal.invariant_of-self-in-NotYet
+invariant_of-self-in-NotYet c = book-waits c.self.inside.keeper.state c.call-answer.new.self.state c.self.inside.names.items (vec_len c.self.inside.names) (vec_capacity c.self.inside.names)
+    c.journal_len-replayed.result c.args.call.now c.call-answer.result c.in-NotYet.field-0 c.self.invariant c.call-answer.ensures.may c.in-NotYet.is
+    c.journal_len-replayed.ensures.len c.journal_len-replayed.ensures.few c.journal_len-replayed.ensures.replay
+
+pub returns-in-NotYet-clause-entries : goal.returns-in-NotYet-clause-entries
+returns-in-NotYet-clause-entries c = seen-waits c.self.inside.keeper.state c.call-answer.new.self.state c.args.self.now c.self.inside.names.items c.args.name c.args.call.now c.call-answer.result c.in-NotYet.field-0
+    (sym c.self.view_is) c.call-answer.ensures.may c.in-NotYet.is
+
+pub returns-in-NotYet-clause-limits : goal.returns-in-NotYet-clause-limits
+returns-in-NotYet-clause-limits c = (may-enters c.self.inside.keeper.state c.args.call.now c.call-answer.result c.call-answer.new.self.state c.call-answer.ensures.may).limits ∙ ap (λ q. q.limits) c.self.view_is
+
+pub returns-in-NotYet-clause-most : goal.returns-in-NotYet-clause-most
+returns-in-NotYet-clause-most c = (may-enters c.self.inside.keeper.state c.args.call.now c.call-answer.result c.call-answer.new.self.state c.call-answer.ensures.may).most ∙ ap (λ q. q.most) c.self.view_is

@@ -1,3 +1,5 @@
+use Rattle.std.proofs.Common.{refl}
+use Rattle.std.proofs.lemmas.Bool.{true≢false}
 use Rattle.std.proofs.Math.Logic.{∥∥₁_map}
 use Rattle.core_desks.specs.Desks.{rows, lasts}
 use Rattle.core_desks.proofs.Same.{desks-none}
@@ -24,3 +26,18 @@ invariant_of-self g c =
 
 pub returns-then-self-clause-desks : goal.returns-then-self-clause-desks
 returns-then-self-clause-desks g c = desks-none c.args.self.now.desks
+
+pub returns-then-self-clause-stays : goal.returns-then-self-clause-stays
+returns-then-self-clause-stays g c = λ _. (refl, refl, refl)
+
+pub returns-clause-turn : goal.returns-clause-turn
+returns-clause-turn g c = λ _. c.take_turn-starved.ensures.turn
+
+pub returns-clause-last : goal.returns-clause-last
+returns-clause-last g c = λ _. c.take_turn-starved.ensures.last
+
+pub returns-clause-stays : goal.returns-clause-stays
+returns-clause-stays g c = λ e. absurd (true≢false (cc))
+
+pub returns-clause-ended : goal.returns-clause-ended
+returns-clause-ended g c = refl
