@@ -1,4 +1,5 @@
 // Calls of the operator, asked over memory. The bytes are those of the frames in docs/FORMATS.md.
+use super::told::bytes_of;
 use answer_text::put_ring_reply;
 use failing_io::{Narrow, Pieces};
 use host_calls::OperatorCall;
@@ -23,19 +24,24 @@ fn reader(bytes: &[u8], fails_at: usize) -> Pieces<'_> {
     }
 }
 
-#[test]
-fn undo_is_answered(rt: HostRuntime) -> Result<(), Fail> {
-    let alloc = rt.alloc();
-    let mut from = reader(MOVED, 0);
+// What is told of the answer to Undo 2, what was written, and how much of it was flushed.
+fn undone(alloc: Global) -> Result<(Vec<u8>, Vec<u8>, usize), Fail> {
     let mut to = Narrow::new(alloc, 4096);
     let mut text = Vec::new(alloc);
-    match ask_host(alloc, &mut from, &mut to, CALL) {
-        Ok(reply) => put_ring_reply(&reply, &mut text)?,
-        Err(fault) => panic!(rt; "{fault}"),
-    }
-    assert_eq!(rt; text.as_slice(), b"moved 3 5".as_slice());
-    assert_eq!(rt; to.taken.as_slice(), UNDO);
-    assert_eq!(rt; to.flushed, UNDO.len());
+    let Ok(reply) = ask_host(alloc, &mut reader(MOVED, 0), &mut to, CALL) else {
+        return Err(Fail::from("a reply"));
+    };
+    put_ring_reply(&reply, &mut text)?;
+    Ok((text, to.taken, to.flushed))
+}
+
+#[test]
+fn undo_is_answered(rt: HostRuntime) -> Result<(), Fail> {
+    let (text, written, flushed) = undone(rt.alloc())?;
+    assert_eq!(rt;
+        (text.as_slice(), written.as_slice(), flushed),
+        (b"moved 3 5".as_slice(), UNDO, UNDO.len())
+    );
     Ok(())
 }
 
@@ -86,72 +92,45 @@ fn run(alloc: Global, bytes: &[u8], call: OperatorCall, room: usize) -> (CallEnd
     (end, output.taken)
 }
 
-#[test]
-fn ends_by_what_was_answered(rt: HostRuntime) {
-    for (bytes, call, end, code, text) in [
-        (MOVED, CALL, CallEnd::Done, 0, b"moved 3 5\n".as_slice()),
-        (
-            [0, 0, 0, 2, 0xe0, 20].as_slice(),
-            CALL,
-            CallEnd::Refused,
-            1,
-            b"refused 20\n".as_slice(),
-        ),
-        (
-            [0, 0, 0, 2, 0xe1, 41].as_slice(),
-            CALL,
-            CallEnd::Refused,
-            1,
-            b"notyet 41\n".as_slice(),
-        ),
-        (
-            [0, 0, 0, 1, 0x9f].as_slice(),
-            CALL,
-            CallEnd::Refused,
-            1,
-            b"closed\n".as_slice(),
-        ),
-        (
-            [0, 0, 0, 1, 0x9f].as_slice(),
-            OperatorCall::Stop,
-            CallEnd::Done,
-            0,
-            b"closed\n".as_slice(),
-        ),
-        (
-            [0, 0, 0, 1, 0x92].as_slice(),
-            OperatorCall::Stop,
-            CallEnd::Done,
-            0,
-            b"done\n".as_slice(),
-        ),
-        (
-            [0, 0, 0, 2, 0xe0, 34].as_slice(),
-            OperatorCall::Stop,
-            CallEnd::Refused,
-            1,
-            b"refused 34\n".as_slice(),
-        ),
-        (
-            [0, 0, 0, 1, 0x14].as_slice(),
-            CALL,
-            CallEnd::Frame,
-            3,
-            b"".as_slice(),
-        ),
-        (
-            [0, 0, 0].as_slice(),
-            CALL,
-            CallEnd::Frame,
-            3,
-            b"".as_slice(),
-        ),
-    ] {
-        let (ended, printed) = run(rt.alloc(), bytes, call, 4096);
-        assert_eq!(rt; ended, end, "{bytes:?}");
-        assert_eq!(rt; status(ended), code, "{bytes:?}");
-        assert_eq!(rt; printed.as_slice(), text, "{bytes:?}");
+// The operator's call, U for Undo 2 and S for Stop; the bytes that are read; and the end, its status and what is printed, where / ends
+// a line.
+const ENDS: &str = "\
+U|00000009 93 00000003 00000005|Done 0 moved 3 5/
+U|00000002 e0 14|Refused 1 refused 20/
+U|00000002 e1 29|Refused 1 notyet 41/
+U|00000001 9f|Refused 1 closed/
+S|00000001 9f|Done 0 closed/
+S|00000001 92|Done 0 done/
+S|00000002 e0 22|Refused 1 refused 34/
+U|00000001 14|Frame 3 
+U|000000|Frame 3 ";
+
+// Whether a call ends as its line says.
+fn ends_so(alloc: Global, line: &str) -> Result<bool, Fail> {
+    let mut fields = line.split('|');
+    let (Some(asked), Some(bytes), Some(wanted)) = (fields.next(), fields.next(), fields.next())
+    else {
+        return Ok(false);
+    };
+    let call = if asked == "U" {
+        CALL
+    } else {
+        OperatorCall::Stop
+    };
+    let (end, printed) = run(alloc, &bytes_of(alloc, bytes)?, call, 4096);
+    let mut told = format!(in alloc; "{end:?} {} ", status(end))?;
+    for byte in printed {
+        told.push(if byte == b'\n' { '/' } else { byte as char })?;
     }
+    Ok(told.as_str() == wanted)
+}
+
+#[test]
+fn ends_by_what_was_answered(rt: HostRuntime) -> Result<(), Fail> {
+    for line in ENDS.lines() {
+        assert!(rt; ends_so(rt.alloc(), line)?, "{line}");
+    }
+    Ok(())
 }
 
 #[test]

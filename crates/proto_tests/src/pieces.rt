@@ -42,66 +42,86 @@ fn feed(
     Ok(fed.fault)
 }
 
+// What came of a stream that was fed in pieces.
+#[derive(Drop)]
+struct Seen {
+    calls: Vec<Operator>,
+    // Of each piece.
+    faults: Vec<Option<Fault>>,
+    // The places at which the feeder stood between two frames.
+    ends: Vec<usize>,
+}
+
+// Feeds a stream that is cut at these places.
+fn fed_in(alloc: Global, stream: &[u8], cuts: &[usize]) -> Result<Seen, Fail> {
+    let mut feeder = Feeder::<Operator>::new(alloc);
+    let mut seen = Seen {
+        calls: Vec::new(alloc),
+        faults: Vec::new(alloc),
+        ends: Vec::new(alloc),
+    };
+    let mut from = 0;
+    for cut in cuts {
+        let piece = stream.get(from..*cut).unwrap_or_default();
+        let fault = feed(alloc, &mut feeder, piece, &mut seen.calls)?;
+        seen.faults.push(fault)?;
+        if feeder.is_between() {
+            seen.ends.push(*cut)?;
+        }
+        from = *cut;
+    }
+    Ok(seen)
+}
+
 // A length of 0 behind a call: it is a fault, also of what comes then.
 #[test]
 fn a_fault_behind_a_call(rt: HostRuntime) -> Result<(), Fail> {
-    let alloc = rt.alloc();
-    let mut feeder = Feeder::<Operator>::new(alloc);
-    let mut calls = Vec::new(alloc);
-    let pieces = [
-        [0, 0, 0, 5, 0x1a].as_slice(),
-        [0, 0, 0, 2, 0, 0, 0, 0].as_slice(),
-        [].as_slice(),
-    ];
-    let mut faults = Vec::new(alloc);
-    for piece in pieces {
-        faults.push(feed(alloc, &mut feeder, piece, &mut calls)?)?;
-    }
-    assert_eq!(rt; calls.as_slice(), [CALLS[2]].as_slice());
-    assert_eq!(rt; faults.as_slice(), [None, LENGTH, LENGTH].as_slice());
+    let stream = [0, 0, 0, 5, 0x1a, 0, 0, 0, 2, 0, 0, 0, 0];
+    let seen = fed_in(rt.alloc(), &stream, &[5, 13, 13])?;
+    assert_eq!(rt;
+        (seen.calls.as_slice(), seen.faults.as_slice()),
+        ([CALLS[2]].as_slice(), [None, LENGTH, LENGTH].as_slice())
+    );
     Ok(())
 }
 
 // The kind is a fault once its frame is whole.
 #[test]
 fn cut_at_every_byte(rt: HostRuntime) -> Result<(), Fail> {
-    let alloc = rt.alloc();
     for at in 0..33 {
-        let (front, back) = STREAM.split_at(at);
-        let mut feeder = Feeder::<Operator>::new(alloc);
-        let mut calls = Vec::new(alloc);
-        let first = feed(alloc, &mut feeder, front, &mut calls)?;
-        let second = feed(alloc, &mut feeder, back, &mut calls)?;
-        let found = (
-            calls.as_slice() == CALLS.as_slice(),
-            first.is_some(),
-            second,
+        let seen = fed_in(rt.alloc(), &STREAM, &[at, 32])?;
+        let first = if at == 32 { KIND } else { None };
+        assert_eq!(rt;
+            (seen.calls.as_slice(), seen.faults.as_slice()),
+            (CALLS.as_slice(), [first, KIND].as_slice()),
+            "at {at}"
         );
-        assert_eq!(rt; found, (true, at == 32, KIND), "at {at}");
     }
     Ok(())
 }
 
-// The feeder stands between two frames after each call, and nowhere else.
+// All places of the stream but the first.
+fn each_byte(alloc: Global) -> Result<Vec<usize>, Fail> {
+    let mut cuts = Vec::new(alloc);
+    for cut in 1..33 {
+        cuts.push(cut)?;
+    }
+    Ok(cuts)
+}
+
+// The feeder stands between two frames after each call, and nowhere else; and the last byte makes the one fault.
 #[test]
 fn byte_by_byte(rt: HostRuntime) -> Result<(), Fail> {
-    let alloc = rt.alloc();
-    let mut feeder = Feeder::<Operator>::new(alloc);
-    let mut calls = Vec::new(alloc);
-    let mut ends = Vec::new(alloc);
-    let mut faults = Vec::new(alloc);
-    for (at, byte) in STREAM.iter().enumerate() {
-        if feed(alloc, &mut feeder, &[*byte], &mut calls)?.is_some() {
-            faults.push(at)?;
-        }
-        if feeder.is_between() {
-            ends.push(at)?;
-        }
-    }
-    assert!(rt; calls.as_slice() == CALLS.as_slice());
+    let seen = fed_in(rt.alloc(), &STREAM, &each_byte(rt.alloc())?)?;
+    let quiet = seen
+        .faults
+        .iter()
+        .take_while(|fault| fault.is_none())
+        .count();
+    assert!(rt; seen.calls.as_slice() == CALLS.as_slice());
     assert_eq!(rt;
-        (ends.as_slice(), faults.as_slice()),
-        ([4, 12, 21, 26].as_slice(), [31].as_slice())
+        (seen.ends.as_slice(), quiet, seen.faults.len()),
+        ([5, 13, 22, 27].as_slice(), 31, 32)
     );
     Ok(())
 }
