@@ -6,9 +6,11 @@ ghost use Rattle.host_core.specs.Opening.{IsIdle, AreIdle};
 use crate::opening::opened;
 use crate::rounds::{run, stop};
 use bytes::Bytes;
-use host_calls::ClientCall;
+use host_calls::{ClientCall, RingReply};
 use host_rings::{Caller, DeviceSeat};
 use plain_machine::{Answer, DeviceCall, Reply, Work};
+use rtrb::Protocol;
+use seats::Seat;
 use sector_core::{Op, Outcome, Range};
 use std::alloc::Global;
 use std::sync::Wait;
@@ -129,8 +131,12 @@ fn serve<R: Wait>(rt: &R, alloc: Global, mut seat: DeviceSeat, worker: u8)
     unreachable!()
 }
 
-// What a device is answered where each of its calls before has a reply; nothing if the host has ended.
-fn ask_again<R: Wait>(rt: &R, seat: &mut DeviceSeat, call: DeviceCall) -> Option<Answer>
+// What is answered at a seat where each call before has a reply; nothing if the host has ended.
+fn ask_again<R: Wait, C: Drop, P: Protocol<RingReply>>(
+    rt: &R,
+    seat: &mut Seat<C, P>,
+    call: C,
+) -> Option<Answer>
     requires { length (staged seat.old) ≡ length (collected seat.old) }
     ensures { IfSome result (λ _. length (staged seat.new) ≡ length (collected seat.new)) }
 {
@@ -159,19 +165,19 @@ fn finished(alloc: Global, work: &Work) -> Option<DeviceCall> {
 fn ask_rounds<R: Wait>(rt: &R, mut seat: Caller, number: u64, rounds: u64, round: Round) -> u64
     requires { IsIdle seat }
 {
-    let Ok(attached) = seat.ask(rt, ClientCall::Attach { group: 0, prio: 4 }) else {
+    let Some(attached) = ask_again(rt, &mut seat, ClientCall::Attach { group: 0, prio: 4 }) else {
         return 0;
     };
     let session = session_of(&attached);
     let mut answered = 0u64;
     for _ in 0..rounds {
         if round == Round::Read {
-            let Ok(_queued) = seat.ask(rt, read_of(session, number)) else {
+            let Some(_queued) = ask_again(rt, &mut seat, read_of(session, number)) else {
                 return answered;
             };
         }
         let reaped = if round == Round::Read { session } else { 0 };
-        let Ok(_reaped) = seat.ask(rt, ClientCall::Reap { session: reaped }) else {
+        let Some(_reaped) = ask_again(rt, &mut seat, ClientCall::Reap { session: reaped }) else {
             return answered;
         };
         answered = answered.wrapping_add(1);
