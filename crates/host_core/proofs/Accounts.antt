@@ -7,15 +7,15 @@ use Rattle.plain_machine.specs.declared.call.Call.TheVariants.{Do}
 use Rattle.plain_machine.specs.declared.step.Step.TheVariants.{Dispatch}
 use Rattle.host_calls.specs.declared.seat.SeatName.{SeatName}
 use Rattle.host_calls.specs.declared.seat.SeatName.TheVariants.{Core}
-use Rattle.host_journal.specs.Journal.{Pages, Entry}
+use Rattle.host_core.specs.Journal.{Pages, Entry}
 use Rattle.seats.specs.Rows.{Row, Took}
 use Rattle.seats.specs.declared.asked.Asked.TheVariants.{Ask}
-use Rattle.core_desks.specs.Visits.{SamePages, Serves, Changes}
-use Rattle.core_desks.specs.Closing.{AllClose}
-use Rattle.core_turn.specs.Rounds.{AllTook}
-use Rattle.core_turn.specs.Turns.{Answers, RoundBy, Dispatches, Ends, IsTurn, IsLastTurn}
-use Rattle.core_desks.proofs.Ends.{same-place}
-use Rattle.core_turn.proofs.Took.{took-none, all-none, all-one, all-twice, changes-so}
+use Rattle.host_core.specs.Visits.{SamePages, Serves, Changes}
+use Rattle.host_core.specs.Closing.{AllClose}
+use Rattle.host_core.specs.Rounds.{AllTook}
+use Rattle.host_core.specs.Turns.{Answers, RoundBy, Dispatches, Ends, IsTurn, IsLastTurn}
+use Rattle.host_core.proofs.Ends.{same-place}
+use Rattle.host_core.proofs.Took.{took-none, all-none, all-one, all-twice, changes-so}
 use Rattle.host_core.specs.Names.{AreNamed}
 use Rattle.host_core.specs.Keeping.{is_entry, is_own, IsKept, AreKept, AreShut}
 use Rattle.host_core.proofs.Kept.{added, entered-added, added-others, kept-took, kept-serves, kept-closes}

@@ -3,15 +3,15 @@ use Rattle.std.proofs.Common.{true, false, Bool, ◌≡◌, ℕ, ◌≤◌, List
 use Rattle.host_calls.specs.declared.ring.RingReply.{RingReply}
 use Rattle.host_calls.specs.declared.ring.RingReply.TheVariants.{Answer as Answered}
 use Rattle.host_calls.specs.declared.seat.SeatName.{SeatName}
-use Rattle.host_journal.specs.Journal.{Pages}
-use Rattle.host_journal.specs.declared.judges.Judges as journal
+use Rattle.host_core.specs.Journal.{Pages}
+use Rattle.host_core.specs.declared.judges.Judges as journal
 use Rattle.seats.specs.Rows.{Row}
 use Rattle.seats.specs.Settling.{AreSettled}
 use Rattle.seats.specs.declared.asked.Asked.{Asked}
 use Rattle.seat_account.specs.Account.{IsFirstPart}
 use Rattle.seat_account.proofs.Accounts.{account-first}
-use Rattle.core_desks.specs.Settling.{name_of, staged_calls, collected_replies, IsSettled}
-use Rattle.core_desks.specs.declared.settling.SeatEnd.{SeatEnd}
+use Rattle.host_core.specs.RowSettling.{name_of, staged_calls, collected_replies, IsSettled}
+use Rattle.host_core.specs.declared.row_settling.SeatEnd.{SeatEnd}
 use Rattle.host_core.specs.Cores.{seats_of}
 use Rattle.host_core.specs.Keeping.{judges, is_entry, entry_under, is_own, closing, IsKept, AreKept}
 use Rattle.host_core.specs.Settling.{IsFirst}

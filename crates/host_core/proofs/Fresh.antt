@@ -3,16 +3,16 @@ use Rattle.std.proofs.Common.{false, ◌≡◌, ◌≢◌, ℕ, ◌==◌, List, 
 use Rattle.host_calls.specs.declared.ring.RingReply.TheVariants.{Answer as Answered}
 use Rattle.host_calls.specs.declared.seat.SeatName.{SeatName}
 use Rattle.host_calls.specs.declared.seat.SeatName.TheVariants.{Core}
-use Rattle.host_journal.specs.Journal.{Pages}
+use Rattle.host_core.specs.Journal.{Pages}
 use Rattle.seats.specs.Rows.{Row}
 use Rattle.seat_account.proofs.Accounts.{account-none}
 use Rattle.seats.specs.Seats.{IsFresh, AreBeside}
 use Rattle.seats.specs.declared.desk.Desk.{Desk}
 use Rattle.seats.specs.declared.seat.Seat.{Seat}
-use Rattle.core_desks.specs.Opening.{AreFresh}
-use Rattle.core_desks.specs.Opened.{IsNameAt, AreOpened}
-use Rattle.core_desks.specs.Settling.{IsSeatedIn}
-use Rattle.core_desks.specs.Visits.{AllReady}
+use Rattle.host_core.specs.RowOpening.{AreFresh}
+use Rattle.host_core.specs.Opened.{IsNameAt, AreOpened}
+use Rattle.host_core.specs.RowSettling.{IsSeatedIn}
+use Rattle.host_core.specs.Visits.{AllReady}
 use Rattle.host_core.specs.Names.{same_name, AreNamed}
 use Rattle.host_core.specs.Opening.{AreIdle}
 use Rattle.host_core.specs.Keeping.{judges, is_entry, entry_under, is_own, AreKept}

@@ -7,15 +7,15 @@ use Rattle.plain_machine.specs.declared.answer.Answer.TheVariants.{Accepted, Ref
 use Rattle.host_calls.specs.declared.ring.RingReply.TheVariants.{Answer as Answered, Closed as Ended}
 use Rattle.host_calls.specs.declared.seat.SeatName.{SeatName}
 use Rattle.host_calls.specs.declared.seat.SeatName.TheVariants.{Client, Device, Operator, Core}
-use Rattle.host_journal.specs.Journal.{Pages, Entry}
+use Rattle.host_core.specs.Journal.{Pages, Entry}
 use Rattle.seats.specs.Rows.{Row, Took}
 use Rattle.seats.specs.declared.asked.Asked.{Asked}
 use Rattle.seats.specs.declared.asked.Asked.TheVariants.{Ask, Take, Stop}
 use Rattle.seat_account.specs.Account.{IsAccount}
 use Rattle.seat_account.proofs.Accounts.{account-takes, account-answers, account-closes}
-use Rattle.core_desks.specs.Judging.{entered_at}
-use Rattle.core_desks.specs.Visits.{Serves}
-use Rattle.core_desks.specs.Closing.{Closes}
+use Rattle.host_core.specs.Judging.{entered_at}
+use Rattle.host_core.specs.Visits.{Serves}
+use Rattle.host_core.specs.Closing.{Closes}
 use Rattle.host_core.specs.Names.{same_name}
 use Rattle.host_core.specs.Keeping.{judges, is_entry, entry_under, is_own, closing, IsKept}
 

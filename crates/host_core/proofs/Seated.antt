@@ -9,10 +9,10 @@ use Rattle.seats.specs.declared.desk.Desk.{Desk}
 use Rattle.seats.specs.declared.rules.ClientReplies.{ClientReplies}
 use Rattle.seats.specs.declared.rules.OperatorReplies.{OperatorReplies}
 use Rattle.seats.specs.declared.seat.Seat.{Seat}
-use Rattle.host_journal.specs.declared.judges.Judges as journal
-use Rattle.core_desks.specs.Same.{SameEach}
-use Rattle.core_desks.specs.Settling.{IsSeatedIn}
-use Rattle.core_desks.proofs.Same.{desks-twice}
+use Rattle.host_core.specs.declared.judges.Judges as journal
+use Rattle.host_core.specs.Same.{SameEach}
+use Rattle.host_core.specs.RowSettling.{IsSeatedIn}
+use Rattle.host_core.proofs.Same.{desks-twice}
 use Rattle.host_core.specs.Cores.{SameSeats}
 use Rattle.host_core.specs.Settling.{IsCallerOf, IsDeviceOf, IsOperatorOf}
 use Rattle.host_core.specs.declared.turns.Core.{Core}

@@ -1,10 +1,10 @@
 -- What is seen of a core.
 use Rattle.std.specs.Prelude.{ℕ, Bool, List, Option}
-use Rattle.host_journal.specs.Journal.{Pages}
-use Rattle.host_journal.specs.declared.judges.Judges as journal
+use Rattle.host_core.specs.Journal.{Pages}
+use Rattle.host_core.specs.declared.judges.Judges as journal
 use Rattle.seats.specs.Rows.{Row}
-use Rattle.core_desks.specs.Desks.{rows, lasts}
-use Rattle.core_desks.specs.Same.{SameDesks}
+use Rattle.host_core.specs.Desks.{rows, lasts}
+use Rattle.host_core.specs.Same.{SameDesks}
 use Rattle.host_core.specs.declared.turns.Core.{Core}
 
 module _ {B : Type 0} {j : journal.Ghosts B} where

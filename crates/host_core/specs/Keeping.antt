@@ -7,13 +7,13 @@ use Rattle.plain_machine.specs.Step.{Limits}
 use Rattle.host_calls.specs.declared.ring.RingReply.{RingReply}
 use Rattle.host_calls.specs.declared.ring.RingReply.TheVariants.{Answer as Answered, Closed as Ended}
 use Rattle.host_calls.specs.declared.seat.SeatName.{SeatName}
-use Rattle.host_journal.specs.Journal.{Pages, Entry}
+use Rattle.host_core.specs.Journal.{Pages, Entry}
 use Rattle.seats.specs.Rows.{Row}
 use Rattle.seats.specs.declared.asked.Asked.{Asked}
 use Rattle.seats.specs.declared.asked.Asked.TheVariants.{Ask, Take, Stop}
 use Rattle.seat_account.specs.Account.{IsAccount}
-use Rattle.core_desks.specs.Judging.{JudgedBy}
-use Rattle.core_turn.specs.Turns.{is_accepted}
+use Rattle.host_core.specs.Judging.{JudgedBy}
+use Rattle.host_core.specs.Turns.{is_accepted}
 use Rattle.host_core.specs.Names.{same_name}
 
 -- an answer is right after some entries, for some choice of what the devices took last, of which there are at most four (our profile)

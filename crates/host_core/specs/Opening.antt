@@ -8,8 +8,8 @@ use Rattle.seats.specs.Seats.{IsFresh, staged, collected, is_closed}
 use Rattle.seats.specs.declared.rules.ClientReplies.{ClientReplies}
 use Rattle.seats.specs.declared.rules.OperatorReplies.{OperatorReplies}
 use Rattle.seats.specs.declared.seat.Seat.{Seat}
-use Rattle.host_journal.specs.declared.judges.Judges as journal
-use Rattle.core_desks.specs.Opening.{AreFresh}
+use Rattle.host_core.specs.declared.judges.Judges as journal
+use Rattle.host_core.specs.RowOpening.{AreFresh}
 use Rattle.host_core.specs.declared.turns.Core.{Core}
 
 module _ {C P : Type 0} where

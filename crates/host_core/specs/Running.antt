@@ -1,8 +1,8 @@
 -- The turns of a core, one after the other.
 use Rattle.std.specs.Prelude.{◌≡◌, ℕ, zero, suc, Bool, true, false, Option}
 use Rattle.host_calls.specs.declared.seat.SeatName.{SeatName}
-use Rattle.host_journal.specs.declared.judges.Judges as journal
-use Rattle.core_turn.specs.Turns.{is_starved, IsTurn, IsLastTurn}
+use Rattle.host_core.specs.declared.judges.Judges as journal
+use Rattle.host_core.specs.Turns.{is_starved, IsTurn, IsLastTurn}
 use Rattle.host_core.specs.Cores.{pages, seats_of, last_works, has_ended, is_starving, SameSeats}
 use Rattle.host_core.specs.Keeping.{AreKept}
 use Rattle.host_core.specs.declared.turns.Core.{Core}

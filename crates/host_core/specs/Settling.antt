@@ -5,16 +5,16 @@ use Rattle.host_calls.specs.declared.operator.OperatorCall.{OperatorCall}
 use Rattle.plain_machine.specs.declared.call.DeviceCall.{DeviceCall}
 use Rattle.rtrb.specs.declared.AnyItems.{AnyItems}
 use Rattle.host_calls.specs.declared.ring.RingReply.TheVariants.{Answer as Answered}
-use Rattle.host_journal.specs.Journal.{Pages}
-use Rattle.host_journal.specs.declared.judges.Judges as journal
+use Rattle.host_core.specs.Journal.{Pages}
+use Rattle.host_core.specs.declared.judges.Judges as journal
 use Rattle.seats.specs.Rows.{Row}
 use Rattle.seat_account.specs.Account.{IsFirstPart}
 use Rattle.seats.specs.Seats.{AreBeside}
 use Rattle.seats.specs.declared.rules.ClientReplies.{ClientReplies}
 use Rattle.seats.specs.declared.rules.OperatorReplies.{OperatorReplies}
 use Rattle.seats.specs.declared.seat.Seat.{Seat}
-use Rattle.core_desks.specs.Settling.{IsSeatedIn, IsSeated, name_of, staged_calls, collected_replies}
-use Rattle.core_desks.specs.declared.settling.SeatEnd.{SeatEnd}
+use Rattle.host_core.specs.RowSettling.{IsSeatedIn, IsSeated, name_of, staged_calls, collected_replies}
+use Rattle.host_core.specs.declared.row_settling.SeatEnd.{SeatEnd}
 use Rattle.host_core.specs.Cores.{seats_of}
 use Rattle.host_core.specs.Keeping.{judges, is_entry, entry_under, is_own, closing}
 use Rattle.host_core.specs.declared.settling.CoreEnd.{CoreEnd}

@@ -1,14 +1,14 @@
 // A core and its seats, made together.
 ghost use Rattle.std.specs.Prelude.{◌≡◌, ◌≤◌, [], IfOk, false};
-ghost use Rattle.core_desks.specs.Opened.{AreOpened};
+ghost use Rattle.host_core.specs.Opened.{AreOpened};
 ghost use Rattle.host_core.specs.Cores.{keeper, seats_of, has_ended};
 ghost use Rattle.host_core.specs.Opening.{ArePaired, IsIdle, AreIdle};
 ghost use Rattle.host_core.specs.Settling.{AreCallersOf, AreDevicesOf, IsOperatorOf};
 
+use crate::desks::Desks;
+use crate::judges::Judges;
 use crate::turns::Core;
-use core_desks::Desks;
 use host_calls::{ClientCall, OperatorCall};
-use host_journal::Judges;
 use plain_machine::DeviceCall;
 use rtrb::AnyItems;
 use seats::{Bell, ClientReplies, OperatorReplies, Seat};

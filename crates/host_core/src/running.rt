@@ -1,7 +1,7 @@
 // The core at work: it takes turns until it has ended, and sleeps while there is nothing to do.
 
+use crate::judges::Judges;
 use crate::turns::Core;
-use host_journal::Judges;
 use std::alloc::Global;
 use std::sync::Wait;
 use std::thread;

@@ -1,12 +1,12 @@
 // A core and a seat that have ended their work.
 ghost use Rattle.std.specs.Prelude.{◌≡◌, IfOk, IsOk};
-ghost use Rattle.core_desks.specs.Settling.{name_of, staged_calls, collected_replies, IsSettled};
+ghost use Rattle.host_core.specs.RowSettling.{name_of, staged_calls, collected_replies, IsSettled};
 ghost use Rattle.host_core.specs.Cores.{keeper, pages, seats_of, has_ended, SameSeats};
 ghost use Rattle.host_core.specs.Settling.{core_of, AreOfOneHost, IsFirst};
 
+use crate::judges::Judges;
+use crate::row_settling::SeatEnd;
 use crate::turns::Core;
-use core_desks::SeatEnd;
-use host_journal::Judges;
 use seats::Settled;
 use thiserror::Error;
 

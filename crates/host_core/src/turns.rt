@@ -1,14 +1,14 @@
 // The core of a host, and its turns.
 ghost use Rattle.std.specs.Prelude.{◌≡◌, ◌<◌, length, true, false};
-ghost use Rattle.core_desks.specs.Desks.{rows};
-ghost use Rattle.core_desks.specs.Visits.{AllReady};
+ghost use Rattle.host_core.specs.Desks.{rows};
+ghost use Rattle.host_core.specs.Visits.{AllReady};
 ghost use Rattle.host_core.specs.Names.{AreNamed};
 ghost use Rattle.host_core.specs.Keeping.{AreKept, AreShut, AreSingle};
 
-use core_desks::Desks;
-use core_turn::{TurnReport, Turned, take_turn};
+use crate::desks::Desks;
+use crate::judges::Judges;
+use crate::turn::{TurnReport, Turned, take_turn};
 use host_calls::SeatName;
-use host_journal::Judges;
 use plain_machine::Call;
 use seats::Bell;
 use std::alloc::Global;
@@ -45,8 +45,8 @@ impl<B: Judges + Drop> Drop for Core<B> {
 impl<B: Judges> Core<B> {
     ghost use Rattle.std.specs.Prelude.{None, slice_get};
     ghost use Rattle.std.specs.Option.{option_map};
-    ghost use Rattle.host_journal.specs.Journal.{shown_entry};
-    ghost use Rattle.core_turn.specs.Turns.{is_starved, IsTurn, IsLastTurn};
+    ghost use Rattle.host_core.specs.Journal.{shown_entry};
+    ghost use Rattle.host_core.specs.Turns.{is_starved, IsTurn, IsLastTurn};
     ghost use Rattle.host_core.specs.Cores.{keeper, pages, seats_of, last_works, has_ended, is_starving, SameSeats};
 
     /// Visits the seats, from the one after that which was answered last, up to the first that is answered; then it tries one Dispatch.

@@ -1,9 +1,9 @@
 // The connections of a client's path, one after the other.
 ghost use Rattle.host_core.specs.Opening.{IsIdle};
 
+use crate::asker::SeatAsker;
 use crate::threads::breathe;
 use host_core::Caller;
-use session_seat::SeatAsker;
 use session_serve::serve;
 use std::alloc::Global;
 use std::os::unix::net::UnixListener;

@@ -9,9 +9,11 @@
 //! | [`start_operator`] | the thread of the operator's path |
 //! | [`serve_operator`] | each call of the operator is asked at his seat, and is answered before the next is asked |
 //! | [`tell_closed`] | the operator is told that the host has ended |
+//! | [`SeatAsker::ask`](session_serve::Asks::ask) | one call staged at the seat and one reply collected there; an answer has a frame of the host, and is no NotYet; once the host has ended nothing is staged |
 //!
-//! There is no contract but that a seat can go on: no clause can name what a socket or a thread does. The calls that it puts together
-//! have theirs.
+//! Of sockets and threads there is no contract but that a seat can go on: no clause can name what they do. The calls that they put
+//! together have theirs. [`SeatAsker`] is a client's seat as the asker of a session. The host's core runs on another thread: a call that
+//! cannot be answered yet waits there, and so the client waits.
 //!
 //! Each path has a thread, which owns a seat and meets one connection after the other. So has each device.
 //!
@@ -24,8 +26,13 @@
 //! let doors = open_doors(&rt, alloc, "/run/bfq", 4, &mut made)?;      // five sockets, and the paths of their files in `made`
 //! let serving = start_operator(rt, alloc, doors.operator, operator)?;
 //! serving.join(&rt)                                                    // the connection of the operator, after his Stop
+//!
+//! let mut asker = SeatAsker::new(rt, seat);
+//! asker.ask(alloc, ClientCall::Attach { group: 0, prio: 4 })           // Ok(Accepted(Attached { session: 1 }))
+//! asker.is_closed()                                                    // false, until the core has said that it has ended
 //! ```
 
+mod asker;
 mod clients;
 mod doors;
 mod end;
@@ -33,6 +40,7 @@ mod operator;
 mod places;
 mod threads;
 
+pub use asker::SeatAsker;
 pub use doors::{Doors, open_doors, remove_all};
 pub use end::ServeEnd;
 pub use operator::{serve_operator, tell_closed};

@@ -2,13 +2,13 @@
 ghost use Rattle.std.specs.Prelude.{◌≡◌, ◌<◌, ◌^◌, [], IfOk, IfErr, false};
 ghost use Rattle.dispatch_core.specs.Running.{sizes_of};
 ghost use Rattle.plain_machine.specs.Step.{of_sizes};
-ghost use Rattle.core_desks.specs.Opened.{AreOpened};
+ghost use Rattle.host_core.specs.Opened.{AreOpened};
 ghost use Rattle.host_core.specs.Cores.{pages, seats_of, has_ended};
 ghost use Rattle.host_core.specs.Opening.{ArePaired, IsIdle, AreIdle};
 ghost use Rattle.host_core.specs.Settling.{AreCallersOf, AreDevicesOf, IsOperatorOf};
 ghost use Rattle.host_rings.specs.Workers.{are_bad_workers, is_bad_workers};
 
-use host_book::Book;
+use crate::book::Book;
 use host_core::{Caller, DeviceSeat, OperatorSeat, open_core};
 use sector_core::Config;
 use std::alloc::Global;

@@ -1,8 +1,8 @@
 // What is seen of the core of a host.
 ghost use Rattle.std.specs.Prelude.{◌≡◌, true, false};
 ghost use Rattle.plain_machine.specs.Keeper.{replay};
-ghost use Rattle.host_journal.specs.Journal.{calls_of};
-ghost use Rattle.core_desks.specs.Visits.{AllReady};
+ghost use Rattle.host_core.specs.Journal.{calls_of};
+ghost use Rattle.host_core.specs.Visits.{AllReady};
 ghost use Rattle.host_core.specs.Cores.{pages, seats_of, has_ended};
 ghost use Rattle.host_core.specs.Names.{AreNamed};
 ghost use Rattle.host_core.specs.Keeping.{AreKept, AreShut, AreSingle};

@@ -1,9 +1,8 @@
 // The thread of a host's core.
 
 use crate::warning::{has_entry, nine_tenths};
-use host_book::Book;
 use host_paths::ServeEnd;
-use host_rings::Core;
+use host_rings::{Book, Core};
 use std::alloc::Global;
 use std::io::Eprint;
 use std::sync::Wait;

@@ -5,8 +5,8 @@ use Rattle.host_calls.specs.declared.operator.OperatorCall.{OperatorCall}
 use Rattle.host_calls.specs.declared.operator.OperatorCall.TheVariants.{GroupMake, GroupDrop, SetWeight, Freeze, Thaw, Switch, Tick, Hold, Release, Undo, Redo, Stop}
 use Rattle.host_calls.specs.declared.ring.RingReply.{RingReply}
 use Rattle.host_calls.specs.declared.ring.RingReply.TheVariants as ring
-use Rattle.host_asking.specs.declared.fault.AskFault.{AskFault}
-use Rattle.host_asking.specs.declared.fault.AskFault.TheVariants as fault
+use Rattle.operator_asking.specs.declared.fault.AskFault.{AskFault}
+use Rattle.operator_asking.specs.declared.fault.AskFault.TheVariants as fault
 use Rattle.operator_asking.specs.declared.ending.CallEnd.{CallEnd}
 use Rattle.operator_asking.specs.declared.ending.CallEnd.TheVariants.{Done, Refused, Socket, Frame, WriteFault, OutOfMemory}
 

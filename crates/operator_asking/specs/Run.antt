@@ -5,9 +5,9 @@ use Rattle.frame_stream.specs.Frame.{framed}
 use Rattle.host_calls.specs.declared.operator.OperatorCall.{OperatorCall}
 use Rattle.host_calls.specs.declared.ring.RingReply.{RingReply}
 use Rattle.answer_text.specs.Texts.{ring_text}
-use Rattle.host_asking.specs.Asked.{Known, Ends, WroteFront}
-use Rattle.host_asking.specs.declared.fault.AskFault.{AskFault}
-use Rattle.host_asking.specs.declared.fault.AskFault.TheVariants as fault
+use Rattle.operator_asking.specs.Asked.{Known, Ends, WroteFront}
+use Rattle.operator_asking.specs.declared.fault.AskFault.{AskFault}
+use Rattle.operator_asking.specs.declared.fault.AskFault.TheVariants as fault
 use Rattle.session_proto.specs.Operator.{operator_body}
 use Rattle.session_proto.specs.Host.{host_body, HostFits, host_at}
 use Rattle.session_proto.specs.declared.host.Host.{Host}

@@ -2,7 +2,8 @@
 ghost use Rattle.session_proto.specs.Operator.{OperatorFits};
 ghost use Rattle.operator_asking.specs.Run.{Asks};
 
-use host_asking::{AskFault, ask};
+use crate::fault::AskFault;
+use crate::one_call::ask;
 use host_calls::{OperatorCall, RingReply};
 use session_proto::{Host, Operator};
 use std::alloc::Global;

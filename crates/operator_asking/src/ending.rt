@@ -2,7 +2,7 @@
 ghost use Rattle.std.specs.Prelude.{◌≡◌};
 ghost use Rattle.operator_asking.specs.Ending.{end_of, fault_end, status_of};
 
-use host_asking::AskFault;
+use crate::fault::AskFault;
 use host_calls::{OperatorCall, RingReply};
 use plain_machine::Answer;
 

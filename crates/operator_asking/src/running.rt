@@ -4,8 +4,8 @@ ghost use Rattle.operator_asking.specs.Run.{IsRun, line_of};
 
 use crate::asking::ask_host;
 use crate::ending::{CallEnd, end_at};
+use crate::writing::write_flushed;
 use answer_text::put_ring_reply;
-use host_asking::write_flushed;
 use host_calls::{OperatorCall, RingReply};
 use sector_core::OutOfMemory;
 use std::alloc::Global;

@@ -1,40 +1,94 @@
 #![tactic(auto)]
-//! Asks of clients of a host, each in a thread of its own, so that their time can be measured.
+//! The seats of a host: a script played on them in one thread, and asks of clients, each in a thread of its own, whose time can be
+//! measured.
 //!
 //! | words | what is done, and what is printed |
 //! |---|---|
-//! | `ASKS` | four clients ask so often for a seat, the core is stopped, and every end is settled: how many calls were answered, how many accepted, how many were left, and how many replies not collected |
+//! | `ASKS` | four clients ask so often for a seat, the core is stopped, and every end is settled: how many calls were answered, how many accepted, how many were left, how many replies not collected; of the first ten entries of the journal how many are a client's, and how many another's; and whether the operator heard of the end |
 //! | `ROUNDS CLIENTS` | so many clients, up to 16, make so many calls that are refused at once: how many were answered |
 //! | `ROUNDS CLIENTS 1` | each reads a sector so often, with two devices at work: how many reads were answered |
 //! | `CALLS 0` | so many calls go over the rings of one seat, with no keeper behind it: how many were answered |
 //! | `0` | a held host with a call that waits, until standard input ends: how many lines that had |
+//! | `play WORKERS` | the script on standard input, over a host with so many workers, a line for each of its lines |
 //!
-//! Words that are no numbers are passed over; with none, each of the four asks 25 times.
+//! Words that are no numbers are passed over; with none, each of the four asks 25 times. Up to 1,000 asks the four clients' host has a
+//! history of 100 calls, which refused calls do not fill, and else one of a million.
 //!
 //! ```text
-//! ring_bench               // 100 4 0 18
+//! ring_bench               // 100 4 0 18 4 0 true
 //! ring_bench 1000 16       // 16000
 //! ```
+//!
+//! # A script
+//!
+//! The host has 1,024 sectors, two workers if nothing else is said, and an image that is all zeros. Each line is a call that a seat stages; its seat is known by
+//! its kind. Then the core takes one turn, and each seat that plays collects a reply, if there is one. A client or a device plays from
+//! its first call on, the operator always.
+//!
+//! | line | call |
+//! |---|---|
+//! | `attach SEAT GROUP PRIO`, `read SEAT SESSION START COUNT`, `write SEAT SESSION START COUNT BYTE`, `reap SEAT SESSION`, `leave SEAT` | a client's |
+//! | `take WORKER`, `requeue TAG ISSUE`, `finish TAG ISSUE stored\|short\|fault\|fill BYTE` | a device's; `fill` is as long as the work that was taken last |
+//! | `device N` | none: the device's calls that follow are those of this one, where they were those of device 1 |
+//! | `hold`, `release`, `undo K`, `redo K`, `freeze`, `thaw`, `switch NAME`, `group PARENT WEIGHT`, `drop GROUP`, `weight GROUP WEIGHT`, `tick`, `stop` | the operator's |
+//! | `turn`, and any other line | none |
+//! | `stage` and one of these | the same, but the core takes no turn, and nothing is collected |
+//!
+//! For each line one is printed: `full` if there was no place for the call; whom the turn answered, or `nobody`; `dispatched` if it
+//! dispatched; `ended` if the core has ended; and after a colon what was collected. Behind `stage` it is `staged` or `full`.
+//!
+//! ```text
+//! attach 3 0 4           // client 3: attached 1
+//! read 3 1 0 1           // client 3 dispatched: queued 2
+//! take 0                 // device 1: refused 35
+//! ```
 
-use ring_rounds::{Round, bare_calls, four_clients, held_until_input_ends, many_clients};
+mod bare;
+mod busy;
+mod held;
+mod opening;
+mod play;
+mod rounds;
+mod seated;
+mod settling;
+
+use bare::bare_calls;
+use busy::{Round, many_clients};
+use held::held_until_input_ends;
+use play::played;
+use rounds::four_clients;
 use script_line::number;
+use seated::opened;
 use std::rt::Env;
 use std::{env, io};
 
-// How many calls the history of the four clients' host holds.
+// How many calls the history of the four clients' host holds, and up to how many asks each it is the short one.
 const HISTORY: u64 = 1_000_000;
+
+const SHORT_HISTORY: u64 = 100;
+
+const FEW_ASKS: u64 = 1_000;
 
 fn main(rt: HostRuntime) -> io::Result<()> {
     let words = numbers(&rt)?;
+    if plays(&rt)? {
+        return play_all(rt, words.first().copied().unwrap_or(2));
+    }
     let rounds = words.first().copied().unwrap_or(25);
     let done = match (rounds, words.get(1).copied()) {
         (0, None) => held_until_input_ends(rt, rt.alloc()),
         (_, None) => {
-            return match four_clients(&rt, rt.alloc(), rounds, HISTORY) {
+            return match four_clients(&rt, rt.alloc(), rounds, history_for(rounds)) {
                 Some(all) => {
                     println!(rt;
-                        "{} {} {} {}",
-                        all.answered, all.accepted, all.left, all.uncollected
+                        "{} {} {} {} {} {} {}",
+                        all.answered,
+                        all.accepted,
+                        all.left,
+                        all.uncollected,
+                        all.entries.0,
+                        all.entries.1,
+                        all.has_ended
                     )
                 }
                 None => println!(rt; "no memory"),
@@ -53,6 +107,34 @@ fn main(rt: HostRuntime) -> io::Result<()> {
         Some(count) => println!(rt; "{count}"),
         None => println!(rt; "no memory"),
     }
+}
+
+// Whether there is the word `play`.
+fn plays(rt: &(impl Env + AllocGlobal)) -> io::Result<bool> {
+    for word in env::args(rt)? {
+        if word.as_str() == "play" {
+            return Ok(true);
+        }
+    }
+    Ok(false)
+}
+
+fn history_for(asks: u64) -> u64 {
+    if asks <= FEW_ASKS {
+        SHORT_HISTORY
+    } else {
+        HISTORY
+    }
+}
+
+// A number of workers that no host may have is told as want of memory is.
+fn play_all(rt: HostRuntime, workers: u64) -> io::Result<()> {
+    let mut host = opened(rt.alloc(), u8::try_from(workers).unwrap_or(0))?;
+    for line in rt.lines(rt.alloc()) {
+        let text = played(rt.alloc(), &mut host, line?.as_bytes())?;
+        println!(rt; "{text}")?;
+    }
+    Ok(())
 }
 
 // The words that are numbers, in their order.

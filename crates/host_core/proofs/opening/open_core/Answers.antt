@@ -1,6 +1,6 @@
 use Rattle.std.proofs.Common.{refl, arith}
 use Rattle.std.proofs.lemmas.Bool.{false≢true}
-use Rattle.core_desks.specs.Desks.{rows}
+use Rattle.host_core.specs.Desks.{rows}
 use Rattle.host_core.proofs.Fresh.{kept-fresh, ready-fresh, named-fresh, idle-fresh, seated-fresh, beside-fresh}
 use Rattle.host_core.proofs.opening.open_core.Goals as goal
 

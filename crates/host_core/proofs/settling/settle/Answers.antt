@@ -1,7 +1,7 @@
 use Rattle.std.proofs.Common.{◌<◌, length, refl, sym, subst}
 use Rattle.std.proofs.Math.Logic.{∥∥₁_map}
-use Rattle.core_desks.specs.Settling.{name_of, staged_calls, collected_replies, IsSettled}
-use Rattle.core_desks.specs.Visits.{AllReady}
+use Rattle.host_core.specs.RowSettling.{name_of, staged_calls, collected_replies, IsSettled}
+use Rattle.host_core.specs.Visits.{AllReady}
 use Rattle.host_core.specs.Names.{AreNamed}
 use Rattle.host_core.specs.Keeping.{AreKept, AreShut}
 use Rattle.host_core.proofs.First.{first-of}

@@ -1,5 +1,5 @@
 use Rattle.std.proofs.Common.{ap, ◌∙◌, rules}
-use Rattle.host_journal.specs.Journal.{Pages}
+use Rattle.host_core.specs.Journal.{Pages}
 use Rattle.host_rings.proofs.opening.host.Goals as goal
 
 pub returns-in-Ok-open_core-clause-few : goal.returns-in-Ok-open_core-clause-few

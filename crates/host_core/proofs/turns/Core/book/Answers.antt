@@ -1,4 +1,4 @@
-use Rattle.core_desks.proofs.Waiting.{one-waits}
+use Rattle.host_core.proofs.Waiting.{one-waits}
 use Rattle.host_core.proofs.turns.Core.book.Goals as goal
 
 pub returns-clause-single : goal.returns-clause-single

@@ -1,5 +1,5 @@
 use Rattle.std.proofs.Common.{refl, sym, ◌∙◌, of_calls}
-use Rattle.core_desks.proofs.Same.{desks-none, desks-twice}
+use Rattle.host_core.proofs.Same.{desks-none, desks-twice}
 use Rattle.host_core.proofs.More.{turns-more}
 use Rattle.host_core.proofs.turns.Core.run_watched.Goals as goal
 

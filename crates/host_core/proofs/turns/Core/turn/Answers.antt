@@ -1,9 +1,9 @@
 use Rattle.std.proofs.Common.{refl}
 use Rattle.std.proofs.lemmas.Bool.{true≢false}
 use Rattle.std.proofs.Math.Logic.{∥∥₁_map}
-use Rattle.core_desks.specs.Desks.{rows, lasts}
-use Rattle.core_desks.proofs.Same.{desks-none}
-use Rattle.core_desks.proofs.Waiting.{few-devices}
+use Rattle.host_core.specs.Desks.{rows, lasts}
+use Rattle.host_core.proofs.Same.{desks-none}
+use Rattle.host_core.proofs.Waiting.{few-devices}
 use Rattle.host_core.proofs.Accounts.{kept-any, named-any, shut-last}
 use Rattle.host_core.proofs.turns.Core.turn.Goals as goal
 

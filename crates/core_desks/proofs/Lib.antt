@@ -1,8 +1,0 @@
-pub mod Rules
-pub mod Rows
-pub mod Ends
-pub mod Served
-pub mod Fresh
-pub mod Same
-pub mod Settled
-pub mod Waiting

@@ -1,9 +1,0 @@
-pub mod Judging
-pub mod Visits
-pub mod Visited
-pub mod Desks
-pub mod Closing
-pub mod Opening
-pub mod Opened
-pub mod Same
-pub mod Settling

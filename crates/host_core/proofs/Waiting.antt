@@ -1,0 +1,38 @@
+-- What waits at the seats of a core, and how many devices it has.
+use Rattle.std.proofs.Common.{◌≡◌, ℕ, zero, suc, ◌≤◌, List, [], ◌∷◌, ◌++◌, length, map, Option, None, Some, slice_get, option_to_list, subst, arith}
+use Rattle.std.proofs.lemmas.List.{length-map}
+use Rattle.std.proofs.lemmas.Option.{same_Some}
+use Rattle.host_calls.specs.declared.seat.SeatName.TheVariants.{Client, Device, Operator}
+use Rattle.seats.specs.Asked.{client_asked, device_asked, operator_asked}
+use Rattle.seats.specs.Rows.{Row, last_taken}
+use Rattle.seats.specs.Seats.{row_of}
+use Rattle.host_core.specs.Desks.{rows, lasts, caller_rows, device_rows, operator_row}
+use Rattle.host_core.specs.declared.desks.Desks.{Desks}
+
+module _ {X : Type 0} (Q : X → Type 0) where
+  all-joined : (xs ys : List X) → ((i : ℕ) (x : X) → slice_get xs i ≡ Some x → Q x) → ((i : ℕ) (x : X) → slice_get ys i ≡ Some x → Q x)
+      → (i : ℕ) (x : X) → slice_get (xs ++ ys) i ≡ Some x → Q x
+  all-joined [] ys first second i x at = second i x at
+  all-joined (y ∷ xs) ys first second zero x at = first zero x at
+  all-joined (y ∷ xs) ys first second (suc i) x at = all-joined xs ys (λ j z there. first (suc j) z there) second i x at
+
+  all-mapped : {D : Type 0} (f : D → X) (each : (d : D) → Q (f d)) (ds : List D) (i : ℕ) (x : X) → slice_get (map f ds) i ≡ Some x → Q x
+  all-mapped f each [] i x at = grind (arith, at)
+  all-mapped f each (d ∷ ds) zero x at = subst Q (same_Some (f d) x at) (each d)
+  all-mapped f each (d ∷ ds) (suc i) x at = all-mapped f each ds i x at
+
+at-most-one : {X : Type 0} (o : Option X) → length (option_to_list o) ≤ 1
+at-most-one None = omega arith
+at-most-one (Some x) = omega arith
+
+-- at most one call waits at each seat
+pub one-waits : (d : Desks) (i : ℕ) (r : Row) → slice_get (rows d) i ≡ Some r → length r.waiting ≤ 1
+one-waits d = all-joined (λ r. length r.waiting ≤ 1) (caller_rows d) (device_rows d ++ operator_row d ∷ [])
+    (all-mapped (λ r. length r.waiting ≤ 1) (row_of client_asked Client) (λ e. at-most-one e.waiting) d.callers.items)
+    (all-joined (λ r. length r.waiting ≤ 1) (device_rows d) (operator_row d ∷ [])
+    (all-mapped (λ r. length r.waiting ≤ 1) (row_of device_asked Device) (λ e. at-most-one e.waiting) d.devices.items)
+    (all-mapped (λ r. length r.waiting ≤ 1) (row_of operator_asked (λ _. Operator)) (λ e. at-most-one e.waiting) (d.operator ∷ [])))
+
+-- a core has at most four devices
+pub few-devices : (d : Desks) → length (lasts d) ≤ 4
+few-devices d = omega (arith, d.devices_few, length-map (device_rows d) (λ r. last_taken r.replied), length-map d.devices.items (row_of device_asked Device))

@@ -1,0 +1,6 @@
+use Rattle.std.proofs.Common.{◌≡◌, length}
+use Rattle.seats.specs.Seats.{staged, collected}
+use Rattle.host_tests.proofs.asking.ask_all.Given as goal
+
+abbrev pub invariant-loop-session : goal.invariant-loop-session
+invariant-loop-session g l = length (staged l.seat) ≡ length (collected l.seat)

@@ -1,0 +1,5 @@
+use Rattle.seats.specs.Seats.{SameSeat}
+use Rattle.host_tests.proofs.settling.collect_all.Given as goal
+
+abbrev pub invariant-loop : goal.invariant-loop
+invariant-loop l = SameSeat l.initial.seat l.seat

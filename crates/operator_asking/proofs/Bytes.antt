@@ -1,0 +1,37 @@
+-- Bytes that are taken and appended one after another.
+use Rattle.std.proofs.Common.{◌≡◌, ℕ, List, [], ◌++◌, take, drop, Some, None, refl, sym, ap, ◌∙◌, append_assoc, append-nil, take-append-drop}
+use Rattle.std.specs.Io.KnownBytes.{Appends, Consumes}
+use Rattle.operator_asking.specs.Asked.{Known}
+
+pub Appends-none : (w : Known) → Appends w w []
+Appends-none None = tt
+Appends-none (Some xs) = sym (append-nil xs)
+
+pub Appends-more : (a b c : Known) (x y : List ℕ) → Appends a b x → Appends b c y → Appends a c (x ++ y)
+Appends-more None b c x y h k = tt
+Appends-more (Some xs) None c x y h k = absurd h
+Appends-more (Some xs) (Some ys) None x y h k = absurd k
+Appends-more (Some xs) (Some ys) (Some zs) x y h k = k ∙ ap (λ l. l ++ y) h ∙ append_assoc xs x y
+
+pub Consumes-none : (r : Known) → Consumes r r []
+Consumes-none None = tt
+Consumes-none (Some xs) = refl
+
+pub Consumes-more : (a b c : Known) (x y : List ℕ) → Consumes a b x → Consumes b c y → Consumes a c (x ++ y)
+Consumes-more None b c x y h k = tt
+Consumes-more (Some xs) None c x y h k = absurd h
+Consumes-more (Some xs) (Some ys) None x y h k = absurd k
+Consumes-more (Some xs) (Some ys) (Some zs) x y h k = h ∙ ap (λ l. x ++ l) k ∙ sym (append_assoc x y zs)
+
+-- after a front of a frame, a front of what is left of it
+pub front-more : (frame front left rest : List ℕ) (n : ℕ) (a b c : Known) → frame ≡ front ++ left → Appends a b front
+    → rest ≡ drop n left → Appends b c (take n left) → (x : List ℕ) × (frame ≡ x ++ rest) × Appends a c x
+front-more frame front left rest n a b c e h d k = (
+  front ++ take n left,
+  e ∙ ap (λ l. front ++ l) (sym (take-append-drop n left) ∙ ap (λ l. take n left ++ l) (sym d)) ∙ sym (append_assoc front (take n left) rest),
+  Appends-more a b c front (take n left) h k,
+)
+
+pub front-left : (frame front left : List ℕ) (n : ℕ) (a b c : Known) → frame ≡ front ++ left → Appends a b front
+    → Appends b c (take n left) → (x : List ℕ) × (y : List ℕ) × (frame ≡ x ++ y) × Appends a c x
+front-left frame front left n a b c e h k = let more = front-more frame front left (drop n left) n a b c e h refl k in (more.0, drop n left, more.1, more.2)

@@ -1,0 +1,6 @@
+use Rattle.std.proofs.Common.{◌≡◌, length}
+use Rattle.seats.specs.Seats.{staged, collected}
+use Rattle.ring_bench.proofs.busy.serve.Given as goal
+
+abbrev pub invariant-loop : goal.invariant-loop
+invariant-loop g l = length (staged l.seat) ≡ length (collected l.seat)

@@ -1,6 +1,0 @@
-use Rattle.std.proofs.Common.{◌≡◌, length}
-use Rattle.seats.specs.Seats.{staged, collected}
-use Rattle.ring_rounds.proofs.bare.ask_all.Given as goal
-
-abbrev pub invariant-loop-session : goal.invariant-loop-session
-invariant-loop-session g l = length (staged l.seat) ≡ length (collected l.seat)

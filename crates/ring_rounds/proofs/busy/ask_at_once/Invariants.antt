@@ -1,5 +1,0 @@
-use Rattle.host_core.specs.Opening.{AreIdle}
-use Rattle.ring_rounds.proofs.busy.ask_at_once.Given as goal
-
-abbrev pub invariant-loop-number : goal.invariant-loop-number
-invariant-loop-number g l = AreIdle l.callers.items

@@ -1,5 +1,0 @@
-use Rattle.host_core.specs.Opening.{AreIdle}
-use Rattle.ring_rounds.proofs.busy.start_devices.Given as goal
-
-abbrev pub invariant-loop-number : goal.invariant-loop-number
-invariant-loop-number g l = AreIdle l.devices.items

@@ -1,5 +1,0 @@
-use Rattle.seats.specs.Seats.{SameSeat}
-use Rattle.ring_tests.proofs.settling.collect_all.Given as goal
-
-abbrev pub invariant-loop : goal.invariant-loop
-invariant-loop l = SameSeat l.initial.seat l.seat

@@ -1,0 +1,69 @@
+"""Runs of the programs that measure, as rt ci builds them: what they print is compared, and not their time.
+
+The scripts of tests/rings are played on the seats of a host by the program of crates/ring_bench. What each must print was written by hand
+from the rules of turns and seats; that of calls-of-three-seats, which has 2,700 lines, was made by a plain program of the same rules,
+which was written apart from this host. rt ci builds each program with two compilers, and both builds are run.
+"""
+
+import os
+import subprocess
+
+TOP = os.path.dirname(os.path.dirname(os.path.abspath(__file__)))
+RINGS = os.path.join(TOP, "tests", "rings")
+SECONDS = 120
+
+# Scripts of two devices; the others are played on a host of one worker.
+OF_TWO = ["calls-of-three-seats", "take-while-held", "work-of-two-devices"]
+# Four clients ask so often for a seat, each in a thread of its own; then the core is stopped and every end settled. Each sits down once
+# and is refused after that. So all calls are answered, 4 are accepted, none is left; what is not collected is the end, once at each of 16
+# clients and 2 devices; the journal has 4 entries, each a client's; and the operator has heard of the end.
+ASKS = [1_000, 10_000]
+# A stream of 6,553 frames is fed twice.
+FED = ("serve_bench", ["feed", "4096", "2"], "13106\n")
+
+
+def builds(name):
+    """The builds of a program, where rt ci leaves them, and what each is called. One by LLVM there must be."""
+    made = os.path.join(TOP, "crates", name, "out", name)
+    return [(made, "")] + [(it, " (built by Rattle's own compiler)") for it in [f"{made}.by-rattle"] if os.path.exists(it)]
+
+
+def text(name):
+    """The text of a file of tests/rings."""
+    with open(os.path.join(RINGS, name), encoding="utf-8") as file:
+        return file.read()
+
+
+def faults_of(path, words, stdin, wanted):
+    """What one run of a program did in another way than wanted."""
+    try:
+        ran = subprocess.run([path, *words], input=stdin, capture_output=True, text=True, timeout=SECONDS, check=False)
+    except OSError as refused:
+        return [f"the program does not run: {refused}"]
+    except subprocess.TimeoutExpired:
+        return [f"no end within {SECONDS} seconds"]
+    got, want = ran.stdout.split("\n"), wanted.split("\n")
+    other = next((at for at in range(max(len(got), len(want))) if got[at:at + 1] != want[at:at + 1]), None)
+    faults = [] if other is None else [f"line {other + 1} is {got[other:other + 1]} and not {want[other:other + 1]}"]
+    return faults + ([f"the status is {ran.returncode}, and standard error {ran.stderr!r}"] if ran.returncode or ran.stderr else [])
+
+
+def cases():
+    """The runs: a name, the program, its words, its input and what it must print."""
+    for name in sorted(os.path.splitext(it)[0] for it in os.listdir(RINGS) if it.endswith(".script")):
+        workers = "2" if name in OF_TWO else "1"
+        yield f"tests/rings/{name}.script", "ring_bench", ["play", workers], text(f"{name}.script"), text(f"{name}.expected")
+    for asks in ASKS:
+        yield f"four clients of {asks} asks", "ring_bench", [str(asks)], "", f"{4 * asks} 4 0 18 4 0 true\n"
+    name, words, wanted = FED
+    yield f"{name} {' '.join(words)}", name, words, "", wanted
+
+
+def bench_runs():
+    """Each run of each build, with its faults."""
+    files = {extension: {name for name, it in map(os.path.splitext, os.listdir(RINGS)) if it == extension} for extension in (".script", ".expected")}
+    whole = files[".script"] == files[".expected"] and len(files[".script"]) > len(OF_TWO)
+    yield "tests/rings", [] if whole else ["a script is missing, or what it must print"]
+    for name, program, words, stdin, wanted in cases() if whole else ():
+        for path, which in builds(program):
+            yield f"{name}{which}", faults_of(path, words, stdin, wanted)
