@@ -23,10 +23,11 @@ from checkout import CRATES, TOP, below, command, crate_lines, kit, library, sou
 PROGRAMS = ["bfqhost", "bfqctl"]
 # What all crates may take, in minutes by the clock times processors, of which the longest chain of crates leaves some idle.
 MINUTES_OF_ALL = 110
-# What a crate costs whatever its size, as so many bytes of code: a check reads what was proved below first.
-BYTES_OF_EACH = 3_000
-# A crate is near the longest chain of crates if it has so much of that chain's work above it.
-NEAR = 0.6
+# What a crate costs whatever its size, as so much code: a check reads what was proved below first, and its library holds much of that.
+CODE_OF_EACH = 1_570
+# The longest chain of crates sets the time. By what share of its work a crate has above it: how many jobs the crate gets, and how far it
+# gives way to others.
+SHARES = [(0.95, 4, 0), (0.6, 3, 5), (0.4, 2, 10), (0, 1, 19)]
 
 
 def tell(text):
@@ -62,14 +63,20 @@ def run(words, folder):
     return ran.returncode, ran.stdout
 
 
-def prove(name, lines, jobs):
+def work(name):
+    """What a proof of a crate costs, in characters of its code. Comments and clauses cost little."""
+    lines = [line.strip() for it in sources(name) if it.suffix == ".rt" for line in it.read_text().splitlines()]
+    return CODE_OF_EACH + sum(len(it) for it in lines if not it.startswith(("//", "ghost", "requires", "ensures", "#", "use ")))
+
+
+def prove(name, lines, jobs, gives_way):
     """Proves a crate, whose library then stands in the checkout. Gives what was said if it is not proved."""
     began = time.time()
     # What is there is stale, and by a stamp beside it rt would take this library for one of its own, with all proofs in it.
     shutil.rmtree(library(name).parent, ignore_errors=True)
     library(name).parent.mkdir(parents=True)
     words = [*command("build", name, lines), "--statements", "--jobs", str(jobs), "-o", library(name)]
-    status, said = run(words if jobs > 1 else ["nice", "-n", "19", *words], CRATES / name)
+    status, said = run(["nice", "-n", str(gives_way), *words], CRATES / name)
     if status:
         return f"{said}bfqhost: {name} is not proved"
     # What was made gets the time from before, so that a file that is changed meanwhile is seen to be newer.
@@ -82,7 +89,7 @@ def prove_all(left, lines):
     behind = {}
     for name in reversed(left):
         above = [behind[it] for it in behind if name in below(it, lines)]
-        behind[name] = BYTES_OF_EACH + sum(it.stat().st_size for it in sources(name) if it.suffix == ".rt") + max(above, default=0)
+        behind[name] = work(name) + max(above, default=0)
     # A crate of the longest chain leaves processors idle while it reads and writes libraries, whatever its jobs: two crates more use them.
     number, count, most, running = len(left), lanes(), lanes(2, 3), {}
     with ThreadPoolExecutor(most) as pool:
@@ -91,9 +98,8 @@ def prove_all(left, lines):
             longest = max(behind[it] for it in [*left, *running.values()])
             for name in sorted(ready, key=lambda it: -behind[it])[:most - len(running)]:
                 tell(f"proving {name}; {number - len(left) - len(running)} of {number} are proved")
-                # The longest chain of crates sets the time. It gets all processors, what is near it two, and the others use what that leaves.
-                jobs = count if behind[name] == longest else min(2, count) if behind[name] >= NEAR * longest else 1
-                running[pool.submit(prove, name, lines, jobs)] = name
+                jobs, gives_way = next(it[1:] for it in SHARES if behind[name] >= it[0] * longest)
+                running[pool.submit(prove, name, lines, min(jobs, count), gives_way)] = name
                 left.remove(name)
             for ran in wait(running, return_when=FIRST_COMPLETED).done:
                 del running[ran]
