@@ -28,6 +28,11 @@ def builds(name):
     return [(made, "")] + [(it, " (built by Rattle's own compiler)") for it in [f"{made}.by-rattle"] if os.path.exists(it)]
 
 
+def lacking_programs():
+    """The programs that are not built."""
+    return [it for it in ("ring_bench", "serve_bench") if not os.path.exists(builds(it)[0][0])]
+
+
 def text(name):
     """The text of a file of tests/rings."""
     with open(os.path.join(RINGS, name), encoding="utf-8") as file:
