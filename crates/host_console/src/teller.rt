@@ -38,14 +38,22 @@ impl<K: Keeps, I: Image> Console for Teller<K, I> {
     ghost prints = { Prints };
 
     fn run(&mut self, alloc: Global, line: Line, out: &mut Vec<u8>) -> Result<(), OutOfMemory> {
+        self.run_line(alloc, line, out)
+    }
+}
+
+impl<K: Keeps, I: Image> Teller<K, I> {
+    // Runs a line, by the call that it makes or, if it makes none of its own, by what it looks at.
+    fn run_line(&mut self, alloc: Global, line: Line, out: &mut Vec<u8>) -> Result<(), OutOfMemory>
+        ensures ok { OnOk result ((text : List ℕ) × (out.new.items ≡ out.old.items ++ text) × Prints self.old line text self.new) }
+        ensures err { OnErr result (MayHaveRun Prints self.old line self.new) }
+    {
         match call_of(alloc, line)? {
             Some(call) => self.answer(alloc, &call, out),
             None => self.look(alloc, line, out),
         }
     }
-}
 
-impl<K: Keeps, I: Image> Teller<K, I> {
     // Runs a line that asks the keeper or the device first, or only looks.
     fn look(&mut self, alloc: Global, line: Line, out: &mut Vec<u8>) -> Result<(), OutOfMemory>
         requires { asked line ≡ None }

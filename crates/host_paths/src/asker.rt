@@ -41,8 +41,21 @@ impl<'a, R: Wait> Asks for SeatAsker<'a, R> {
     ghost asks = { λ a call result b. AsksSeat a.seat call result b.seat };
 
     fn ask(&mut self, _alloc: Global, call: ClientCall) -> Result<Answer, Closed> {
-        self.seat.ask(self.rt, call)
+        ask_at(self.rt, &mut self.seat, call)
     }
 
     ghost have_frames = { λ old new call answer asked. seat_frames old.seat new.seat call answer asked };
+}
+
+// Stages one call at a seat, and collects one reply there.
+fn ask_at<R: Wait>(
+    rt: &R,
+    seat: &mut Seat<ClientCall, ClientReplies>,
+    call: ClientCall,
+) -> Result<Answer, Closed>
+    requires { IsBetween seat.old }
+    ensures asked { AsksSeat seat.old call result seat.new }
+    ensures between { IsBetween seat.new }
+{
+    seat.ask(rt, call)
 }

@@ -58,10 +58,17 @@ impl From<AskFault> for CallEnd {
     ghost from_gives = { λ fault end. end ≡ fault_end fault };
 
     fn from(fault: AskFault) -> CallEnd {
-        match fault {
-            AskFault::Socket => CallEnd::Socket,
-            AskFault::Frame => CallEnd::Frame,
-            AskFault::OutOfMemory => CallEnd::OutOfMemory,
-        }
+        end_at_fault(fault)
+    }
+}
+
+// The end if a call got no reply.
+fn end_at_fault(fault: AskFault) -> CallEnd
+    ensures { result ≡ fault_end fault }
+{
+    match fault {
+        AskFault::Socket => CallEnd::Socket,
+        AskFault::Frame => CallEnd::Frame,
+        AskFault::OutOfMemory => CallEnd::OutOfMemory,
     }
 }

@@ -50,7 +50,7 @@ impl Staged for ClientCall {
     ghost named = { name.Client };
 
     fn asked(self, seat: u8) -> Asked {
-        Asked::Ask(self.of_seat(seat))
+        asked_by_client(self, seat)
     }
 
     fn name(seat: u8) -> SeatName {
@@ -66,26 +66,11 @@ impl Staged for DeviceCall {
     ghost named = { name.Device };
 
     fn asked(self, _seat: u8) -> Asked {
-        match self {
-            DeviceCall::Take { worker } => Asked::Take { worker },
-            DeviceCall::Finish {
-                tag,
-                issue,
-                outcome,
-            } => Asked::Ask(Call::Do(Step::Finish {
-                tag,
-                issue,
-                outcome,
-            })),
-            DeviceCall::Requeue { tag, issue } => Asked::Ask(Call::Do(Step::Requeue {
-                tag,
-                issue,
-            })),
-        }
+        asked_by_device(self)
     }
 
     fn name(seat: u8) -> SeatName {
-        SeatName::Device(seat)
+        device_of(seat)
     }
 
     ghost asks = { device_asks };
@@ -97,10 +82,7 @@ impl Staged for OperatorCall {
     ghost named = { λ _. name.Operator };
 
     fn asked(self, _seat: u8) -> Asked {
-        match self.into_call() {
-            Some(call) => Asked::Ask(call),
-            None => Asked::Stop,
-        }
+        asked_by_operator(self)
     }
 
     fn name(_seat: u8) -> SeatName {
@@ -108,4 +90,44 @@ impl Staged for OperatorCall {
     }
 
     ghost asks = { operator_asks };
+}
+
+fn asked_by_client(call: ClientCall, seat: u8) -> Asked
+    ensures { result ≡ client_asked seat call }
+{
+    Asked::Ask(call.of_seat(seat))
+}
+
+// A device says its number itself, whatever its seat's is.
+fn asked_by_device(call: DeviceCall) -> Asked
+    ensures { (seat : ℕ) → result ≡ device_asked seat call }
+{
+    match call {
+        DeviceCall::Take { worker } => Asked::Take { worker },
+        DeviceCall::Finish {
+            tag,
+            issue,
+            outcome,
+        } => Asked::Ask(Call::Do(Step::Finish {
+            tag,
+            issue,
+            outcome,
+        })),
+        DeviceCall::Requeue { tag, issue } => Asked::Ask(Call::Do(Step::Requeue { tag, issue })),
+    }
+}
+
+fn device_of(seat: u8) -> SeatName
+    ensures { result ≡ name.Device seat }
+{
+    SeatName::Device(seat)
+}
+
+fn asked_by_operator(call: OperatorCall) -> Asked
+    ensures { (seat : ℕ) → result ≡ operator_asked seat call }
+{
+    match call.into_call() {
+        Some(call) => Asked::Ask(call),
+        None => Asked::Stop,
+    }
 }

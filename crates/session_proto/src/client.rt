@@ -46,44 +46,52 @@ impl Side for Client {
     const MOST: u32 = 32_787;
 
     fn put_body(&self, out: &mut Vec<u8>) -> Result<(), AllocError> {
-        match &self.0 {
-            ClientCall::Attach { group, prio } => {
-                out.push(0x01)?;
-                put_u8(out, *group)?;
-                put_u8(out, *prio)?;
-            }
-            ClientCall::Submit {
-                session,
-                op: Op::Fetch,
-                range,
-                ..
-            } => {
-                out.push(0x02)?;
-                put_span(out, *session, *range)?;
-            }
-            ClientCall::Submit {
-                session,
-                op: Op::Store,
-                range,
-                payload,
-            } => {
-                out.push(0x03)?;
-                put_span(out, *session, *range)?;
-                out.extend_from_slice(payload)?;
-            }
-            ClientCall::Reap { session } => {
-                out.push(0x04)?;
-                put_u64(out, *session)?;
-            }
-            ClientCall::Leave { .. } => out.push(0x05)?,
-        }
-        Ok(())
+        put_call(out, &self.0)
     }
 
     #[tactic(auto, unfolding(crate::specs::Client::client_at))]
     fn read_body(alloc: Global, bytes: &[u8]) -> Result<Client, ReadError> {
         Ok(Client(call_of(alloc, bytes)?))
     }
+}
+
+// Appends the body of a call.
+fn put_call(out: &mut Vec<u8>, call: &ClientCall) -> Result<(), AllocError>
+    requires { ClientFits call.now }
+    ensures { OnOk result (out.new.items ≡ out.old.items ++ client_body call.now) }
+{
+    match call {
+        ClientCall::Attach { group, prio } => {
+            out.push(0x01)?;
+            put_u8(out, *group)?;
+            put_u8(out, *prio)?;
+        }
+        ClientCall::Submit {
+            session,
+            op: Op::Fetch,
+            range,
+            ..
+        } => {
+            out.push(0x02)?;
+            put_span(out, *session, *range)?;
+        }
+        ClientCall::Submit {
+            session,
+            op: Op::Store,
+            range,
+            payload,
+        } => {
+            out.push(0x03)?;
+            put_span(out, *session, *range)?;
+            out.extend_from_slice(payload)?;
+        }
+        ClientCall::Reap { session } => {
+            out.push(0x04)?;
+            put_u64(out, *session)?;
+        }
+        ClientCall::Leave { .. } => out.push(0x05)?,
+    }
+    Ok(())
 }
 
 // The call that a body says, by its kind.

@@ -47,25 +47,33 @@ impl Side for Host {
     const MOST: u32 = 32_787;
 
     fn put_body(&self, out: &mut Vec<u8>) -> Result<(), AllocError> {
-        match &self.0 {
-            RingReply::Answer(Answer::Accepted(reply)) => put_reply(out, reply)?,
-            RingReply::Answer(Answer::Refused(code)) => {
-                out.push(0xe0)?;
-                put_u8(out, code.number())?;
-            }
-            RingReply::Answer(Answer::NotYet(cause)) => {
-                out.push(0xe1)?;
-                put_u8(out, cause.number())?;
-            }
-            RingReply::Closed => out.push(0x9f)?,
-        }
-        Ok(())
+        put_answered(out, &self.0)
     }
 
     #[tactic(auto, unfolding(crate::specs::Host::host_at))]
     fn read_body(alloc: Global, bytes: &[u8]) -> Result<Host, ReadError> {
         Ok(Host(reply_of(alloc, bytes)?))
     }
+}
+
+// Appends the body of a reply.
+fn put_answered(out: &mut Vec<u8>, reply: &RingReply) -> Result<(), AllocError>
+    requires { HostFits reply.now }
+    ensures { OnOk result (out.new.items ≡ out.old.items ++ host_body reply.now) }
+{
+    match reply {
+        RingReply::Answer(Answer::Accepted(reply)) => put_reply(out, reply)?,
+        RingReply::Answer(Answer::Refused(code)) => {
+            out.push(0xe0)?;
+            put_u8(out, code.number())?;
+        }
+        RingReply::Answer(Answer::NotYet(cause)) => {
+            out.push(0xe1)?;
+            put_u8(out, cause.number())?;
+        }
+        RingReply::Closed => out.push(0x9f)?,
+    }
+    Ok(())
 }
 
 // The reply that a body says, by its kind.

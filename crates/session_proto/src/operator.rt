@@ -39,33 +39,41 @@ impl Side for Operator {
     const MOST: u32 = 32_787;
 
     fn put_body(&self, out: &mut Vec<u8>) -> Result<(), AllocError> {
-        match self.0 {
-            OperatorCall::GroupMake { parent, weight } => put_weight(out, 0x11, parent, weight)?,
-            OperatorCall::GroupDrop { group } => {
-                out.push(0x12)?;
-                put_u8(out, group)?;
-            }
-            OperatorCall::SetWeight { group, weight } => put_weight(out, 0x13, group, weight)?,
-            OperatorCall::Freeze => out.push(0x14)?,
-            OperatorCall::Thaw => out.push(0x15)?,
-            OperatorCall::Switch { scheduler } => {
-                out.push(0x16)?;
-                put_u8(out, number_of(scheduler))?;
-            }
-            OperatorCall::Tick => out.push(0x17)?,
-            OperatorCall::Hold => out.push(0x18)?,
-            OperatorCall::Release => out.push(0x19)?,
-            OperatorCall::Undo { k } => put_steps(out, 0x1a, k)?,
-            OperatorCall::Redo { k } => put_steps(out, 0x1b, k)?,
-            OperatorCall::Stop => out.push(0x1c)?,
-        }
-        Ok(())
+        put_call(out, self.0)
     }
 
     #[tactic(auto, unfolding(crate::specs::Operator::operator_at))]
     fn read_body(_alloc: Global, bytes: &[u8]) -> Result<Operator, ReadError> {
         Ok(Operator(call_of(bytes)?))
     }
+}
+
+// Appends the body of a call.
+fn put_call(out: &mut Vec<u8>, call: OperatorCall) -> Result<(), AllocError>
+    requires { OperatorFits call }
+    ensures { OnOk result (out.new.items ≡ out.old.items ++ operator_body call) }
+{
+    match call {
+        OperatorCall::GroupMake { parent, weight } => put_weight(out, 0x11, parent, weight)?,
+        OperatorCall::GroupDrop { group } => {
+            out.push(0x12)?;
+            put_u8(out, group)?;
+        }
+        OperatorCall::SetWeight { group, weight } => put_weight(out, 0x13, group, weight)?,
+        OperatorCall::Freeze => out.push(0x14)?,
+        OperatorCall::Thaw => out.push(0x15)?,
+        OperatorCall::Switch { scheduler } => {
+            out.push(0x16)?;
+            put_u8(out, number_of(scheduler))?;
+        }
+        OperatorCall::Tick => out.push(0x17)?,
+        OperatorCall::Hold => out.push(0x18)?,
+        OperatorCall::Release => out.push(0x19)?,
+        OperatorCall::Undo { k } => put_steps(out, 0x1a, k)?,
+        OperatorCall::Redo { k } => put_steps(out, 0x1b, k)?,
+        OperatorCall::Stop => out.push(0x1c)?,
+    }
+    Ok(())
 }
 
 // The call that a body says, by its kind.

@@ -20,11 +20,18 @@ impl Asks for Solo {
     ghost asks = { λ a call result b. AsksKeeper a.0.state call result b.0.state };
 
     fn ask(&mut self, alloc: Global, call: ClientCall) -> Result<Answer, Closed> {
-        // A keeper is the replay of its journal, and there each answer to a client has a frame. Neither call changes anything.
-        self.0.journal_len();
-        clients_are_answered();
-        Ok(self.0.call(alloc, &call.of_seat(SEAT)))
+        ask_keeper(&mut self.0, alloc, call)
     }
 
     ghost have_frames = { solo_frames };
+}
+
+// Makes a client's call.
+fn ask_keeper(keeper: &mut Keeper, alloc: Global, call: ClientCall) -> Result<Answer, Closed>
+    ensures { AsksKeeper keeper.old.state call result keeper.new.state }
+{
+    // A keeper is the replay of its journal, and there each answer to a client has a frame. Neither call changes anything.
+    keeper.journal_len();
+    clients_are_answered();
+    Ok(keeper.call(alloc, &call.of_seat(SEAT)))
 }

@@ -4,7 +4,7 @@ use Rattle.std.proofs.lemmas.Result.{on_ok_weaker, on_err_weaker}
 use Rattle.script_line.specs.declared.line.Line.{Line}
 use Rattle.plain_machine.specs.declared.call.Call.{Call}
 use Rattle.host_console.specs.Printed.{Desk, AnswersOver, Looks, Prints, asked}
-use Rattle.host_console.proofs.teller.TellerConsole.run.Goals as goal
+use Rattle.host_console.proofs.teller.Teller.run_line.Goals as goal
 
 -- what a line prints, by the call that it makes
 abbrev PrintsBy : Desk → Line → List ℕ → Desk → Option Call → Type 0
