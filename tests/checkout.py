@@ -33,6 +33,11 @@ def texts_of(name):
     return {str(it.relative_to(CRATES / name)): it.read_text() for it in sources(name)}
 
 
+def modules(path):
+    """The modules of a file of src/, by its path in the crate."""
+    return [it for it in path[len("src/"):-len(".rt")].split("/") if it not in ("lib", "main", "mod")]
+
+
 def library(name):
     """Where rt ci and tests/build.py leave the library of a crate."""
     return CRATES / name / "out" / "rlib" / f"{name}.rlib"

@@ -1,18 +1,19 @@
 """Wrong bodies of one crate, tried in a copy of it, many by one check.
 
 A check proves each function over the contracts of those that it calls, and names the open goals. So a wrong body is planted in a twin of
-its function, a copy beside it with another name and with copies of its proof files. Callers stand on the true one. It is refused if a goal
-of its twin is open. What has no twin is planted in its place, with others of other functions. What is not settled so is tried alone.
+its function, a copy with another name and with copies of its proof files, and is refused if a goal of the twin is open. All else of a crate
+that is proved stands by its contracts: its proofs are holes. What has no twin is planted in its place, or else is tried alone.
 """
 
 import re
 from collections import namedtuple
-from itertools import zip_longest
 from pathlib import Path
 
 from build import run
+from checkout import modules
 
-# What a check prints of an open goal, of a function, a type or an impl, and of a text or proof that it does not take.
+# The proof of a function that stands by its contract. And what a check prints of a goal, a function, a type or an impl, and of an error.
+HOLE = "use Rattle.{0}.proofs.{1}.Statement.{{statement}}\npub {2}_spec : {{M : Type 1}} → statement M\n{2}_spec = ?\n"
 GOAL = re.compile(r"note: (?:\./)?(src/\S+\.rt):(\d+):\d+: (.* \(`[^`]+`\))")
 FUNCTION = re.compile(r"(?:fn|struct|enum|union|trait|impl) (\S+): (.*)")
 ERROR = re.compile(r"(?:\./)?((?:src|specs|proofs)/\S+?):\d+:\d+: error(?:\[\S+\])?: (.*)")
@@ -36,7 +37,7 @@ def functions_of(path, lines):
                 first -= 1
             owner = next((IMPL.match(it) for it in lines[first::-1] if it[:1].strip()), None) if opens[1] else None
             is_of_trait = bool(opens[1]) and (owner is None or owner[1] is not None)
-            last = at if lines[at].endswith("}") else lines.index(opens[1] + "}", at)
+            last = lines.index(opens[1] + "}", at) if not lines[at].endswith("}") else at
             yield Function(path, opens[2], owner[2] if owner else "", is_of_trait, first, last)
 
 
@@ -63,8 +64,7 @@ def read_edit(name, text, texts):
 
 def proof_files(function, texts):
     """The files of a function's own proof, which stand under its module, or under that of the type that it is a method of."""
-    modules = [it for it in function.path[len("src/"):-len(".rt")].split("/") if it not in ("lib", "main", "mod")]
-    here, of_type = "/".join(["proofs", *modules, function.name]), f"/{function.owner}/{function.name}"
+    here, of_type = "/".join(["proofs", *modules(function.path), function.name]), f"/{function.owner}/{function.name}"
     folders = [(it, it.rpartition("/")[0]) for it in texts if it.startswith("proofs/")]
     return [it for it, folder in folders if (folder.endswith(of_type) if function.owner else folder == here)]
 
@@ -76,6 +76,16 @@ def has_twin(edit, texts):
     names = {it.rpartition("/")[0].replace("/", ".") + "." for it in own}
     is_alone = not any(name in text for name in names for path, text in texts.items() if path not in own)
     return is_alone and len(edit.functions) == 1 and function is not None and not function.is_of_trait
+
+
+def holes(name, texts):
+    """The files by which each function of a crate that no trait has stands by its contract alone."""
+    files, sources = {}, [it for it in texts if it[:4] == "src/"]
+    for function in [it for path in sources for it in functions_of(path, texts[path].split("\n")) if not it.is_of_trait]:
+        home = [it for it in sources if re.search(rf"\b(struct|enum) {function.owner}\b", texts[it])] if function.owner else []
+        words = [*modules([*home, function.path][0]), *filter(None, [function.owner]), function.name]
+        files["/".join(["proofs", *words, "Proof.antt"])] = HOLE.format(name, ".".join(words), function.name)
+    return files
 
 
 def in_twins(edits, texts):
@@ -95,28 +105,14 @@ def in_twins(edits, texts):
     return files, names
 
 
-def rounds(edits):
-    """Wrong bodies of one function each, in lists that have no function twice."""
-    by_function = {}
-    for edit in edits:
-        by_function.setdefault(*edit.functions, []).append(edit)
-    return [[*filter(None, it)] for it in zip_longest(*by_function.values())]
-
-
-def is_at(function, words):
-    """Whether the words of a function's full name, or those of a proof's folder, are this method's, of whatever trait. Ask for the longest owner first."""
-    modules = [it for it in function.path[len("src/"):-len(".rt")].split("/") if it not in ("lib", "main", "mod")]
-    return words[1:-2] == modules and words[-1] == function.name and words[-2].startswith(function.owner)
-
-
 def settled(whose, status, said):
     """Of wrong bodies tried by one check those that are refused, each with its goal; None if the check counts for nothing."""
     refused, goals = {}, []
-    for line in said.splitlines() if "\nlogic=" in said and status in (0, 1) else ["src/:0:0: error: no verdict"]:
+    for line in said.splitlines() if re.search(r"\n(logic|only)=", said) and status in (0, 1) else ["src/:0:0: error: no verdict"]:
         goal, ends, error = GOAL.match(line), FUNCTION.match(line), ERROR.match(line)
         edit = whose(ends[1].split("::") if ends else error[1].split("/")[:-1]) if ends or error else None
-        # Who only calls a refused function has no proof either.
-        if (error or ends and not ends[2].startswith(("proved", "no proof: it calls"))) and edit is None:
+        # Who only calls a refused function has no proof either, nor who stands by a contract alone.
+        if (error or ends and not ends[2].startswith(("proved", "no proof: it calls", "no holes", "depends on a hole"))) and edit is None:
             return None
         if goal:
             goals.append(goal[3])
@@ -142,20 +138,21 @@ class Crate:
             (self.folder / path).parent.mkdir(parents=True, exist_ok=True)
             (self.folder / path).write_text(text)
 
-    def check(self, files):
+    def check(self, files, words=()):
         """Checks the crate with these texts in place of its own; gives the status and what was said. All is as it was, after."""
         if not self.keeps_on():
             raise TimeoutError
         self.write(files)
-        status, said = run(self.words, self.folder)
+        status, said = run([*self.words, *words], self.folder)
         for path in files:
             (self.folder / path).write_text(self.texts[path]) if path in self.texts else (self.folder / path).unlink()
         return status, re.sub(r"\n  (?=has no )", " ", said)  # That a name is gone may stand on the line after its error.
 
-    def together(self, edits):
-        """Tries wrong bodies in twins by one check. Gives those that are refused, each with its goal; None if the check counts for nothing."""
+    def together(self, edits, proofs=()):
+        """Tries wrong bodies in twins by one check, over these proofs if there are any. Gives those refused, by goal; None if it counts for nothing."""
         files, names = in_twins(edits, self.texts)
-        return settled(lambda words: next((names[it] for it in names if it in words), None), *self.check(files))
+        words = [word for it in names for word in ("--only", it)] + ["--allow-holes"] if proofs else []
+        return settled(lambda words: next((names[it] for it in names if it in words), None), *self.check({**dict(proofs or ()), **files}, words))
 
     def in_halves(self, edits):
         """Tries wrong bodies of which one does not compile, or meets a limit of the check. Halves find it."""
@@ -168,9 +165,10 @@ class Crate:
         return {path: "\n".join(lines.get((path, at), it) for at, it in enumerate(self.texts[path].split("\n"))) for path, _ in lines}
 
     def in_place(self, edits):
-        """Tries wrong bodies of different methods in their places by one check. Gives those that are refused, each with its goal."""
+        """Tries wrong bodies of different methods of traits in their places by one check. Gives those that are refused, each with its goal."""
         methods = sorted(((edit.name, it) for edit in edits for it in edit.functions), key=lambda it: -len(it[1].owner))
-        return settled(lambda words: next((it for it, method in methods if is_at(method, words)), None), *self.check(self.planted(*edits))) or {}
+        is_of = lambda it, words: [*modules(it.path), it.name] == [*words[1:-2], words[-1]] and words[-2].startswith(it.owner)
+        return settled(lambda words: next((it for it, of in methods if is_of(of, words)), None), *self.check(self.planted(*edits))) or {}
 
     def alone(self, edit):
         """Tries one wrong body in its place. Gives whether it is refused, and its goal or what is wrong with it."""

@@ -15,10 +15,11 @@ import sys
 import tempfile
 import time
 from concurrent.futures import ThreadPoolExecutor, as_completed
+from itertools import groupby, zip_longest
 
 from build import lanes
-from checkout import CRATES, TOP, below, command, crate_lines, texts_of
-from twins import Crate, has_twin, read_edit, rounds
+from checkout import CRATES, TOP, below, command, crate_lines, library, texts_of
+from twins import Crate, has_twin, holes, read_edit
 
 SEEN = TOP / "tests" / "wrong_bodies.seen"
 
@@ -50,14 +51,15 @@ def trial(name, texts, lines, keeps_on):
                 edits.append(read_edit(it, text, crate.texts))
             except ValueError as why:
                 failed[it] = f"bad edit: {why}"
-        # The first check proves the crate as it is, and judges all twins beside it.
-        found = crate.together(twins := [it for it in edits if has_twin(it, crate.texts)])
+        # A crate with a library is proved as it is, so its functions stand by their contracts; another is proved with the twins beside it.
+        found = crate.together(twins := [it for it in edits if has_twin(it, crate.texts)], library(name).exists() and holes(name, crate.texts))
         if found is None and crate.check({})[0] != 0:
             return {}, {it: "not tried, as the crate is not proved without it" for it in texts}
         refused.update(crate.in_halves(twins) if found is None else found)
-        of_methods = [it for it in edits if it.name not in refused and len(it.functions) == 1 and None not in it.functions]
-        for some in [it for it in rounds(of_methods) if len(it) > 1]:
-            refused.update(crate.in_place(some))
+        whose = lambda it: str(it.functions)
+        of_methods = sorted((it for it in edits if it.name not in refused and len(it.functions) == 1 and None not in it.functions), key=whose)
+        for some in zip_longest(*([*its] for _, its in groupby(of_methods, whose))):
+            refused.update(crate.in_place([*filter(None, some)]) if some.count(None) < len(some) - 1 else {})
         for edit in [it for it in edits if it.name not in refused]:
             is_refused, told = crate.alone(edit)
             (refused if is_refused else failed)[edit.name] = told
@@ -74,8 +76,8 @@ def try_all(named=(), every=False, deadline=float("inf")):
     others = sorted(bodies.keys() - as_seen.keys(), key=lambda it: -len(bodies[it]) - len(below(it, lines)))
     names = named or others + sorted(as_seen, key=lambda it: as_seen[it][1])[:1]
     tried = {it: ({}, {}) for it in names}
-    if time.time() < deadline and (lower := {low for it in names for low in below(it, lines)}):
-        subprocess.run([sys.executable, TOP / "tests" / "build.py", *lower], check=False)
+    if time.time() < deadline and (parts := {low for it in names for low in [*below(it, lines), it]}):
+        subprocess.run([sys.executable, TOP / "tests" / "build.py", *parts], check=False)
     with ThreadPoolExecutor(lanes()) as pool:
         try:
             runs = {pool.submit(trial, it, dict(bodies[it]), lines, lambda: goes_on[0] and time.time() < deadline): it for it in names}
