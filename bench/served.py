@@ -3,7 +3,7 @@
 
     python3 bench/served.py [--rounds N] [--seconds S]
 
-The floor is the program of crates/serve_floor: the same sockets, threads, rings, bells and frames, with a core that answers each call at
+The floor is `ring_bench floor` of crates/ring_bench: the same sockets, threads, rings, bells and frames, with a core that answers each call at
 once by its kind, and no machine and no image. Each read and write has 8 sectors. A client sends the frames of so many of them (the
 depth) and their reaps, and waits for all replies. Host and floor take turns, in rounds of 2 seconds. A figure is the median of 7 rounds,
 in reads or writes a second of all clients. Beside it stands the host's part of the floor, and the floor's second run of a round beside its
@@ -30,7 +30,7 @@ from sim import PROGRAM, TOP  # noqa: E402
 sys.path.insert(0, os.path.join(TOP, "tests"))
 from served import ATTACH, Served, Talk, fetch, image_of, reap, store  # noqa: E402
 
-FLOOR = os.path.join(TOP, "crates", "serve_floor", "out", "serve_floor")
+FLOOR = os.path.join(TOP, "crates", "ring_bench", "out", "ring_bench")
 SECTORS = 8
 LEAST_OF_FLOOR = 0.8
 MOST_OF_HALF, MOST_OF_FLOORS_RATIO = 5, 1.5
@@ -44,7 +44,7 @@ class Floor:
 
     def __init__(self, folder, clients, writes):
         self.folder = folder
-        self.process = subprocess.Popen([FLOOR, folder, str(clients), "write" if writes else "read"], stdin=subprocess.PIPE,
+        self.process = subprocess.Popen([FLOOR, "floor", folder, str(clients), "write" if writes else "read"], stdin=subprocess.PIPE,
                                         stdout=subprocess.DEVNULL)
         until = time.monotonic() + 10
         while not os.path.exists(self.path(clients - 1)) and time.monotonic() < until:

@@ -21,8 +21,8 @@ ERROR = re.compile(r"(?:\./)?((?:src|specs|proofs)/\S+?):\d+:\d+: error(?:\[\S+\
 UNREAD = re.compile(r"is not in scope|has no field|has no `|is no name|not admitted|was rejected|operand is missing|expected the end|cannot continue|\(nearest: ")
 IMPL = re.compile(r"impl\b(?:<.*?>)? (.* for )?&?(\w+)")
 OPENS = re.compile(r"( *)(?:pub(?:\([^)]*\))? )?(?:const )?(?:unsafe )?fn (\w+)")
-# A function, with the type that it is a method of, and its lines; and a wrong body: new lines, by place, and whose they are (None: no function's).
-Function = namedtuple("Function", "path name owner is_of_trait first last")
+# A function, with the type that it is a method of, and of which trait (None: of none), and its lines; and a wrong body: new lines, by place, and whose they are (None: no function's).
+Function = namedtuple("Function", "path name owner trait first last")
 Edit = namedtuple("Edit", "name lines functions")
 
 
@@ -36,9 +36,9 @@ def functions_of(path, lines):
             while re.match(r"\s*[^\s/]", lines[first - 1]) and not lines[first - 1].endswith(("{", "}", ";")):
                 first -= 1
             owner = next((IMPL.match(it) for it in lines[first::-1] if it[:1].strip()), None) if opens[1] else None
-            is_of_trait = bool(opens[1]) and (owner is None or owner[1] is not None)
+            trait = None if not opens[1] or owner and not owner[1] else re.sub(r"\w+::|\W", "", owner[1].removesuffix(" for ")) if owner else ""
             last = lines.index(opens[1] + "}", at) if not lines[at].endswith("}") else at
-            yield Function(path, opens[2], owner[2] if owner else "", is_of_trait, first, last)
+            yield Function(path, opens[2], owner[2] if owner else "", trait, first, last)
 
 
 def read_edit(name, text, texts):
@@ -75,13 +75,13 @@ def has_twin(edit, texts):
     own = proof_files(function, texts) if function else []
     names = {it.rpartition("/")[0].replace("/", ".") + "." for it in own}
     is_alone = not any(name in text for name in names for path, text in texts.items() if path not in own)
-    return is_alone and len(edit.functions) == 1 and function is not None and not function.is_of_trait
+    return is_alone and len(edit.functions) == 1 and function is not None and function.trait is None
 
 
 def holes(name, texts):
     """The files by which each function of a crate that no trait has stands by its contract alone."""
     files, sources = {}, [it for it in texts if it[:4] == "src/"]
-    for function in [it for path in sources for it in functions_of(path, texts[path].split("\n")) if not it.is_of_trait]:
+    for function in [it for path in sources for it in functions_of(path, texts[path].split("\n")) if it.trait is None]:
         home = [it for it in sources if re.search(rf"\b(struct|enum) {function.owner}\b", texts[it])] if function.owner else []
         words = [*modules([*home, function.path][0]), *filter(None, [function.owner]), function.name]
         files["/".join(["proofs", *words, "Proof.antt"])] = HOLE.format(name, ".".join(words), function.name)
@@ -128,8 +128,8 @@ def settled(whose, status, said):
 class Crate:
     """A copy of a crate in a folder, in which wrong bodies are planted and checked by these words, while `keeps_on` says so."""
 
-    def __init__(self, texts, folder, words, keeps_on):
-        self.texts, self.folder, self.keeps_on = texts, Path(folder), keeps_on
+    def __init__(self, texts, folder, words, keeps_on, proofs):
+        self.texts, self.folder, self.keeps_on, self.holes = texts, Path(folder), keeps_on, proofs
         self.words = [*words, "--jobs", "1", "--incremental", "kept"]
         self.write(texts)
 
@@ -138,25 +138,25 @@ class Crate:
             (self.folder / path).parent.mkdir(parents=True, exist_ok=True)
             (self.folder / path).write_text(text)
 
-    def check(self, files, words=()):
-        """Checks the crate with these texts in place of its own; gives the status and what was said. All is as it was, after."""
+    def check(self, files, only=()):
+        """Checks the crate with these texts, or only these functions if all others can stand by their contracts. All is as it was, after."""
         if not self.keeps_on():
             raise TimeoutError
-        self.write(files)
+        words = [word for it in only for word in ("--only", it)] + ["--allow-holes"] if only and self.holes else []
+        self.write(files := {**self.holes, **files} if words else files)
         status, said = run([*self.words, *words], self.folder)
         for path in files:
             (self.folder / path).write_text(self.texts[path]) if path in self.texts else (self.folder / path).unlink()
         return status, re.sub(r"\n  (?=has no )", " ", said)  # That a name is gone may stand on the line after its error.
 
-    def together(self, edits, proofs=()):
-        """Tries wrong bodies in twins by one check, over these proofs if there are any. Gives those refused, by goal; None if it counts for nothing."""
+    def together(self, edits, by_contracts=True):
+        """Tries wrong bodies in twins by one check. Gives those that are refused, each with its goal; None if the check counts for nothing."""
         files, names = in_twins(edits, self.texts)
-        words = [word for it in names for word in ("--only", it)] + ["--allow-holes"] if proofs else []
-        return settled(lambda words: next((names[it] for it in names if it in words), None), *self.check({**dict(proofs or ()), **files}, words))
+        return settled(lambda words: next((names[it] for it in names if it in words), None), *self.check(files, names if by_contracts else ()))
 
     def in_halves(self, edits):
         """Tries wrong bodies of which one does not compile, or meets a limit of the check. Halves find it."""
-        halves = [(it, self.together(it)) for it in (edits[::2], edits[1::2]) if it and len(edits) > 1]
+        halves = [(it, self.together(it, False)) for it in (edits[::2], edits[1::2]) if it and len(edits) > 1]
         return {name: goal for half, found in halves for name, goal in (self.in_halves(half) if found is None else found).items()}
 
     def planted(self, *edits):
@@ -166,9 +166,9 @@ class Crate:
 
     def in_place(self, edits):
         """Tries wrong bodies of different methods of traits in their places by one check. Gives those that are refused, each with its goal."""
-        methods = sorted(((edit.name, it) for edit in edits for it in edit.functions), key=lambda it: -len(it[1].owner))
-        is_of = lambda it, words: [*modules(it.path), it.name] == [*words[1:-2], words[-1]] and words[-2].startswith(it.owner)
-        return settled(lambda words: next((it for it, of in methods if is_of(of, words)), None), *self.check(self.planted(*edits))) or {}
+        names = {f"{it.owner}{it.trait or ''}::{it.name}".removeprefix("::"): edit.name for edit in edits for it in edit.functions}
+        whose = lambda words: next((names[it] for it in names if "::".join(["", *words]).endswith("::" + it)), None)
+        return settled(whose, *self.check(self.planted(*edits), names)) or {}
 
     def alone(self, edit):
         """Tries one wrong body in its place. Gives whether it is refused, and its goal or what is wrong with it."""

@@ -45,21 +45,21 @@ def trial(name, texts, lines, keeps_on):
     """Tries wrong bodies of a crate. Gives those refused and those that failed, each with the reason; what is in neither waits."""
     refused, failed, edits = {}, {}, []
     with contextlib.suppress(TimeoutError), tempfile.TemporaryDirectory(prefix="wrong-bodies-") as folder:
-        crate = Crate(texts_of(name), folder, command("check", name, lines), keeps_on)
+        # A crate with a library is proved as it is, so its functions stand by their contracts; another is proved with the twins beside it.
+        crate = Crate(texts_of(name), folder, command("check", name, lines), keeps_on, library(name).exists() and holes(name, texts_of(name)))
         for it, text in texts.items():
             try:
                 edits.append(read_edit(it, text, crate.texts))
             except ValueError as why:
                 failed[it] = f"bad edit: {why}"
-        # A crate with a library is proved as it is, so its functions stand by their contracts; another is proved with the twins beside it.
-        found = crate.together(twins := [it for it in edits if has_twin(it, crate.texts)], library(name).exists() and holes(name, crate.texts))
+        found = crate.together(twins := [it for it in edits if has_twin(it, crate.texts)])
         if found is None and crate.check({})[0] != 0:
             return {}, {it: "not tried, as the crate is not proved without it" for it in texts}
         refused.update(crate.in_halves(twins) if found is None else found)
         whose = lambda it: str(it.functions)
         of_methods = sorted((it for it in edits if it.name not in refused and len(it.functions) == 1 and None not in it.functions), key=whose)
         for some in zip_longest(*([*its] for _, its in groupby(of_methods, whose))):
-            refused.update(crate.in_place([*filter(None, some)]) if some.count(None) < len(some) - 1 else {})
+            refused.update(crate.in_place([*filter(None, some)]))
         for edit in [it for it in edits if it.name not in refused]:
             is_refused, told = crate.alone(edit)
             (refused if is_refused else failed)[edit.name] = told

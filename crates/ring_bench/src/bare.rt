@@ -2,15 +2,13 @@
 ghost use Rattle.std.specs.Prelude.{◌≡◌, length};
 ghost use Rattle.seats.specs.Seats.{staged, collected};
 
+use crate::answering::LOOKS;
 use host_calls::ClientCall;
 use plain_machine::{Answer, Code};
 use seats::{Bell, ClientReplies, Desk, Seat, open_seat};
 use std::alloc::Global;
 use std::sync::Wait;
 use std::thread::{self, Threads};
-
-// How often each side looks before it sleeps, as in a host.
-const LOOKS: u32 = 100;
 
 /// How many calls were answered, of so many at a seat whose desk refuses each; none if there is no memory for it.
 pub fn bare_calls<R: Threads + Wait + Copy + Drop + Send + 'static>(

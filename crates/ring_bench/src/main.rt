@@ -10,9 +10,14 @@
 //! | `CALLS 0` | so many calls go over the rings of one seat, with no keeper behind it: how many were answered |
 //! | `0` | a held host with a call that waits, until standard input ends: how many lines that had |
 //! | `play WORKERS` | the script on standard input, over a host with so many workers, a line for each of its lines |
+//! | `floor DIR CLIENTS read\|write` | so many clients are served at sockets in a folder, until standard input ends; then the sockets are removed |
 //!
-//! Words that are no numbers are passed over; with none, each of the four asks 25 times. Up to 1,000 asks the four clients' host has a
-//! history of 100 calls, which refused calls do not fill, and else one of a million.
+//! With no word that is a number, each of the four asks 25 times. Up to 1,000 asks the four clients' host has a history of 100 calls,
+//! which refused calls do not fill, and else one of a million.
+//!
+//! The floor has the sockets, threads, rings, bells and frames of `bfqhost serve`, with a core that answers each call at once by its kind
+//! alone: a Reap by a read of 8 sectors, or by a write. There is no machine and no image behind it, so it is what a host could cost at
+//! least.
 //!
 //! ```text
 //! ring_bench               // 100 4 0 18 4 0 true
@@ -43,8 +48,10 @@
 //! take 0                 // device 1: refused 35
 //! ```
 
+mod answering;
 mod bare;
 mod busy;
+mod floor;
 mod held;
 mod opening;
 mod play;
@@ -54,12 +61,15 @@ mod settling;
 
 use bare::bare_calls;
 use busy::{Round, many_clients};
+use floor::serve_floor;
 use held::held_until_input_ends;
 use play::played;
 use rounds::four_clients;
 use script_line::number;
 use seated::opened;
 use std::rt::Env;
+use std::sync::Wait;
+use std::thread::Threads;
 use std::{env, io};
 
 // How many calls the history of the four clients' host holds, and up to how many asks each it is the short one.
@@ -70,33 +80,24 @@ const SHORT_HISTORY: u64 = 100;
 const FEW_ASKS: u64 = 1_000;
 
 fn main(rt: HostRuntime) -> io::Result<()> {
-    let words = numbers(&rt)?;
-    if plays(&rt)? {
-        return play_all(rt, words.first().copied().unwrap_or(2));
+    let words = words_of(&rt)?;
+    let kind = match words.get(1) {
+        Some(word) => word.as_str(),
+        None => "",
+    };
+    if kind == "play" {
+        return play_all(rt, number_at(words.as_slice(), 2).unwrap_or(2));
     }
-    let rounds = words.first().copied().unwrap_or(25);
-    let done = match (rounds, words.get(1).copied()) {
+    if kind == "floor" {
+        return println!(rt; "{}", serve_floor(rt, words.as_slice())?);
+    }
+    let rounds = number_at(words.as_slice(), 1).unwrap_or(25);
+    let done = match (rounds, number_at(words.as_slice(), 2)) {
         (0, None) => held_until_input_ends(rt, rt.alloc()),
-        (_, None) => {
-            return match four_clients(&rt, rt.alloc(), rounds, history_for(rounds)) {
-                Some(all) => {
-                    println!(rt;
-                        "{} {} {} {} {} {} {}",
-                        all.answered,
-                        all.accepted,
-                        all.left,
-                        all.uncollected,
-                        all.entries.0,
-                        all.entries.1,
-                        all.has_ended
-                    )
-                }
-                None => println!(rt; "no memory"),
-            };
-        }
+        (_, None) => return tell_four(&rt, rounds),
         (_, Some(0)) => bare_calls(rt, rt.alloc(), rounds),
         (_, Some(clients)) => {
-            let round = match words.get(2) {
+            let round = match words.get(3) {
                 None => Round::Refused,
                 Some(_) => Round::Read,
             };
@@ -109,14 +110,26 @@ fn main(rt: HostRuntime) -> io::Result<()> {
     }
 }
 
-// Whether there is the word `play`.
-fn plays(rt: &(impl Env + AllocGlobal)) -> io::Result<bool> {
-    for word in env::args(rt)? {
-        if word.as_str() == "play" {
-            return Ok(true);
+// Has four clients ask so often, and tells what came of it.
+fn tell_four<R>(rt: &R, rounds: u64) -> io::Result<()>
+where
+    R: AllocGlobal + Print + Threads + Sync + Wait,
+{
+    match four_clients(rt, rt.alloc(), rounds, history_for(rounds)) {
+        Some(all) => {
+            println!(rt;
+                "{} {} {} {} {} {} {}",
+                all.answered,
+                all.accepted,
+                all.left,
+                all.uncollected,
+                all.entries.0,
+                all.entries.1,
+                all.has_ended
+            )
         }
+        None => println!(rt; "no memory"),
     }
-    Ok(false)
 }
 
 fn history_for(asks: u64) -> u64 {
@@ -137,13 +150,16 @@ fn play_all(rt: HostRuntime, workers: u64) -> io::Result<()> {
     Ok(())
 }
 
-// The words that are numbers, in their order.
-fn numbers(rt: &(impl Env + AllocGlobal)) -> io::Result<Vec<u64>> {
-    let mut found = Vec::new(rt.alloc());
+// The words of the command.
+fn words_of(rt: &(impl Env + AllocGlobal)) -> io::Result<Vec<String>> {
+    let mut words = Vec::new(rt.alloc());
     for word in env::args(rt)? {
-        if let Some(value) = number(word.as_bytes()) {
-            found.push(value)?;
-        }
+        words.push(word)?;
     }
-    Ok(found)
+    Ok(words)
+}
+
+// The number that a word says.
+fn number_at(words: &[String], at: usize) -> Option<u64> {
+    number(words.get(at)?.as_bytes())
 }

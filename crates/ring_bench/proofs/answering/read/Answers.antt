@@ -1,5 +1,5 @@
 use Rattle.std.proofs.Common.{arith}
-use Rattle.serve_floor.proofs.answering.read.Goals as goal
+use Rattle.ring_bench.proofs.answering.read.Goals as goal
 
 -- 8 sectors
 pub returns : goal.returns

@@ -1,4 +1,4 @@
-// From the words to the end.
+// The floor of a host that serves: its sockets, threads, rings, bells and frames, with a core that answers each call at once by its kind.
 use crate::answering::{LOOKS, answer_all};
 use host_calls::ClientCall;
 use host_paths::{Doors, ServeEnd, open_doors, remove_all, start_client};
@@ -7,24 +7,20 @@ use seats::{Bell, ClientReplies, Desk, open_seat};
 use std::alloc::Global;
 use std::net::Net;
 use std::os::unix::net::UnixListener;
-use std::rt::{Env, Files};
+use std::rt::Files;
 use std::sync::Wait;
 use std::thread::{self, Threads};
 use std::time::Clock;
-use std::{env, io};
+use std::io;
 
-/// Does what the words ask for, and says what came of it.
-pub fn start<R>(rt: R) -> io::Result<&'static str>
+/// Serves clients in the folder that the words name, until standard input ends, and then removes the sockets. Says what came of it.
+pub fn serve_floor<R>(rt: R, words: &[String]) -> io::Result<&'static str>
 where
-    R: Env + AllocGlobal + Input + Files + Threads + Wait + Net + Clock,
+    R: AllocGlobal + Input + Files + Threads + Wait + Net + Clock,
     R: Copy + Drop + Send + 'static,
 {
-    let mut words = Vec::new(rt.alloc());
-    for word in env::args(&rt)? {
-        words.push(word)?;
-    }
-    let (Some(dir), Some(clients), Some(kind)) = (words.get(1), words.get(2), words.get(3)) else {
-        return Ok("serve_floor DIR CLIENTS read|write");
+    let (Some(dir), Some(clients), Some(kind)) = (words.get(2), words.get(3), words.get(4)) else {
+        return Ok("ring_bench floor DIR CLIENTS read|write");
     };
     let clients = number(clients.as_bytes()).unwrap_or(1).min(16) as u8;
     let mut made = Vec::new(rt.alloc());
@@ -33,7 +29,9 @@ where
         Err(end) => Err(end),
     };
     if served.is_ok() {
-        wait_for_input(&rt)?;
+        for line in rt.lines(rt.alloc()) {
+            line?;
+        }
     }
     remove_all(&rt, made.as_slice());
     match served {
@@ -41,18 +39,6 @@ where
         Err(ServeEnd::OutOfMemory) => Ok("memory: none"),
         Err(_) => Ok("socket: failed"),
     }
-}
-
-// Reads standard input to its end.
-fn wait_for_input(rt: &(impl Input + AllocGlobal)) -> io::Result<()> {
-    let mut line = String::new(rt.alloc());
-    for _ in 0..u64::MAX {
-        line.clear();
-        if rt.read_line(&mut line)? == 0 {
-            return Ok(());
-        }
-    }
-    Ok(())
 }
 
 // Starts the core, and a thread for each path.
