@@ -100,8 +100,9 @@ def two_clients(host):
 
 
 def stepped(host):
-    """The operator holds, undoes, redoes and releases while a client waits; then he undoes for good, and the client reads the image."""
-    with host.talk(0) as client, host.operator() as operator:
+    """The operator holds, undoes, redoes and releases while a client waits; then he undoes for good, and the client reads the image. A client
+    that says nothing is in nobody's way."""
+    with host.talk(0) as client, host.talk(1), host.operator() as operator:
         client.asks((ATTACH, attached(1)), (store(1, 5, 1, 7), queued(2)), (reap(1), written(2)))
         operator.asks((RELEASE, NOT_HELD), (HOLD, moved(5, 5)), (undo(1), moved(4, 5)), (redo(1), moved(5, 5)), (FREEZE, "e1 29"))
         client.send(fetch(1, 5, 1))

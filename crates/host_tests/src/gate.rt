@@ -9,12 +9,11 @@ use std::sync::atomic::{AtomicU64, Ordering};
 // So often a read looks whether another has begun. Then it fails.
 const MOST_TURNS: u64 = 100_000_000;
 
-// An image of 64 sectors, each of which has its number in all of its bytes. A read at the gate waits until so many have begun, at this
-// image or another. So with two it ends only if two devices work at once.
+// An image of 64 sectors, each of which has its number in all of its bytes. A read at the gate waits until two have begun, at this
+// image or the other. So it ends only if two devices work at once.
 #[derive(Drop)]
 pub struct Gated {
     begun: Arc<AtomicU64, Global>,
-    least: u64,
     faults: u64,
     last: Option<ImageFault>,
 }
@@ -24,27 +23,21 @@ impl Gated {
     pub fn two(alloc: Global) -> Result<(Gated, Gated), AllocError> {
         let begun = Arc::new(alloc, AtomicU64::new(0))?;
         let same = Arc::try_clone(&begun)?;
-        Ok((Gated::new(begun, 2), Gated::new(same, 2)))
+        Ok((Gated::new(begun), Gated::new(same)))
     }
 
-    // An image alone, at a gate that is open.
-    pub fn open(alloc: Global) -> Result<Gated, AllocError> {
-        Ok(Gated::new(Arc::new(alloc, AtomicU64::new(0))?, 0))
-    }
-
-    fn new(begun: Arc<AtomicU64, Global>, least: u64) -> Gated {
+    fn new(begun: Arc<AtomicU64, Global>) -> Gated {
         Gated {
             begun,
-            least,
             faults: 0,
             last: None,
         }
     }
 
-    // Whether enough reads have begun in time.
+    // Whether two reads have begun in time.
     fn opens(&self) -> bool {
         for _ in 0..MOST_TURNS {
-            if self.begun.load(Ordering::SeqCst) >= self.least {
+            if self.begun.load(Ordering::SeqCst) >= 2 {
                 return true;
             }
         }

@@ -10,11 +10,11 @@ use std::time::{Clock, Duration};
 const TRIES: u32 = 20_000;
 
 // Bytes in hexadecimal, two digits each, with spaces between some; and behind them a sector of one byte, if there is one.
-#[derive(Clone, Copy, Debug, PartialEq, Eq)]
+#[derive(Clone, Copy)]
 pub struct Frame(pub &'static str, pub Option<u8>);
 
 // The place of a peer, what it sends, and what must come back.
-#[derive(Clone, Copy, Debug, PartialEq, Eq)]
+#[derive(Clone, Copy)]
 pub struct Talk(pub usize, pub Frame, pub Frame);
 
 // A connection to the path, once somebody listens there.

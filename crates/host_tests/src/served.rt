@@ -1,5 +1,5 @@
 // A host that serves clients and the operator over sockets.
-ghost use Rattle.std.specs.Prelude.{◌≡◌, ◌≤◌, length, IfOk};
+ghost use Rattle.std.specs.Prelude.{◌≡◌, length, IfOk};
 
 use crate::gate::Gated;
 use crate::opening::usual;
@@ -64,58 +64,6 @@ const AT_ONCE: [Talk; 8] = [
     ),
 ];
 
-// Client 0 writes sector 5 and reads it. Then 9 steps stand, of which the operator undoes one and redoes it.
-const STEPPED: [Talk; 9] = [
-    Talk(
-        0,
-        Frame("00000003 01 00 04", None),
-        Frame("00000009 81 0000000000000001", None),
-    ),
-    Talk(
-        0,
-        Frame(
-            "00000213 03 0000000000000001 0000000000000005 0001",
-            Some(0x41),
-        ),
-        Frame("00000009 82 0000000000000002", None),
-    ),
-    Talk(
-        0,
-        Frame("00000009 04 0000000000000001", None),
-        Frame("00000009 84 0000000000000002", None),
-    ),
-    Talk(
-        0,
-        Frame("00000013 02 0000000000000001 0000000000000005 0001", None),
-        Frame("00000009 82 0000000000000006", None),
-    ),
-    Talk(
-        0,
-        Frame("00000009 04 0000000000000001", None),
-        Frame("00000209 83 0000000000000006", Some(0x41)),
-    ),
-    Talk(
-        OPERATOR,
-        Frame("00000001 18", None),
-        Frame("00000009 93 00000009 00000009", None),
-    ),
-    Talk(
-        OPERATOR,
-        Frame("00000005 1a 00000001", None),
-        Frame("00000009 93 00000008 00000009", None),
-    ),
-    Talk(
-        OPERATOR,
-        Frame("00000005 1b 00000001", None),
-        Frame("00000009 93 00000009 00000009", None),
-    ),
-    Talk(
-        OPERATOR,
-        Frame("00000001 19", None),
-        Frame("00000001 92", None),
-    ),
-];
-
 // Serves two clients in a folder.
 fn two_in(dir: &str) -> ServeOptions<'_>
     ensures { result.clients ≡ 2 }
@@ -155,21 +103,17 @@ fn freezes_and_stops(alloc: Global, stream: &UnixStream) -> bool {
     is_frozen && is_stopped
 }
 
-// Two images at one gate, or one at a gate that is open.
-fn images_of(alloc: Global, are_two: bool) -> Result<Vec<Gated>, Fail>
-    ensures { IfOk result (λ images. 1 ≤ length images.items × length images.items ≤ 4) }
+// Two images at one gate.
+fn images_of(alloc: Global) -> Result<Vec<Gated>, Fail>
+    ensures { IfOk result (λ images. length images.items ≡ 2) }
 {
-    if are_two {
-        let (first, second) = Gated::two(alloc)?;
-        return Ok(vec![in alloc; first, second]?);
-    }
-    Ok(vec![in alloc; Gated::open(alloc)?]?)
+    let (first, second) = Gated::two(alloc)?;
+    Ok(vec![in alloc; first, second]?)
 }
 
 // Whether each talk goes as it is wanted, and the host then freezes and stops by what the operator's command does.
-fn all_answer(alloc: Global, peers: &[UnixStream; 3], are_two: bool) -> bool {
-    let talks: &[Talk] = if are_two { &AT_ONCE } else { &STEPPED };
-    for talk in talks {
+fn all_answer(alloc: Global, peers: &[UnixStream; 3]) -> bool {
+    for talk in &AT_ONCE {
         if !answers(alloc, &peers[talk.0.min(OPERATOR)], *talk) {
             return false;
         }
@@ -177,38 +121,23 @@ fn all_answer(alloc: Global, peers: &[UnixStream; 3], are_two: bool) -> bool {
     freezes_and_stops(alloc, &peers[OPERATOR]) && has_ended(&peers[OPERATOR])
 }
 
-// Two clients are served at once, by two workers at once; and the operator steps a host back and forth over one connection, where a
-// client that says nothing is in nobody's way.
+// Two clients are served at once, by two workers at once.
 #[test]
 fn clients_and_the_operator(rt: HostRuntime) -> Result<(), Fail> {
-    for are_two in [true, false] {
-        let dir = folder(rt)?;
-        let images = images_of(rt.alloc(), are_two)?;
-        let config = usual()?;
-        let theirs = format!(in rt.alloc(); "{dir}")?;
-        let serving = thread::spawn(
-            &rt,
-            move || -> ServeEnd
-                requires { 1 ≤ length images.items × length images.items ≤ 4 }
-            { run_server(rt, rt.alloc(), config, images, two_in(theirs.as_str())) },
-        )?;
-        let peers = peers(rt, dir.as_str())?;
-        assert!(rt;
-            all_answer(rt.alloc(), &peers, are_two),
-            "two at once: {are_two}"
-        );
-        assert_eq!(rt; serving.join(&rt), ServeEnd::Stopped);
-        // The sockets are gone, so the folder is empty.
-        fs::remove_dir(&rt, dir.as_str())?;
-    }
-    Ok(())
-}
-
-// No folder, so no socket.
-#[test]
-fn no_folder(rt: HostRuntime) -> Result<(), Fail> {
-    let images = vec![in rt.alloc(); Gated::open(rt.alloc())?]?;
-    let end = run_server(rt, rt.alloc(), usual()?, images, two_in("/nowhere"));
-    assert_eq!(rt; end, ServeEnd::Socket);
+    let dir = folder(rt)?;
+    let images = images_of(rt.alloc())?;
+    let config = usual()?;
+    let theirs = format!(in rt.alloc(); "{dir}")?;
+    let serving = thread::spawn(
+        &rt,
+        move || -> ServeEnd
+            requires { length images.items ≡ 2 }
+        { run_server(rt, rt.alloc(), config, images, two_in(theirs.as_str())) },
+    )?;
+    let peers = peers(rt, dir.as_str())?;
+    assert!(rt; all_answer(rt.alloc(), &peers));
+    assert_eq!(rt; serving.join(&rt), ServeEnd::Stopped);
+    // The sockets are gone, so the folder is empty.
+    fs::remove_dir(&rt, dir.as_str())?;
     Ok(())
 }

@@ -5,13 +5,13 @@ use host_paths::{Doors, ServeEnd, open_doors, remove_all, start_client};
 use script_line::number;
 use seats::{Bell, ClientReplies, Desk, open_seat};
 use std::alloc::Global;
+use std::io;
 use std::net::Net;
 use std::os::unix::net::UnixListener;
 use std::rt::Files;
 use std::sync::Wait;
 use std::thread::{self, Threads};
 use std::time::Clock;
-use std::io;
 
 /// Serves clients in the folder that the words name, until standard input ends, and then removes the sockets. Says what came of it.
 pub fn serve_floor<R>(rt: R, words: &[String]) -> io::Result<&'static str>
