@@ -167,16 +167,27 @@ fn due(step: &Step) -> u8 {
     }
 }
 
+// The same of a call of each kind. These have no clauses, so that a test carries numbers alone.
+fn by_client(call: ClientCall) -> u8 {
+    asked(&call.asked(2))
+}
+
+fn by_device(call: DeviceCall) -> u8 {
+    asked(&call.asked(2))
+}
+
+fn by_operator(call: OperatorCall) -> u8 {
+    asked(&call.asked(2))
+}
+
 #[test]
 fn each_kind_of_seat(rt: HostRuntime) {
-    let reap = ClientCall::Reap { session: 9 };
-    let requeue = DeviceCall::Requeue { tag: 4, issue: 9 };
     let found = [
-        asked(&reap.asked(2)),
-        asked(&requeue.asked(2)),
-        asked(&DeviceCall::Take { worker: 3 }.asked(2)),
-        asked(&OperatorCall::Freeze.asked(2)),
-        asked(&OperatorCall::Stop.asked(2)),
+        by_client(ClientCall::Reap { session: 9 }),
+        by_device(DeviceCall::Requeue { tag: 4, issue: 9 }),
+        by_device(DeviceCall::Take { worker: 3 }),
+        by_operator(OperatorCall::Freeze),
+        by_operator(OperatorCall::Stop),
     ];
     assert_eq!(rt; found, [1, 1, 13, 1, 2]);
     let names = [

@@ -55,22 +55,20 @@ fn opened(alloc: Global) -> Result<(Core, Vec<Caller>, Vec<DeviceSeat>, Operator
 }
 
 // The last of these, to which nothing has come.
-fn last_client(clients: Vec<Caller>) -> Result<Caller, Fail>
-    requires { AreIdle clients.items }
+fn last_client(clients: &mut Vec<Caller>) -> Result<Caller, Fail>
+    requires { AreIdle clients.old.items }
     ensures { IfOk result (λ s. IsIdle s) }
 {
-    let mut clients = clients;
     match clients.pop() {
         Some(seat) => Ok(seat),
         None => Err(Fail::from("a client's seat")),
     }
 }
 
-fn last_device(devices: Vec<DeviceSeat>) -> Result<DeviceSeat, Fail>
-    requires { AreIdle devices.items }
+fn last_device(devices: &mut Vec<DeviceSeat>) -> Result<DeviceSeat, Fail>
+    requires { AreIdle devices.old.items }
     ensures { IfOk result (λ s. IsIdle s) }
 {
-    let mut devices = devices;
     match devices.pop() {
         Some(seat) => Ok(seat),
         None => Err(Fail::from("a device's seat")),
@@ -194,9 +192,9 @@ fn served<R: Threads + Sync + Wait + Clock>(
     sector: u64,
     failing: (u64, ImageFault),
 ) -> Result<Ended, Fail> {
-    let (core, clients, devices, operator) = opened(alloc)?;
-    let client = last_client(clients)?;
-    let device = last_device(devices)?;
+    let (core, mut clients, mut devices, operator) = opened(alloc)?;
+    let client = last_client(&mut clients)?;
+    let device = last_device(&mut devices)?;
     let image = MemoryImage::new(Bytes::from_static(&BYTES), 64);
     let image = FailingImage::new(image, failing.0, failing.1);
     let seats = Seats {
