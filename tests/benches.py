@@ -7,6 +7,7 @@ which was written apart from this host. rt ci builds each program with two compi
 
 import os
 import subprocess
+import tempfile
 
 TOP = os.path.dirname(os.path.dirname(os.path.abspath(__file__)))
 RINGS = os.path.join(TOP, "tests", "rings")
@@ -60,6 +61,9 @@ def cases():
         yield f"tests/rings/{name}.script", "ring_bench", ["play", workers], text(f"{name}.script"), text(f"{name}.expected")
     for asks in ASKS:
         yield f"four clients of {asks} asks", "ring_bench", [str(asks)], "", f"{4 * asks} 4 0 18 4 0 true\n"
+    yield "ring_bench floor", "ring_bench", ["floor"], "", "ring_bench floor DIR CLIENTS read|write\n"
+    with tempfile.TemporaryDirectory(prefix="bfq-") as folder:
+        yield "a floor of two clients, until its input ends", "ring_bench", ["floor", folder, "2", "read"], "", "ended\n"
     name, words, wanted = FED
     yield f"{name} {' '.join(words)}", name, words, "", wanted
 

@@ -101,19 +101,20 @@ def two_clients(host):
 
 def stepped(host):
     """The operator holds, undoes, redoes and releases while a client waits; then he undoes for good, and the client reads the image. A client
-    that says nothing is in nobody's way."""
-    with host.talk(0) as client, host.talk(1), host.operator() as operator:
-        client.asks((ATTACH, attached(1)), (store(1, 5, 1, 7), queued(2)), (reap(1), written(2)))
-        operator.asks((RELEASE, NOT_HELD), (HOLD, moved(5, 5)), (undo(1), moved(4, 5)), (redo(1), moved(5, 5)), (FREEZE, "e1 29"))
-        client.send(fetch(1, 5, 1))
-        operator.asks((RELEASE, DONE))
-        client.hears(queued(6))
-        client.asks((reap(1), read(6, b"\x07" * 512)))
-        # Undone are the store's Reap and Finish and all that came after.
-        operator.asks((HOLD, moved(9, 9)), (undo(6), moved(3, 9)), (RELEASE, DONE))
-        # The request in flight was Taken and answered before, so its worker takes it again.
-        client.asks((reap(1), written(2)), (fetch(1, 6, 1), queued(12)), (reap(1), read(12, sector_of(6))))
-    host.stop()
+    that says nothing is in nobody's way, also at Stop."""
+    with host.talk(1):
+        with host.talk(0) as client, host.operator() as operator:
+            client.asks((ATTACH, attached(1)), (store(1, 5, 1, 7), queued(2)), (reap(1), written(2)))
+            operator.asks((RELEASE, NOT_HELD), (HOLD, moved(5, 5)), (undo(1), moved(4, 5)), (redo(1), moved(5, 5)), (FREEZE, "e1 29"))
+            client.send(fetch(1, 5, 1))
+            operator.asks((RELEASE, DONE))
+            client.hears(queued(6))
+            client.asks((reap(1), read(6, b"\x07" * 512)))
+            # Undone are the store's Reap and Finish and all that came after.
+            operator.asks((HOLD, moved(9, 9)), (undo(6), moved(3, 9)), (RELEASE, DONE))
+            # The request in flight was Taken and answered before, so its worker takes it again.
+            client.asks((reap(1), written(2)), (fetch(1, 6, 1), queued(12)), (reap(1), read(12, sector_of(6))))
+        host.stop()
 
 
 def by_bfqctl(host, bfqctl):
@@ -321,8 +322,9 @@ DONE_WITH = [two_clients, stepped, bad_frames, peer_that_never_reads, peer_that_
 
 
 def history_nearly_full(program, image, folder):
-    """Nine tenths of 20 calls are 18. It says so once, and goes on till the history is full; then even Hold is refused, and Stop is not."""
-    with Served(program, image, folder, "--history", "20") as host, host.talk(0) as client:
+    """Nine tenths of 20 calls are 18. It says so once, and goes on till the history is full; then even Hold is refused, and Stop is not. One
+    worker is enough for a client that waits for each read."""
+    with Served(program, image, folder, "--history", "20", workers=1) as host, host.talk(0) as client:
         client.asks((ATTACH, attached(1)))
         for serial in (2, 6, 10, 14):
             client.asks((fetch(1, 0, 1), queued(serial)), (reap(1), read(serial, sector_of(0))))

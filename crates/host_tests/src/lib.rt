@@ -11,7 +11,7 @@
 //! | `settling` | what is left of a seat that ends before all is answered and collected |
 //! | `threads` | a core that sleeps is woken from another thread |
 //! | `workers` | what a client reads if a worker does the device's work in a thread of its own, from images whose first read fails or not |
-//! | `served` | two clients at once over two images, each with a worker; the operator's hold, undo, redo, release and stop; his freeze by the command's own asking |
+//! | `served` | two clients at once over two images, each with a worker; the operator's freeze and stop by the asking of his command |
 //!
 //! `opening` has the usual configuration and the hosts of `runs`, `settling` and `threads`; `gate` the images of `served`, and `peer` its
 //! clients. What a core answers to each call of each kind of seat, whom it answers and when it dispatches is compared by the scripts of

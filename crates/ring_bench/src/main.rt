@@ -12,7 +12,7 @@
 //! | `play WORKERS` | the script on standard input, over a host with so many workers, a line for each of its lines |
 //! | `floor DIR CLIENTS read\|write` | so many clients are served at sockets in a folder, until standard input ends; then the sockets are removed |
 //!
-//! With no word that is a number, each of the four asks 25 times. Up to 1,000 asks the four clients' host has a history of 100 calls,
+//! A first word that is no number, and none, stand for 25. Up to 1,000 asks the four clients' host has a history of 100 calls,
 //! which refused calls do not fill, and else one of a million.
 //!
 //! The floor has the sockets, threads, rings, bells and frames of `bfqhost serve`, with a core that answers each call at once by its kind
