@@ -157,6 +157,7 @@ WORDS = [
     refused("two dashes before the command", "--socket", "PATH", "--", "undo", "2"),
     refused("two dashes behind the command", "--socket", "PATH", "undo", "2", "--"),
     refused("version", "--version"),
+    refused("a word that is no text", "--socket", "PATH", "undo", "\udcff"),
 ] + [no_call(*line.split(" ")) for line in [
     "", "undo", "undo x", "undo 2 3", "undo ", "undo +2", "undo -2", "undo 02", "undo 2 ", "undo 4294967296", "undo 0x2", "undo 1_0",
     "undo 2.0", "Undo 2", "UNDO 2", "undone 2", "und 2", " undo 2", "undo  2", "undo\t2", "redo", "redo -0", "redo 00", "redo 4294967296",

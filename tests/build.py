@@ -25,9 +25,10 @@ PROGRAMS = ["bfqhost", "bfqctl"]
 MINUTES_OF_ALL = 110
 # What a crate costs whatever its size, as so much code: a check reads what was proved below first, and its library holds much of that.
 CODE_OF_EACH = 1_570
-# The longest chain of crates sets the time. By what share of its work a crate has above it: how many jobs the crate gets, and how far it
-# gives way to others.
-SHARES = [(0.95, 4, 0), (0.6, 3, 5), (0.4, 2, 10), (0, 1, 19)]
+# The longest chain of crates sets the time. By what share of its work a crate has above it: how many jobs the crate gets. And how far a
+# crate with next to nothing above it gives way to others.
+SHARES = [(0.9, 4), (0.6, 3), (0.3, 2), (0, 1)]
+GIVES_WAY = 16
 
 
 def tell(text):
@@ -54,6 +55,15 @@ def stale(names, lines):
         if made(name) < newest or any(it in found for it in below(name, lines)):
             found.append(name)
     return found
+
+
+def is_proved(name, lines):
+    """Whether a crate is proved as it stands: its library, or its program, is there, and is newer than what it is made of."""
+    if name not in PROGRAMS:
+        return made(name) > 0 and not stale([name], lines)
+    program = CRATES / name / "out" / name
+    newest = max(it.stat().st_mtime for it in [*sources(name), *map(library, below(name, lines))] if it.exists())
+    return program.exists() and program.stat().st_mtime > newest and not stale([name], lines)
 
 
 def run(words, folder):
@@ -98,8 +108,9 @@ def prove_all(left, lines):
             longest = max(behind[it] for it in [*left, *running.values()])
             for name in sorted(ready, key=lambda it: -behind[it])[:most - len(running)]:
                 tell(f"proving {name}; {number - len(left) - len(running)} of {number} are proved")
-                jobs, gives_way = next(it[1:] for it in SHARES if behind[name] >= it[0] * longest)
-                running[pool.submit(prove, name, lines, min(jobs, count), gives_way)] = name
+                share = behind[name] / longest
+                jobs = next(jobs for least, jobs in SHARES if share >= least)
+                running[pool.submit(prove, name, lines, min(jobs, count), round(GIVES_WAY * (1 - share)))] = name
                 left.remove(name)
             for ran in wait(running, return_when=FIRST_COMPLETED).done:
                 del running[ran]

@@ -85,6 +85,8 @@ def two_clients(host):
     with host.talk(0) as first, host.talk(1) as second:
         first.asks((ATTACH, attached(1)))
         second.asks((ATTACH, attached(2)))
+        # A store of one sector with three bytes has a frame. Its call is refused, which takes no serial.
+        first.asks(("00000016 03 0000000000000001 0000000000000005 0001 070707", "e0 0d"))
         first.send(store(1, 5, 1, 0x41))
         first.hears(queued(3))
         first.send(reap(1))

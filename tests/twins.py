@@ -21,8 +21,8 @@ ERROR = re.compile(r"(?:\./)?((?:src|specs|proofs)/\S+?):\d+:\d+: error(?:\[\S+\
 UNREAD = re.compile(r"is not in scope|has no field|has no `|is no name|not admitted|was rejected|operand is missing|expected the end|cannot continue|\(nearest: ")
 IMPL = re.compile(r"impl\b(?:<.*?>)? (.* for )?&?(\w+)")
 OPENS = re.compile(r"( *)(?:pub(?:\([^)]*\))? )?(?:const )?(?:unsafe )?fn (\w+)")
-# A function, with the type that it is a method of, and of which trait (None: of none), and its lines; and a wrong body: new lines, by place, and whose they are (None: no function's).
-Function = namedtuple("Function", "path name owner trait first last")
+# A function, with the type that it is a method of, of which trait (None: of none), and its lines; and a wrong body: new lines, by place, and whose they are (None: no function's).
+Function = namedtuple("Function", "path name owner trait first opens last")
 Edit = namedtuple("Edit", "name lines functions")
 
 
@@ -38,7 +38,7 @@ def functions_of(path, lines):
             owner = next((IMPL.match(it) for it in lines[first::-1] if it[:1].strip()), None) if opens[1] else None
             trait = None if not opens[1] or owner and not owner[1] else re.sub(r"\w+::|\W", "", owner[1].removesuffix(" for ")) if owner else ""
             last = lines.index(opens[1] + "}", at) if not lines[at].endswith("}") else at
-            yield Function(path, opens[2], owner[2] if owner else "", trait, first, last)
+            yield Function(path, opens[2], owner[2] if owner else "", trait, first, at, last)
 
 
 def read_edit(name, text, texts):
@@ -79,17 +79,19 @@ def has_twin(edit, texts):
 
 
 def holes(name, texts):
-    """The files by which each function of a crate that no trait has stands by its contract alone."""
-    files, sources = {}, [it for it in texts if it[:4] == "src/"]
-    for function in [it for path in sources for it in functions_of(path, texts[path].split("\n")) if it.trait is None]:
+    """The files by which each function of a crate that no trait has stands by its contract alone, with no body. All keeps its line."""
+    files, sources = {}, {path: text.split("\n") for path, text in texts.items() if path[:4] == "src/"}
+    for function in [it for path, lines in sources.items() for it in functions_of(path, lines) if it.trait is None]:
         home = [it for it in sources if re.search(rf"\b(struct|enum) {function.owner}\b", texts[it])] if function.owner else []
         words = [*modules([*home, function.path][0]), *filter(None, [function.owner]), function.name]
         files["/".join(["proofs", *words, "Proof.antt"])] = HOLE.format(name, ".".join(words), function.name)
-    return files
+        inner = function.last - function.opens - 1
+        sources[function.path][function.opens + 1:function.last] = ["unreachable!()", *[""] * inner][:inner]
+    return files | {path: "\n".join(lines) for path, lines in sources.items()}
 
 
-def in_twins(edits, texts):
-    """The files that change if each wrong body stands in a twin of its function, and the wrong bodies by the names of their twins."""
+def in_twins(edits, texts, around):
+    """The files that change if each wrong body stands in a twin of its function, with all else as around it; and the wrong bodies by the names of their twins."""
     files, names, after = {}, {}, {}
     for edit in edits:
         [function] = edit.functions
@@ -101,7 +103,7 @@ def in_twins(edits, texts):
             *above, own, file = path.split("/")
             files["/".join([*above, twin, file])] = texts[path].replace(".".join([*above, own, ""]), ".".join([*above, twin, ""]))
     for path in {path for path, _ in after}:
-        files[path] = "\n".join(it for at, line in enumerate(texts[path].split("\n")) for it in [line, *after.get((path, at), ())])
+        files[path] = "\n".join(it for at, line in enumerate(around[path].split("\n")) for it in [line, *after.get((path, at), ())])
     return files, names
 
 
@@ -129,7 +131,7 @@ class Crate:
     """A copy of a crate in a folder, in which wrong bodies are planted and checked by these words, while `keeps_on` says so."""
 
     def __init__(self, texts, folder, words, keeps_on, proofs):
-        self.texts, self.folder, self.keeps_on, self.holes = texts, Path(folder), keeps_on, proofs
+        self.texts, self.around, self.folder, self.keeps_on, self.holes = texts, {**texts, **proofs}, Path(folder), keeps_on, proofs
         self.words = [*words, "--jobs", "1", "--incremental", "kept"]
         self.write(texts)
 
@@ -151,7 +153,7 @@ class Crate:
 
     def together(self, edits, by_contracts=True):
         """Tries wrong bodies in twins by one check. Gives those that are refused, each with its goal; None if the check counts for nothing."""
-        files, names = in_twins(edits, self.texts)
+        files, names = in_twins(edits, self.texts, self.around if by_contracts else self.texts)
         return settled(lambda words: next((names[it] for it in names if it in words), None), *self.check(files, names if by_contracts else ()))
 
     def in_halves(self, edits):
@@ -159,20 +161,20 @@ class Crate:
         halves = [(it, self.together(it, False)) for it in (edits[::2], edits[1::2]) if it and len(edits) > 1]
         return {name: goal for half, found in halves for name, goal in (self.in_halves(half) if found is None else found).items()}
 
-    def planted(self, *edits):
-        """The files that change if wrong bodies stand in their places."""
+    def planted(self, edits, around):
+        """The files that change if wrong bodies stand in their places, with all else as around them."""
         lines = {at: line for edit in edits for at, line in edit.lines.items()}
-        return {path: "\n".join(lines.get((path, at), it) for at, it in enumerate(self.texts[path].split("\n"))) for path, _ in lines}
+        return {path: "\n".join(lines.get((path, at), it) for at, it in enumerate(around[path].split("\n"))) for path, _ in lines}
 
     def in_place(self, edits):
         """Tries wrong bodies of different methods of traits in their places by one check. Gives those that are refused, each with its goal."""
         names = {f"{it.owner}{it.trait or ''}::{it.name}".removeprefix("::"): edit.name for edit in edits for it in edit.functions}
         whose = lambda words: next((names[it] for it in names if "::".join(["", *words]).endswith("::" + it)), None)
-        return settled(whose, *self.check(self.planted(*edits), names)) or {}
+        return settled(whose, *self.check(self.planted(edits, self.around), names)) or {}
 
     def alone(self, edit):
         """Tries one wrong body in its place. Gives whether it is refused, and its goal or what is wrong with it."""
-        status, said = self.check(files := self.planted(edit))
+        status, said = self.check(files := self.planted([edit], self.texts))
         errors = [it for it in map(ERROR.match, said.splitlines()) if it]
         unread = [it[0] for it in errors if it[1][:6] != "proofs" and (it[1][:5] == "specs" or it[2][0] != "`" or UNREAD.search(it[2]))]
         told = [it[3] for it in map(GOAL.match, said.splitlines()) if it] + [it[2] for it in errors if not UNREAD.search(it[2])]
@@ -181,5 +183,4 @@ class Crate:
         if status == 1:
             return bool(told), [*told, "bad edit: no goal is open, and a proof only names what it took away"][0]
         # A check refuses what is no text, in any file that it reads.
-        status, _ = self.check({path: "} " + text for path, text in files.items()})
-        return False, "not refused" if status else f"bad edit: no check reads {min(files)}"
+        return False, "not refused" if self.check({it: "} " + text for it, text in files.items()})[0] else f"bad edit: no check reads {min(files)}"

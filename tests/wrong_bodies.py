@@ -17,8 +17,8 @@ import time
 from concurrent.futures import ThreadPoolExecutor, as_completed
 from itertools import groupby, zip_longest
 
-from build import lanes
-from checkout import CRATES, TOP, below, command, crate_lines, library, texts_of
+from build import is_proved, lanes
+from checkout import CRATES, TOP, below, command, crate_lines, texts_of
 from twins import Crate, has_twin, holes, read_edit
 
 SEEN = TOP / "tests" / "wrong_bodies.seen"
@@ -41,23 +41,23 @@ def wrong_bodies(name):
     return sorted(((it.stem, it.read_text()) for it in (CRATES / name / "wrong").glob("*.edit")), key=lambda it: it[1])
 
 
-def trial(name, texts, lines, keeps_on):
+def trial(name, bodies, lines, keeps_on):
     """Tries wrong bodies of a crate. Gives those refused and those that failed, each with the reason; what is in neither waits."""
     refused, failed, edits = {}, {}, []
     with contextlib.suppress(TimeoutError), tempfile.TemporaryDirectory(prefix="wrong-bodies-") as folder:
-        # A crate with a library is proved as it is, so its functions stand by their contracts; another is proved with the twins beside it.
-        crate = Crate(texts_of(name), folder, command("check", name, lines), keeps_on, library(name).exists() and holes(name, texts_of(name)))
-        for it, text in texts.items():
+        # The functions of a crate that is proved as it is stand by their contracts. Another is proved with the twins beside it.
+        crate = Crate(texts := texts_of(name), folder, command("check", name, lines), keeps_on, holes(name, texts) if is_proved(name, lines) else {})
+        for it, text in bodies.items():
             try:
-                edits.append(read_edit(it, text, crate.texts))
+                edits.append(read_edit(it, text, texts))
             except ValueError as why:
                 failed[it] = f"bad edit: {why}"
-        found = crate.together(twins := [it for it in edits if has_twin(it, crate.texts)])
+        found = crate.together(twins := [it for it in edits if has_twin(it, texts)])
         if found is None and crate.check({})[0] != 0:
-            return {}, {it: "not tried, as the crate is not proved without it" for it in texts}
+            return {}, {it: "not tried, as the crate is not proved without it" for it in bodies}
         refused.update(crate.in_halves(twins) if found is None else found)
         whose = lambda it: str(it.functions)
-        of_methods = sorted((it for it in edits if it.name not in refused and len(it.functions) == 1 and None not in it.functions), key=whose)
+        of_methods = sorted((it for it in edits if len(it.functions) == 1 and all(of and of.trait is not None for of in it.functions)), key=whose)
         for some in zip_longest(*([*its] for _, its in groupby(of_methods, whose))):
             refused.update(crate.in_place([*filter(None, some)]))
         for edit in [it for it in edits if it.name not in refused]:
@@ -82,8 +82,7 @@ def try_all(named=(), every=False, deadline=float("inf")):
         try:
             runs = {pool.submit(trial, it, dict(bodies[it]), lines, lambda: goes_on[0] and time.time() < deadline): it for it in names}
             for ran in as_completed(runs):
-                results = ({}, {"some of them": f"not tried: {ran.exception()!r}"}) if ran.exception() else ran.result()
-                tried[runs[ran]] = results
+                results = tried[runs[ran]] = ({}, {"some of them": f"not tried: {ran.exception()!r}"}) if ran.exception() else ran.result()
                 for word, found in zip(("refused", "failed"), results):
                     print("".join(f"{word}: {runs[ran]}/{it}: {why}\n" for it, why in found.items()), end="", flush=True)
         finally:
