@@ -35,7 +35,7 @@ SECTORS = 8
 LEAST_OF_FLOOR = 0.8
 MOST_OF_HALF, MOST_OF_FLOORS_RATIO = 5, 1.5
 # How many clients, at which depth, and whether they write.
-CELLS = [(1, 1, False), (1, 1, True), (1, 16, False), (1, 16, True), (4, 1, False), (4, 16, False), (4, 16, True)]
+CELLS = [(1, 1, False), (1, 1, True), (1, 16, False), (1, 16, True), (4, 1, False), (4, 1, True), (4, 16, False), (4, 16, True)]
 QUEUED = 13
 
 
