@@ -9,8 +9,8 @@ import re
 from collections import namedtuple
 from pathlib import Path
 
-from build import run
 from checkout import modules
+from libraries import run
 
 # The proof of a function that stands by its contract. And what a check prints of a goal, a function, a type or an impl, and of an error.
 HOLE = "use Rattle.{0}.proofs.{1}.Statement.{{statement}}\npub {2}_spec : {{M : Type 1}} → statement M\n{2}_spec = ?\n"

@@ -17,8 +17,8 @@ import time
 from concurrent.futures import ThreadPoolExecutor, as_completed
 from itertools import groupby, zip_longest
 
-from build import is_proved, lanes
 from checkout import CRATES, TOP, below, command, crate_lines, texts_of
+from libraries import is_proved, lanes
 from twins import Crate, has_twin, holes, read_edit
 
 SEEN = TOP / "tests" / "wrong_bodies.seen"
@@ -26,7 +26,7 @@ SEEN = TOP / "tests" / "wrong_bodies.seen"
 
 def hashes(lines):
     """For each crate a hash of what is read: its files and those below it as they stand, their lines of crates.txt, and these scripts."""
-    paths = [TOP / "HANDLES", *(TOP / "tests" / name for name in ("wrong_bodies.py", "twins.py", "checkout.py", "build.py"))]
+    paths = [TOP / "HANDLES", *(TOP / "tests" / name for name in ("wrong_bodies.py", "twins.py", "libraries.py", "checkout.py"))]
     paths += sorted(it for it in CRATES.rglob("*") if it.is_file() and it.relative_to(CRATES).parts[1] != "out")
     words, names = ["git", "hash-object", "--no-filters", "--stdin-paths"], "\n".join(map(str, paths))
     sums = subprocess.run(words, input=names, capture_output=True, text=True, check=True).stdout.split()
