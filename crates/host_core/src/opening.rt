@@ -27,6 +27,9 @@ pub type OperatorSeat = Seat<OperatorCall, OperatorReplies>;
 const CALLERS: u8 = 16;
 // How often who waits at a seat looks for a reply before it sleeps. No contract depends on it.
 const LOOKS: u32 = 100;
+// The same at a device's seat, where the next request comes as soon as a client has its reply and has asked again: within some hundredths
+// of a millisecond, and to be woken costs as much. On a busy machine more looks take processors from those who work.
+const DEVICE_LOOKS: u32 = 2500;
 
 /// Makes a core over a journal without entries, the seats of 16 clients, one of each of `workers` devices, and the operator's. Nothing
 /// has come to them.
@@ -48,7 +51,7 @@ pub fn open_core<B: Judges + Drop>(
     ensures seated { IfOk result (λ r. AreCallersOf r.0 r.1.items × AreDevicesOf r.0 r.2.items × IsOperatorOf r.0 r.3) }
 {
     let bell = Bell::new(alloc)?;
-    let (desks, seats) = Desks::open(alloc, &bell, CALLERS, workers, LOOKS)?;
+    let (desks, seats) = Desks::open(alloc, &bell, CALLERS, workers, LOOKS, DEVICE_LOOKS)?;
     let core = Core {
         book,
         desks,

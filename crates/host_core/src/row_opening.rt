@@ -25,7 +25,7 @@ impl Desks {
     ghost use Rattle.host_core.specs.Opened.{AreOpened, ArePairs};
 
     /// Makes the seats of so many clients and devices and of the operator, and their desks. Each seat rings the core's bell. Who sits
-    /// there looks so often for a reply before it sleeps.
+    /// there looks so often for a reply before it sleeps: at a client's seat or the operator's, and at a device's.
     ///
     /// # Errors
     ///
@@ -36,6 +36,7 @@ impl Desks {
         callers: u8,
         devices: u8,
         looks: u32,
+        device_looks: u32,
     ) -> Result<(Desks, Seats), AllocError>
         requires callers { callers ≤ 16 }
         requires devices { devices ≤ 4 }
@@ -43,7 +44,7 @@ impl Desks {
         ensures pairs { IfOk result (λ r. ArePairs callers devices r.0 r.1) }
     {
         let (caller_seats, caller_desks) = open_row(alloc, core, callers, looks)?;
-        let (device_seats, device_desks) = open_row(alloc, core, devices, looks)?;
+        let (device_seats, device_desks) = open_row(alloc, core, devices, device_looks)?;
         let (operator_seat, operator_desk) = open_seat(alloc, core, 0, looks)?;
         let desks = Desks {
             callers: caller_desks,

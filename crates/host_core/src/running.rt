@@ -7,8 +7,9 @@ use std::sync::Wait;
 use std::thread;
 
 // How many turns in a row may do nothing before the core sleeps: a peer's next call comes within some hundredths of a millisecond, and to be
-// woken costs as much. No contract depends on it.
-const IDLE_TURNS: u32 = 1000;
+// woken costs as much. With ten times as many the core is quicker by a twentieth on a quiet machine, and slower by a quarter on a busy one.
+// No contract depends on it.
+const IDLE_TURNS: u32 = 100;
 
 impl<B: Judges> Core<B> {
     ghost use Rattle.std.specs.Prelude.{◌≡◌, ℕ, true};
