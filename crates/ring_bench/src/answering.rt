@@ -14,8 +14,11 @@ use std::sync::Wait;
 // What a read gives: 8 sectors.
 const ZEROS: [u8; 4096] = [0; 4096];
 
-/// How often each side looks before it sleeps, as in a host.
+/// How often who waits at a seat looks for a reply before it sleeps, as in a host.
 pub const LOOKS: u32 = 100;
+
+// How many turns in a row may answer nobody before the core sleeps, as in a host.
+const IDLE_TURNS: u32 = 100;
 
 /// Answers each call of the seats at once, and never ends.
 pub fn answer_all<R: Wait>(
@@ -33,7 +36,7 @@ pub fn answer_all<R: Wait>(
             }
         }
         if is_idle {
-            bell.rest(rt, idle, LOOKS);
+            bell.rest(rt, idle, IDLE_TURNS);
             idle = idle.saturating_add(1);
         } else {
             idle = 0;
