@@ -17,13 +17,13 @@ from checkout import TOP, below, crate_lines, sources
 from libraries import PROGRAMS, build_program, lanes, prove, stale
 
 # What all crates may take, in minutes by the clock times processors, of which the longest chain of crates leaves some idle.
-MINUTES_OF_ALL = 110
+MINUTES_OF_ALL = 95
 # What a crate costs whatever its size, as so much code: a check reads what was proved below first, and its library holds much of that.
 CODE_OF_EACH = 1_570
 # The longest chain of crates sets the time. By what share of its work a crate has above it: how many jobs the crate gets, at most. A
 # second job makes a crate a third quicker for a fifth more processor time, and four cost half as much again. And how far a crate with next
 # to nothing above it gives way to others.
-SHARES = [(0.9, 3), (0.6, 2), (0, 1)]
+SHARES = [(0.9, 3), (0.75, 2), (0, 1)]
 GIVES_WAY = 16
 
 
@@ -49,7 +49,8 @@ def prove_all(left, lines):
     with ThreadPoolExecutor(most) as pool:
         while left or running:
             ready = [it for it in left if not {*below(it, lines)} & {*left, *jobs}]
-            longest = max(behind[it] for it in [*left, *jobs])
+            # Of those that run what is above them counts alone, as some of their own work is done.
+            longest = max([behind[it] for it in left] + [behind[it] - work(it) for it in jobs])
             for name in sorted(ready, key=lambda it: -behind[it]):
                 free = most - sum(jobs.values())
                 if free > 0:
