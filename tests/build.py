@@ -21,7 +21,7 @@ MINUTES_OF_ALL = 95
 # What a crate costs whatever its size, as so much code: a check reads what was proved below first, and its library holds much of that.
 CODE_OF_EACH = 1_570
 # The longest chain of crates sets the time. By what share of its work a crate has above it: how many jobs the crate gets, at most. A
-# second job makes a crate a third quicker for a fifth more processor time, and four cost half as much again. And how far a crate with next
+# second job makes a crate a third quicker for a quarter more processor time, and four cost half as much again. And how far a crate with next
 # to nothing above it gives way to others.
 SHARES = [(0.9, 3), (0.75, 2), (0, 1)]
 GIVES_WAY = 16
