@@ -23,7 +23,7 @@ CODE_OF_EACH = 1_570
 # The longest chain of crates sets the time. By what share of its work a crate has above it: how many jobs the crate gets, at most. A
 # second job makes a crate a third quicker for a quarter more processor time, and four cost half as much again. And how far a crate with next
 # to nothing above it gives way to others.
-SHARES = [(0.9, 3), (0.75, 2), (0, 1)]
+SHARES = [(0.9, 3), (0.6, 2), (0, 1)]
 GIVES_WAY = 16
 
 
@@ -49,8 +49,7 @@ def prove_all(left, lines):
     with ThreadPoolExecutor(most) as pool:
         while left or running:
             ready = [it for it in left if not {*below(it, lines)} & {*left, *jobs}]
-            # Of those that run what is above them counts alone, as some of their own work is done.
-            longest = max([behind[it] for it in left] + [behind[it] - work(it) for it in jobs])
+            longest = max(behind[it] for it in [*left, *jobs])
             for name in sorted(ready, key=lambda it: -behind[it]):
                 free = most - sum(jobs.values())
                 if free > 0:
