@@ -7,8 +7,8 @@ use std::sync::Wait;
 use std::thread;
 
 // How many turns in a row may do nothing before the core sleeps: a peer's next call comes within some hundredths of a millisecond, and to be
-// woken costs as much. With ten times as many the core is quicker by a twentieth on a quiet machine, and slower by a quarter on a busy one.
-// No contract depends on it.
+// woken costs as much. More turns help on a quiet machine, and on a busy one they take processors from those who work. No contract depends
+// on it.
 const IDLE_TURNS: u32 = 100;
 
 impl<B: Judges> Core<B> {
