@@ -5,8 +5,8 @@
 //! |---|---|
 //! | [`open_doors`], [`remove_all`] | the sockets of a folder, each with a note of its file, and their end |
 //! | [`start_workers`] | a thread for each image, at the device's seat of its number |
-//! | [`start_clients`], [`start_client`] | a thread for each client's path, at the seat of its number |
-//! | [`start_operator`] | the thread of the operator's path |
+//! | [`start_paths`] | the threads of all paths: the clients', each at the seat of its number, and the operator's |
+//! | [`start_client`] | the thread of one client's path |
 //! | [`serve_operator`] | each call of the operator is asked at his seat, and is answered before the next is asked |
 //! | [`tell_closed`] | the operator is told that the host has ended |
 //! | [`SeatAsker::ask`](session_serve::Asks::ask) | one call staged at the seat and one reply collected there; an answer has a frame of the host, and is no NotYet; once the host has ended nothing is staged |
@@ -24,7 +24,7 @@
 //!
 //! ```text
 //! let doors = open_doors(&rt, alloc, "/run/bfq", 4, &mut made)?;      // five sockets, and the paths of their files in `made`
-//! let serving = start_operator(rt, alloc, doors.operator, operator)?;
+//! let serving = start_paths(rt, alloc, doors, callers, operator)?;
 //! serving.join(&rt)                                                    // the connection of the operator, after his Stop
 //!
 //! let mut asker = SeatAsker::new(rt, seat);
@@ -44,4 +44,4 @@ pub use asker::SeatAsker;
 pub use doors::{Doors, open_doors, remove_all};
 pub use end::ServeEnd;
 pub use operator::{serve_operator, tell_closed};
-pub use threads::{start_client, start_clients, start_operator, start_workers};
+pub use threads::{start_client, start_paths, start_workers};

@@ -89,16 +89,33 @@ pub fn serve_operator<T: Wait, R: Read, W: Write>(
         let Ok(fed) = feeder.feed(alloc, &piece[..count]) else {
             return;
         };
-        for call in fed.values {
-            if left == 0 || !answer(rt, alloc, writer, seat, call.0) {
-                return;
-            }
-            left -= 1;
-        }
-        if count == 0 || fed.fault.is_some() {
+        let is_last = count == 0 || fed.fault.is_some();
+        if !answer_all(rt, alloc, writer, seat, fed.values, &mut left) || is_last {
             return;
         }
     }
+}
+
+// Asks calls one after the other, as many as are left of the limit, and writes their answers. Whether the connection goes on.
+fn answer_all<T: Wait, W: Write>(
+    rt: &T,
+    alloc: Global,
+    writer: &mut W,
+    seat: &mut OperatorSeat,
+    calls: Vec<Operator>,
+    left: &mut u32,
+) -> bool
+    requires { IsBetween seat.old }
+    ensures seat { SameSeat seat.old seat.new }
+    ensures between { IsBetween seat.new }
+{
+    for call in calls {
+        if *left == 0 || !answer(rt, alloc, writer, seat, call.0) {
+            return false;
+        }
+        *left -= 1;
+    }
+    true
 }
 
 // Asks a call, and writes its answer. Whether the connection goes on.

@@ -3,6 +3,7 @@ ghost use Rattle.host_core.specs.Opening.{IsIdle, AreIdle};
 
 use crate::ServeEnd;
 use crate::clients::serve_clients;
+use crate::doors::Doors;
 use crate::operator::serve_operators;
 use crate::places::{last_caller, last_device};
 use base_image::Image;
@@ -52,12 +53,28 @@ pub fn start_workers<
     Ok(())
 }
 
-/// Starts a thread for each client's path, at the seat of its number. At the other seats nobody sits.
+/// Starts the threads of all paths: the clients', each at the seat of its number, and the operator's. At the other seats nobody sits. Once
+/// the operator has stopped the host, his thread gives the connection on which he is to be told so.
 ///
 /// # Errors
 ///
 /// A thread cannot be started.
-pub fn start_clients<R: Threads + Wait + Clock + Copy + Drop + Send + 'static>(
+pub fn start_paths<R: Threads + Wait + Clock + Copy + Drop + Send + 'static>(
+    rt: R,
+    alloc: Global,
+    doors: Doors,
+    callers: Vec<Caller>,
+    operator: OperatorSeat,
+) -> Result<JoinHandle<UnixStream>, ServeEnd>
+    requires callers { AreIdle callers.items }
+    requires operator { IsIdle operator }
+{
+    start_clients(rt, alloc, callers, doors.clients)?;
+    start_operator(rt, alloc, doors.operator, operator)
+}
+
+// Starts a thread for each client's path.
+fn start_clients<R: Threads + Wait + Clock + Copy + Drop + Send + 'static>(
     rt: R,
     alloc: Global,
     mut callers: Vec<Caller>,
@@ -106,12 +123,8 @@ pub fn start_client<R: Threads + Wait + Clock + Copy + Drop + Send + 'static>(
     }
 }
 
-/// Starts the operator's thread. Once the operator has stopped the host, it gives the connection on which he is to be told so.
-///
-/// # Errors
-///
-/// The thread cannot be started.
-pub fn start_operator<R: Threads + Wait + Clock + Copy + Drop + Send + 'static>(
+// Starts the operator's thread.
+fn start_operator<R: Threads + Wait + Clock + Copy + Drop + Send + 'static>(
     rt: R,
     alloc: Global,
     listener: UnixListener,

@@ -4,8 +4,7 @@ ghost use Rattle.std.specs.Prelude.{◌≤◌, length};
 use crate::running::start_core;
 use base_image::Image;
 use host_paths::{
-    Doors, ServeEnd, open_doors, remove_all, start_clients, start_operator, start_workers,
-    tell_closed,
+    Doors, ServeEnd, open_doors, remove_all, start_paths, start_workers, tell_closed,
 };
 use host_rings::host;
 use sector_core::Config;
@@ -78,8 +77,7 @@ fn serve_at<
     };
     start_core(rt, alloc, core, config.history_max)?;
     start_workers(rt, alloc, devices, images)?;
-    start_clients(rt, alloc, callers, doors.clients)?;
-    let serving = start_operator(rt, alloc, doors.operator, operator)?;
+    let serving = start_paths(rt, alloc, doors, callers, operator)?;
     let ServeOptions { dir, clients } = options;
     let _ = eprintln!(rt; "serving {dir}, {clients} clients, {workers} workers");
     Ok(serving.join(&rt))

@@ -5,6 +5,3 @@ use Rattle.host_paths.proofs.operator.serve_operator.Given as goal
 
 abbrev pub invariant-loop : goal.invariant-loop
 invariant-loop g l = SameSeat l.initial.seat l.seat × IsBetween l.seat × (length l.piece ≡ 4096)
-
-abbrev pub invariant-loop-call : goal.invariant-loop-call
-invariant-loop-call g l = SameSeat l.initial.seat l.seat × IsBetween l.seat
