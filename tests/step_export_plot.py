@@ -17,6 +17,7 @@ import struct
 import subprocess
 import tempfile
 import termios
+import time
 
 from bad_input import DONE, Skipped
 from tools import (BAD_INPUT, NO_PROGRAM, NOT_WANTED, SECONDS, TOOLS, WRITE_FAULT, Run, differences, ends, executable, faults_of, shown,
@@ -506,16 +507,31 @@ def on_a_terminal(program, folder):
         yield f"a line has {len(wide[0])} columns: {shown(wide[0])}"
 
 
+def until_it_sleeps(run):
+    """Waits until a run sleeps, as one does that waits for a key."""
+    until = time.monotonic() + SECONDS
+    while time.monotonic() < until:
+        with open(f"/proc/{run.pid}/stat", encoding="utf-8") as file:
+            if file.read().rpartition(")")[2].split()[0] == "S":
+                return
+        time.sleep(0.01)
+    raise ValueError("it does not sleep, though nothing is typed")
+
+
 def ends_at_a_terminal(program, folder):
     """At a terminal q ends it, and an interrupt ends it as it ends any program. The terminal is as it was before."""
-    for keys, status in [(b"q\n", DONE), (b"lin" + INTERRUPT, -signal.SIGINT)]:
+    for typed, last, status in [(b"", b"q\n", DONE), (b"lin", INTERRUPT, -signal.SIGINT)]:
         with terminal(program, folder) as (run, ours, its):
             before = termios.tcgetattr(its)
             read_until(ours, PROMPT)
-            os.write(ours, keys)
-            yield from differences(f"the status after {keys!r}", end_of(run), status)
+            os.write(ours, typed)
+            read_until(ours, typed)
+            # Python sees an interrupt that comes while it handles a key, or before it waits for the first, only at the next key.
+            until_it_sleeps(run)
+            os.write(ours, last)
+            yield from differences(f"the status after {typed + last!r}", end_of(run), status)
             if termios.tcgetattr(its) != before:
-                yield f"after {keys!r} the terminal is not as it was"
+                yield f"after {typed + last!r} the terminal is not as it was"
 
 
 def program_ends_at_a_terminal(program, folder):
