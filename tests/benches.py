@@ -8,6 +8,9 @@ which was written apart from this host. rt ci builds each program with two compi
 import os
 import subprocess
 import tempfile
+import time
+
+from served import ATTACH, LEAVE, LEFT, SECTOR, Talk, Wrong, attached, fetch, queued, read, reap, same, store, written
 
 TOP = os.path.dirname(os.path.dirname(os.path.abspath(__file__)))
 RINGS = os.path.join(TOP, "tests", "rings")
@@ -68,6 +71,33 @@ def cases():
     yield f"{name} {' '.join(words)}", name, words, "", wanted
 
 
+def floor_answers(path, kind):
+    """What a floor answers to two clients, one after the other: each call at once, by its kind."""
+    submit, told = (fetch(1, 64, 8), read(2, bytes(8 * SECTOR))) if kind == "read" else (store(1, 64, 8, 7), written(2))
+    with tempfile.TemporaryDirectory(prefix="bfq-") as folder:
+        with subprocess.Popen([path, "floor", folder, "2", kind], stdin=subprocess.PIPE, stdout=subprocess.PIPE) as process:
+            for client in (os.path.join(folder, name) for name in ("client0", "client1")):
+                until = time.monotonic() + SECONDS
+                while not os.path.exists(client) and time.monotonic() < until:
+                    time.sleep(0.01)
+                with Talk(client) as talk:
+                    talk.asks((ATTACH, attached(1)), (submit, queued(2)), (reap(1), told), (LEAVE, LEFT))
+            process.stdin.close()
+            same("what is printed", process.stdout.read(), b"ended\n")
+
+
+def floor_runs():
+    """The answers of each build of the floor."""
+    for path, which in builds("ring_bench"):
+        for kind in ("read", "write"):
+            try:
+                floor_answers(path, kind)
+                faults = []
+            except (OSError, Wrong) as fault:
+                faults = [str(fault)]
+            yield f"what a floor answers to {kind}s{which}", faults
+
+
 def bench_runs():
     """Each run of each build, with its faults."""
     files = {extension: {name for name, it in map(os.path.splitext, os.listdir(RINGS)) if it == extension} for extension in (".script", ".expected")}
@@ -76,3 +106,4 @@ def bench_runs():
     for name, program, words, stdin, wanted in cases() if whole else ():
         for path, which in builds(program):
             yield f"{name}{which}", faults_of(path, words, stdin, wanted)
+    yield from floor_runs()

@@ -462,7 +462,7 @@ def idle(program, image, folder):
         time.sleep(2)
         used = host.used() - before
         # The system counts in hundredths of a second.
-        if used > 0.02:
+        if used >= 0.02:
             raise Wrong(f"{what} it used {used:.2f} s of processor time in 2 s")
 
     with Served(program, image, folder) as host:

@@ -1,0 +1,54 @@
+// A connection of the operator, which ends at its limit of frames.
+ghost use Rattle.host_core.specs.Opening.{IsIdle};
+
+use crate::opening::opened;
+use host_calls::OperatorCall;
+use host_paths::serve_operator;
+use host_rings::{Core, OperatorSeat};
+use plain_machine::{Answer, Code};
+use std::alloc::Global;
+use std::sync::Wait;
+use std::test::Fail;
+use std::thread::{self, Threads};
+
+// Freeze, Thaw, and Freeze again.
+const ASKED: [u8; 15] = [0, 0, 0, 1, 0x14, 0, 0, 0, 1, 0x15, 0, 0, 0, 1, 0x14];
+
+// Done, twice.
+const ANSWERED: [u8; 10] = [0, 0, 0, 1, 0x92, 0, 0, 0, 1, 0x92];
+
+// Whether of three frames on a connection just two are answered if two may be, and whether the host is thawed then. Stops the host.
+fn served<R: Wait>(rt: &R, alloc: Global, mut seat: OperatorSeat) -> (bool, bool)
+    requires { IsIdle seat }
+{
+    let mut written = Vec::new(alloc);
+    serve_operator(rt, alloc, &mut ASKED.as_slice(), &mut written, &mut seat, 2);
+    let is_thawed = match seat.ask(rt, OperatorCall::Thaw) {
+        Ok(answer) => matches!(answer, Answer::Refused(Code::NotFrozen)),
+        Err(_) => false,
+    };
+    let _closed = seat.ask(rt, OperatorCall::Stop);
+    (written.as_slice() == ANSWERED.as_slice(), is_thawed)
+}
+
+// The same of a host whose core runs in another thread.
+fn limited<R: Threads + Sync + Wait>(rt: &R, alloc: Global) -> Result<(bool, bool), Fail> {
+    let (mut core, _callers, _devices, operator) = opened(alloc, 1)?;
+    let (_core, found) = thread::join(
+        rt,
+        move || -> Core {
+            core.run(rt, alloc);
+            core
+        },
+        move || -> (bool, bool)
+            requires { IsIdle operator }
+        { served(rt, alloc, operator) },
+    );
+    Ok(found)
+}
+
+#[test]
+fn an_operator_has_so_many_answers(rt: HostRuntime) -> Result<(), Fail> {
+    assert_eq!(rt; limited(&rt, rt.alloc())?, (true, true));
+    Ok(())
+}
