@@ -17,7 +17,7 @@ RINGS = os.path.join(TOP, "tests", "rings")
 SECONDS = 120
 
 # Scripts of two devices; the others are played on a host of one worker.
-OF_TWO = ["calls-of-three-seats", "take-while-held", "work-of-two-devices"]
+OF_TWO = ["calls-of-three-seats", "devices-by-number", "take-while-held", "work-of-two-devices"]
 # Four clients ask so often for a seat, each in a thread of its own; then the core is stopped and every end settled. Each sits down once
 # and is refused after that. So all calls are answered, 4 are accepted, none is left; what is not collected is the end, once at each of 16
 # clients and 2 devices; the journal has 4 entries, each a client's; and the operator has heard of the end.

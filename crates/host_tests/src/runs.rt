@@ -45,7 +45,8 @@ fn a_run_shows_its_journal_after_each_turn(rt: HostRuntime) -> Result<(), Fail> 
 fn is_bad(alloc: Global, workers: u8) -> Result<bool, Fail> {
     match host(alloc, usual()?, 64, workers) {
         Ok(_) => Ok(false),
-        Err(why) => Ok(why == HostFault::BadWorkers),
+        Err(HostFault::BadWorkers) => Ok(true),
+        Err(HostFault::OutOfMemory) => Err(Fail::from("memory for a host")),
     }
 }
 
