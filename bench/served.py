@@ -4,10 +4,10 @@
     python3 bench/served.py [--rounds N] [--seconds S]
 
 The floor is `ring_bench floor` of crates/ring_bench: the same sockets, threads, rings, bells and frames, with a core that answers each call at
-once by its kind, and no machine and no image. Each read and write has 8 sectors. A client sends the frames of so many of them (the
-depth) and their reaps, and waits for all replies. Host and floor take turns, in rounds of 2 seconds. A figure is the median of 7 rounds,
-in reads or writes a second of all clients. Beside it stands the host's part of the floor, and the floor's second run of a round beside its
-first. At depth 1 stand the times, in microseconds, within which half and 99 of 100 are done.
+once by its kind, and no machine and no image. It has 16 seats of clients, as a host has. Each read and write has 8 sectors. A client sends
+the frames of so many of them (the depth) and their reaps, and waits for all replies. Host and floor take turns, in rounds of 2 seconds. A
+figure is the median of 7 rounds, in reads or writes a second of all clients. Beside it stands the host's part of the floor, and the floor's
+second run of a round beside its first. At depth 1 stand the times, in microseconds, within which half and 99 of 100 are done.
 
 The processors are shared out: the last is the clients', and the others are the host's or the floor's.
 
@@ -37,6 +37,8 @@ from served import ATTACH, Served, Talk, fetch, image_of, reap, store  # noqa: E
 
 FLOOR = os.path.join(TOP, "crates", "ring_bench", "out", "ring_bench")
 SECTORS = 8
+# So many seats of clients has a host, however many come. A floor has as many, so that a turn of its core looks at them all.
+SEATS = 16
 LEAST_OF_FLOOR = 0.8
 MOST_OF_HALF, MOST_OF_FLOORS_RATIO = 5, 1.5
 # How many clients, at which depth, and whether they write.
@@ -51,12 +53,12 @@ QUEUED = 13
 class Floor:
     """A run of the floor, with its sockets in a folder."""
 
-    def __init__(self, folder, clients, writes):
+    def __init__(self, folder, writes):
         self.folder = folder
-        self.process = subprocess.Popen([FLOOR, "floor", folder, str(clients), "write" if writes else "read"], stdin=subprocess.PIPE,
+        self.process = subprocess.Popen([FLOOR, "floor", folder, str(SEATS), "write" if writes else "read"], stdin=subprocess.PIPE,
                                         stdout=subprocess.DEVNULL)
         until = time.monotonic() + 10
-        while not os.path.exists(self.path(clients - 1)) and time.monotonic() < until:
+        while not os.path.exists(self.path(SEATS - 1)) and time.monotonic() < until:
             time.sleep(0.01)
         # Its files are there a moment before its threads.
         time.sleep(0.1)
@@ -160,9 +162,9 @@ def stolen():
 
 def one_round(image, clients, depth, writes, seconds):
     began, before = time.monotonic(), stolen()
-    floor, floor_times = run(lambda at: Floor(at, clients, writes), clients, depth, writes, seconds)
+    floor, floor_times = run(lambda at: Floor(at, writes), clients, depth, writes, seconds)
     host, host_times = run(lambda at: Host(at, image, clients), clients, depth, writes, seconds)
-    again, _ = run(lambda at: Floor(at, clients, writes), clients, depth, writes, seconds)
+    again, _ = run(lambda at: Floor(at, writes), clients, depth, writes, seconds)
     return Round(host, host_times, floor, floor_times, again, (stolen() - before) / (time.monotonic() - began))
 
 
