@@ -1,8 +1,7 @@
 // Calls of the operator, asked over memory. The bytes are those of the frames in docs/FORMATS.md.
 use super::told::bytes_of;
-use answer_text::put_ring_reply;
 use failing_io::{Narrow, Pieces};
-use host_calls::OperatorCall;
+use host_calls::{OperatorCall, put_ring_reply};
 use operator_asking::{AskFault, CallEnd, ask_host, run_call, status};
 use std::alloc::Global;
 use std::test::Fail;

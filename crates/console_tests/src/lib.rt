@@ -5,7 +5,7 @@
 //! |---|---|
 //! | `spelling` | `script_line`: each form of a line, lines that are none, and numbers |
 //! | `lines` | `script_run`: the ends of a run, at a console that counts |
-//! | `texts` | `answer_text`, `host_console`: the printed texts, at a keeper that counts |
+//! | `texts` | `host_calls`, `host_console`: the printed texts, at a keeper that counts |
 //! | `words` | `host_options`: the words of the command line, and the help |
 //! | `operator` | `operator_words`: the words of the operator's calls, and words of none |
 //! | `ends` | a host's keeper run from a script, where its input or its output fails |

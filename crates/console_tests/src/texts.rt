@@ -1,9 +1,8 @@
 // The printed texts, at a keeper that counts its calls.
 use crate::full::Full;
-use answer_text::put_ring_reply;
 use base_image::ZeroImage;
 use bytes::Bytes;
-use host_calls::RingReply;
+use host_calls::{RingReply, put_ring_reply};
 use host_console::{Teller, put_answer, run_keeper};
 use plain_machine::{Answer, Cause, Code, Reply, Work};
 use script_run::ScriptEnd;

@@ -27,7 +27,7 @@ use Rattle.plain_machine.specs.declared.call.Call.TheVariants as call
 use Rattle.plain_machine.specs.Step.{range_of}
 use Rattle.plain_machine.specs.Keeper.{State, MayCall, machine_of}
 use Rattle.plain_machine.specs.Entities.{vtime_view, entity_view}
-use Rattle.answer_text.specs.Texts.{text_of}
+use Rattle.host_calls.specs.Texts.{text_of}
 use Rattle.host_console.specs.Texts.{vtime_text, entity_text}
 use Rattle.host_console.specs.Looks.{Looked}
 use Rattle.host_console.specs.declared.content.Content.{Content}

@@ -10,7 +10,7 @@
 //!
 //! The rules stand in `specs/`: `Printed` says for each line which call it is and what it prints, and `Texts` has
 //! the texts of groups and of entities. `Looks` says what a line that begins with `show` prints, and `Views` has the texts of what a
-//! machine has. `answer_text` has those of answers.
+//! machine has. `host_calls` has those of answers.
 //!
 //! ```text
 //! attach 0 0 4        // attached 1
@@ -35,8 +35,8 @@ mod submit;
 mod teller;
 mod work;
 
-pub use answer_text::put_answer;
 pub use content::Content;
+pub use host_calls::put_answer;
 pub use keeps::Keeps;
 pub use run::run_keeper;
 pub use teller::Teller;

@@ -4,7 +4,7 @@ use Rattle.std.specs.Io.KnownBytes.{Appends}
 use Rattle.frame_stream.specs.Frame.{framed}
 use Rattle.host_calls.specs.declared.operator.OperatorCall.{OperatorCall}
 use Rattle.host_calls.specs.declared.ring.RingReply.{RingReply}
-use Rattle.answer_text.specs.Texts.{ring_text}
+use Rattle.host_calls.specs.Texts.{ring_text}
 use Rattle.operator_asking.specs.Asked.{Known, Ends, WroteFront}
 use Rattle.operator_asking.specs.declared.fault.AskFault.{AskFault}
 use Rattle.operator_asking.specs.declared.fault.AskFault.TheVariants as fault

@@ -9,7 +9,7 @@
 //! | [`ask`] | a call and a reply of any two sides: a reply only if the call's frame was written whole, and the bytes read begin with the reply's frame |
 //! | [`write_flushed`] | all of the bytes are written, or only a front of them |
 //!
-//! `session_proto` has the frames, and `answer_text` the texts. What calls and replies are is said to [`ask`] by two sides of a
+//! `session_proto` has the frames, and `host_calls` the texts. What calls and replies are is said to [`ask`] by two sides of a
 //! protocol, of `frame_stream`. No thread and no handle is known here: the reader and the writer may be the two directions of a
 //! socket, or bytes in memory.
 //!

@@ -1,7 +1,6 @@
 // A line played: its call is staged, the core takes a turn, and what came is collected.
 use crate::seated::{Host, stage};
-use answer_text::put_ring_reply;
-use host_calls::{RingReply, SeatName};
+use host_calls::{RingReply, SeatName, put_ring_reply};
 use host_rings::TurnReport;
 use plain_machine::{Answer, Reply};
 use std::alloc::{AllocError, Global};

@@ -1,7 +1,7 @@
 use Rattle.std.proofs.Common.{rules, ◌≡◌, ◌++◌, refl, append_assoc, arith}
 use Rattle.std.proofs.lemmas.Grind.{common_steps}
 use Rattle.std.specs.Prelude.{Result, Ok, Err, OnErr}
-use Rattle.answer_text.specs.Texts.{text_of}
+use Rattle.host_calls.specs.Texts.{text_of}
 use Rattle.host_console.specs.Printed.{ended}
 use Rattle.host_console.proofs.teller.Teller.answer.Goals as goal
 

@@ -2,7 +2,7 @@ use Rattle.std.proofs.Common.{◌≡◌, ℕ, ◌/◌, List, ◌++◌, length, a
 use Rattle.std.specs.Prelude.{codes}
 use Rattle.sector_core.specs.declared.bio.FailKind.TheVariants.{Short}
 use Rattle.sector_text.specs.Hex.{hex_words}
-use Rattle.answer_text.proofs.answer.put_result.Goals as goal
+use Rattle.host_calls.proofs.answer.put_result.Goals as goal
 
 pub returns-in-IoError-Short : goal.returns-in-IoError-Short
 returns-in-IoError-Short c =

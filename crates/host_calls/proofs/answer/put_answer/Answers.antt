@@ -1,4 +1,4 @@
-use Rattle.answer_text.proofs.answer.put_answer.Goals as goal
+use Rattle.host_calls.proofs.answer.put_answer.Goals as goal
 
 pub returns-in-Refused : goal.returns-in-Refused
 returns-in-Refused c = rw (c.in-Refused.is, ← c.number-number.ensures) c.write.ensures.bytes

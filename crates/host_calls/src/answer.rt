@@ -1,6 +1,6 @@
 // The texts of answers.
 ghost use Rattle.std.specs.Prelude.{◌≡◌, ◌++◌, OnOk};
-ghost use Rattle.answer_text.specs.Texts.{text_of, reply_text, result_text, sent_text};
+ghost use Rattle.host_calls.specs.Texts.{text_of, reply_text, result_text, sent_text};
 
 use plain_machine::{Answer, Reply};
 use sector_core::{BioResult, FailKind, Op, Range};

@@ -1,4 +1,4 @@
-use Rattle.answer_text.proofs.answer.put_sent.Goals as goal
+use Rattle.host_calls.proofs.answer.put_sent.Goals as goal
 
 pub returns-in-Fetch : goal.returns-in-Fetch
 returns-in-Fetch c = rw c.in-Fetch.is c.write.ensures.bytes

@@ -1,9 +1,9 @@
 // The texts of what a seat is answered.
 ghost use Rattle.std.specs.Prelude.{◌≡◌, ◌++◌, OnOk};
-ghost use Rattle.answer_text.specs.Texts.{ring_text};
+ghost use Rattle.host_calls.specs.Texts.{ring_text};
 
 use crate::answer::put_answer;
-use host_calls::RingReply;
+use crate::ring::RingReply;
 use sector_core::OutOfMemory;
 
 /// Appends the text of what a seat is answered: that of the keeper's answer, or `closed`.

@@ -1,4 +1,4 @@
-use Rattle.answer_text.proofs.answer.put_reply.Goals as goal
+use Rattle.host_calls.proofs.answer.put_reply.Goals as goal
 
 pub returns-in-Group : goal.returns-in-Group
 returns-in-Group c = rw c.in-Group.is c.write-in-Group.ensures.bytes
