@@ -2,3 +2,9 @@ pub mod Asked
 pub mod Frames
 pub mod Kinds
 pub mod Texts
+pub mod Lengths
+pub mod Answered
+pub mod Sessions
+pub mod Results
+pub mod Places
+pub mod Bounds

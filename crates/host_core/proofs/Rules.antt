@@ -9,6 +9,7 @@ use Rattle.plain_machine.specs.declared.call.Call.TheVariants.{Do, Hold, Release
 use Rattle.plain_machine.specs.declared.step.Step.{Step}
 use Rattle.plain_machine.specs.declared.step.Step.TheVariants.{Attach, Submit, Reap, Leave, Dispatch, Finish, Requeue, GroupMake, GroupDrop, SetWeight, Freeze, Thaw, Switch, Tick}
 use Rattle.plain_machine.specs.Step.{Limits}
+use Rattle.host_calls.specs.Answered.{IsAnswer, ClientsAreAnswered, OperatorIsAnswered}
 use Rattle.host_calls.specs.Asked.{client_call, operator_call}
 use Rattle.host_calls.specs.Kinds.{IsForOperator}
 use Rattle.host_calls.specs.declared.client.ClientCall.{ClientCall}
@@ -20,7 +21,6 @@ use Rattle.host_calls.specs.declared.seat.SeatName.{SeatName}
 use Rattle.host_calls.specs.declared.seat.SeatName.TheVariants.{Client, Device, Operator}
 use Rattle.host_calls.specs.Frames.{HasFrame}
 use Rattle.host_core.specs.Journal.{Entry, calls_of}
-use Rattle.reply_laws.specs.Answered.{IsAnswer, ClientsAreAnswered, OperatorIsAnswered}
 use Rattle.seats.specs.Kinds.{is_client_step, is_client_call, is_operator_step, is_operator_call, IsOfKind}
 use Rattle.seats.specs.Rules.{IsFinal, IsForClients}
 use Rattle.seats.specs.declared.asked.Asked.{Asked}

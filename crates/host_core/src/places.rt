@@ -5,7 +5,7 @@ use crate::judges::Judges;
 use crate::row::visit_row;
 use crate::visit::{Came, visit_seat};
 use arrayvec::ArrayVec;
-use reply_laws::{clients_are_answered, operator_is_answered};
+use host_calls::{clients_are_answered, operator_is_answered};
 use std::alloc::Global;
 
 impl Desks {

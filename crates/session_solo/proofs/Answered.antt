@@ -3,10 +3,10 @@ use Rattle.std.proofs.Common.{◌≡◌, subst}
 use Rattle.plain_machine.specs.declared.answer.Answer.{Answer}
 use Rattle.plain_machine.specs.declared.call.Call.{Call}
 use Rattle.plain_machine.specs.Keeper.{State, MayCall, replay}
+use Rattle.host_calls.specs.Answered.{ClientsAreAnswered}
 use Rattle.host_calls.specs.Asked.{client_call}
 use Rattle.host_calls.specs.Frames.{AnswerHasFrame}
 use Rattle.host_calls.specs.declared.client.ClientCall.{ClientCall}
-use Rattle.reply_laws.specs.Answered.{ClientsAreAnswered}
 
 pub has_frame : (k : State) (call : ClientCall) (asked : Call) (answer : Answer) (next : State)
     → k ≡ replay k.limits k.most k.journal → ClientsAreAnswered k.limits k.most k.journal → asked ≡ client_call 0 call → MayCall k asked answer next

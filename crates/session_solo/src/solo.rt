@@ -3,9 +3,8 @@ ghost use Rattle.session_solo.specs.Solo.{AsksKeeper};
 ghost use Rattle.session_solo.specs.SoloLaws.{solo_frames};
 
 use history::Keeper;
-use host_calls::{ClientCall, Closed};
+use host_calls::{ClientCall, Closed, clients_are_answered};
 use plain_machine::Answer;
-use reply_laws::clients_are_answered;
 use session_serve::Asks;
 use std::alloc::Global;
 
