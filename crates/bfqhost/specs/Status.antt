@@ -2,8 +2,8 @@
 use Rattle.std.specs.Prelude.{◌≡◌, ℕ, ◌<◌, Bool, true, false, IsSome, ◌⊎◌, ◌↔◌}
 use Rattle.sector_core.specs.Config.{fault_of}
 use Rattle.sector_core.specs.declared.config.ConfigDraft.{ConfigDraft}
-use Rattle.script_run.specs.declared.ending.ScriptEnd.{ScriptEnd}
-use Rattle.script_run.specs.declared.ending.ScriptEnd.TheVariants.{Done, BadLine, ReadFault, WriteFault, OutOfMemory}
+use Rattle.script_line.specs.declared.ending.ScriptEnd.{ScriptEnd}
+use Rattle.script_line.specs.declared.ending.ScriptEnd.TheVariants.{Done, BadLine, ReadFault, WriteFault, OutOfMemory}
 
 -- the status of each end
 abbrev pub status_of : ScriptEnd → ℕ

@@ -1,7 +1,7 @@
 // From the words of the command line to the status.
 ghost use Rattle.std.specs.Prelude.{◌≡◌, ◌≤◌, ◌<◌, ◌^◌, ◌↔◌, IsSome, is_some};
 ghost use Rattle.sector_core.specs.Config.{fault_of};
-ghost use Rattle.script_run.specs.declared.ending.ScriptEnd.{ScriptEnd};
+ghost use Rattle.script_line.specs.declared.ending.ScriptEnd.{ScriptEnd};
 ghost use Rattle.bfqhost.specs.Status.{status_of, IsRefused, IsSimStatus, IsStatus};
 
 use crate::faults::{
@@ -11,7 +11,7 @@ use crate::serving::serve;
 use base_image::{Image, ZeroImage, file_image};
 use host_options::{Request, WordFault, help_text, request_of};
 use script_host::run_script;
-use script_run::ScriptEnd;
+use script_line::ScriptEnd;
 use sector_core::{Config, ConfigDraft};
 use std::env;
 use std::fs::File;

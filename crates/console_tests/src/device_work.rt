@@ -5,7 +5,7 @@ use crate::host::usual;
 use base_image::{FailingImage, Image, ImageFault, MemoryImage, ZeroImage};
 use bytes::Bytes;
 use script_host::run_script;
-use script_run::ScriptEnd;
+use script_line::ScriptEnd;
 use std::alloc::Global;
 use std::process::Abort;
 use std::test::Fail;

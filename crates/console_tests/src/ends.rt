@@ -3,7 +3,7 @@ use crate::fakes::{Narrow, Pieces};
 use crate::host::usual;
 use base_image::ZeroImage;
 use script_host::run_script;
-use script_run::ScriptEnd;
+use script_line::ScriptEnd;
 use std::alloc::Global;
 use std::io::ErrorKind;
 use std::test::Fail;

@@ -3,7 +3,7 @@ ghost use Rattle.std.specs.Prelude.{◌≡◌, ◌++◌, ◌∷◌, [], Some, co
 ghost use Rattle.std.specs.Fmt.{decimal};
 
 use script_line::Line;
-use script_run::Console;
+use script_line::Console;
 use sector_core::OutOfMemory;
 use std::alloc::Global;
 use std::io::{self, ErrorKind, Read, Write};

@@ -4,7 +4,7 @@
 //! | module | what it tests |
 //! |---|---|
 //! | `spelling` | `script_line`: each form of a line, lines that are none, and numbers |
-//! | `lines` | `script_run`: the ends of a run, at a console that counts |
+//! | `lines` | `script_line`: the ends of a run, at a console that counts |
 //! | `texts` | `host_calls`, `host_console`: the printed texts, at a keeper that counts |
 //! | `words` | `host_options`: the words of the command line, and the help |
 //! | `operator` | `operator_words`: the words of the operator's calls, and words of none |

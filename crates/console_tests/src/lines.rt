@@ -1,6 +1,6 @@
 // The ends of a run of lines, at a console that counts its calls.
 use crate::fakes::{Counter, Narrow, Pieces};
-use script_run::{ScriptEnd, run_lines};
+use script_line::{ScriptEnd, run_lines};
 use std::alloc::Global;
 use std::io::ErrorKind;
 use std::process::Abort;

@@ -1,10 +1,10 @@
 // A script run at a keeper.
-ghost use Rattle.script_run.specs.Script.{IsEnd};
+ghost use Rattle.script_line.specs.Script.{IsEnd};
 ghost use Rattle.host_console.specs.Printed.{Prints};
 
 use crate::{Keeps, Teller};
 use base_image::Image;
-use script_run::{ScriptEnd, run_lines};
+use script_line::{ScriptEnd, run_lines};
 use std::alloc::Global;
 use std::io::{Read, Write};
 

@@ -1,6 +1,6 @@
 // A keeper over an image, run from a script.
 ghost use Rattle.std.specs.Prelude.{◌≡◌, ℕ, List, ◌++◌, None, IfOk, OnOk, OnErr, ◌⊎◌};
-ghost use Rattle.script_run.specs.Script.{MayHaveRun};
+ghost use Rattle.script_line.specs.Script.{MayHaveRun};
 ghost use Rattle.host_console.specs.Looks.{Looked};
 ghost use Rattle.host_console.specs.Printed.{AnswersOver, Looks, Prints, asked, outcome_of, sectors_in_flight, ended, sector_text, queue_text, cursor_text, group_text, known_text};
 
@@ -12,7 +12,7 @@ use base_image::Image;
 use host_calls::put_answer;
 use plain_machine::{Call, Step};
 use script_line::{Ending, Line, Look};
-use script_run::Console;
+use script_line::Console;
 use sector_core::{FailKind, OutOfMemory, Outcome};
 use std::alloc::Global;
 use std::marker::Model;

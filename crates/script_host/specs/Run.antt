@@ -3,9 +3,9 @@ use Rattle.std.specs.Prelude.{◌≡◌, ℕ, ◌⊎◌}
 use Rattle.plain_machine.specs.Step.{Limits}
 use Rattle.plain_machine.specs.Keeper.{opened}
 use Rattle.base_image.specs.Image.{Disk}
-use Rattle.script_run.specs.Script.{Known, IsEnd}
-use Rattle.script_run.specs.declared.ending.ScriptEnd.{ScriptEnd}
-use Rattle.script_run.specs.declared.ending.ScriptEnd.TheVariants.{OutOfMemory}
+use Rattle.script_line.specs.Script.{Known, IsEnd}
+use Rattle.script_line.specs.declared.ending.ScriptEnd.{ScriptEnd}
+use Rattle.script_line.specs.declared.ending.ScriptEnd.TheVariants.{OutOfMemory}
 use Rattle.host_console.specs.Printed.{Desk, Prints}
 
 -- The lines that were read ran on a new keeper over an image, and came to some last state of both;

@@ -8,7 +8,7 @@ use crate::host::Host;
 use base_image::Image;
 use history::Keeper;
 use host_console::{Teller, run_keeper};
-use script_run::ScriptEnd;
+use script_line::ScriptEnd;
 use sector_core::Config;
 use std::alloc::Global;
 use std::io::{Read, Write};

@@ -2,3 +2,5 @@ pub mod Line
 pub mod Look
 pub mod Plain
 pub mod Words
+pub mod Script
+pub mod Steps
