@@ -2,8 +2,8 @@
 use Rattle.std.specs.Prelude.{◌≡◌, ℕ, List, [], ◌∷◌, length, slice_index, Result, Ok, Err, ◌==◌, if◌then◌else◌}
 use Rattle.std.proofs.Common.{refl, arith, eqb, false}
 use Rattle.std.proofs.lemmas.Bool.{ne_eqb}
-use Rattle.frame_stream.specs.declared.fault.Fault.{Fault}
-use Rattle.frame_stream.specs.declared.fault.Fault.TheVariants.{BadBody}
+use Rattle.session_proto.specs.declared.fault.Fault.{Fault}
+use Rattle.session_proto.specs.declared.fault.Fault.TheVariants.{BadBody}
 
 -- one byte says a value, and other bytes say none (for the tests)
 abbrev pub one_byte : {T : Type 0} → (ℕ → T) → List ℕ → Result T Fault

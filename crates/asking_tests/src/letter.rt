@@ -3,7 +3,7 @@ ghost use Rattle.std.specs.Prelude.{◌≡◌, ◌∷◌, [], ⊤};
 ghost use Rattle.std.proofs.Common.{ap, ◌∙◌, refl, rules, lit<, lit≤};
 ghost use Rattle.asking_tests.specs.Letter.{one_byte, one_byte-spelled};
 
-use frame_stream::{Fault, ReadError, Side};
+use session_proto::{Fault, ReadError, Side};
 use std::alloc::{AllocError, Global};
 
 /// One byte.

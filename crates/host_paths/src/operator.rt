@@ -6,10 +6,9 @@ ghost use Rattle.seats.specs.Seats.{SameSeat, is_closed};
 
 use crate::clients::FRAME_LIMIT;
 use crate::threads::breathe;
-use frame_stream::{Feeder, encode};
 use host_calls::{OperatorCall, RingReply};
 use host_core::OperatorSeat;
-use session_proto::{Host, Operator};
+use session_proto::{Feeder, Host, Operator, encode};
 use std::alloc::Global;
 use std::io::{Read, Write};
 use std::os::unix::net::{UnixListener, UnixStream};

@@ -1,7 +1,7 @@
 -- How an ask ends, by what was written and what was received.
 use Rattle.std.proofs.Common.{◌≡◌, ℕ, List, Bool, true, false, Result, Ok, Err, inl, subst}
 use Rattle.std.specs.Io.KnownBytes.{Appends}
-use Rattle.frame_stream.specs.declared.fault.Fault.{Fault}
+use Rattle.session_proto.specs.declared.fault.Fault.{Fault}
 use Rattle.operator_asking.specs.Asked.{Known, IsWritten, WroteFront, Receives, Ends}
 use Rattle.operator_asking.specs.declared.fault.AskFault.{AskFault}
 use Rattle.operator_asking.specs.declared.fault.AskFault.TheVariants.{Socket, Frame, OutOfMemory}

@@ -3,11 +3,11 @@ use Rattle.std.proofs.Common.{◌≡◌, ℕ, ◌+◌, ◌-◌, ◌<◌, ◌≤�
 use Rattle.std.specs.Prelude.{is_some, IsSome, IsErrAnd}
 use Rattle.std.specs.List.{AllByRecursion}
 use Rattle.std.specs.Io.KnownBytes.{Consumes, Keeps}
-use Rattle.frame_stream.specs.Frame.{framed}
-use Rattle.frame_stream.specs.Reading.{next_of}
-use Rattle.frame_stream.specs.Stream.{Held, IsStream, frames, rest_of}
-use Rattle.frame_stream.specs.declared.fault.Fault.{Fault}
-use Rattle.frame_stream.specs.declared.next.Next.TheVariants.{More}
+use Rattle.session_proto.specs.Frame.{framed}
+use Rattle.session_proto.specs.Reading.{next_of}
+use Rattle.session_proto.specs.Stream.{Held, IsStream, frames, rest_of}
+use Rattle.session_proto.specs.declared.fault.Fault.{Fault}
+use Rattle.session_proto.specs.declared.next.Next.TheVariants.{More}
 use Rattle.operator_asking.specs.Asked.{Known, HasRead, HasNoFrame, Receives}
 use Rattle.operator_asking.specs.declared.fault.AskFault.{AskFault}
 use Rattle.operator_asking.specs.declared.fault.AskFault.TheVariants.{Socket, Frame, OutOfMemory}

@@ -1,11 +1,11 @@
 -- A call's frame written, and the one reply to it read.
 use Rattle.std.specs.Prelude.{◌≡◌, ℕ, ◌<◌, ◌≤◌, List, ◌++◌, length, Bool, true, false, Result, Ok, Err, Option, ◌⊎◌}
 use Rattle.std.specs.Io.KnownBytes.{Appends, Consumes, IsAtEnd}
-use Rattle.frame_stream.specs.Frame.{framed}
-use Rattle.frame_stream.specs.Reading.{next_of}
-use Rattle.frame_stream.specs.declared.fault.Fault.{Fault}
-use Rattle.frame_stream.specs.declared.next.Next.{Next}
-use Rattle.frame_stream.specs.declared.next.Next.TheVariants.{More, Bad}
+use Rattle.session_proto.specs.Frame.{framed}
+use Rattle.session_proto.specs.Reading.{next_of}
+use Rattle.session_proto.specs.declared.fault.Fault.{Fault}
+use Rattle.session_proto.specs.declared.next.Next.{Next}
+use Rattle.session_proto.specs.declared.next.Next.TheVariants.{More, Bad}
 use Rattle.operator_asking.specs.declared.fault.AskFault.{AskFault}
 use Rattle.operator_asking.specs.declared.fault.AskFault.TheVariants.{Socket, Frame, OutOfMemory}
 

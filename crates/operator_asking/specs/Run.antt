@@ -1,7 +1,7 @@
 -- A call asked of the host, and its answer printed.
 use Rattle.std.specs.Prelude.{◌≡◌, ℕ, List, [], ◌∷◌, ◌++◌, Result, Ok, Err, ◌⊎◌}
 use Rattle.std.specs.Io.KnownBytes.{Appends}
-use Rattle.frame_stream.specs.Frame.{framed}
+use Rattle.session_proto.specs.Frame.{framed}
 use Rattle.host_calls.specs.declared.operator.OperatorCall.{OperatorCall}
 use Rattle.host_calls.specs.declared.ring.RingReply.{RingReply}
 use Rattle.host_calls.specs.Texts.{ring_text}

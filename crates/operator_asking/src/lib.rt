@@ -10,8 +10,8 @@
 //! | [`write_flushed`] | all of the bytes are written, or only a front of them |
 //!
 //! `session_proto` has the frames, and `host_calls` the texts. What calls and replies are is said to [`ask`] by two sides of a
-//! protocol, of `frame_stream`. No thread and no handle is known here: the reader and the writer may be the two directions of a
-//! socket, or bytes in memory.
+//! protocol. No thread and no handle is known here: the reader and the writer may be the two directions of a socket, or bytes in
+//! memory.
 //!
 //! Three things can go wrong, and [`AskFault`] names them. At `Socket` the connection failed, and the call may have been
 //! made or not. At `Frame` the call was sent, and what came back is no reply. At `OutOfMemory` either nothing was sent, or

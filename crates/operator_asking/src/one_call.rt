@@ -1,11 +1,11 @@
 // A call and its reply.
-ghost use Rattle.frame_stream.specs.Frame.{framed};
+ghost use Rattle.session_proto.specs.Frame.{framed};
 ghost use Rattle.operator_asking.specs.Asked.{Ends};
 
 use crate::fault::AskFault;
 use crate::receiving::receive;
 use crate::writing::write_flushed;
-use frame_stream::{Side, encode};
+use session_proto::{Side, encode};
 use std::alloc::Global;
 use std::io::{Read, Write};
 

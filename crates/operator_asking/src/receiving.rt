@@ -2,7 +2,7 @@
 ghost use Rattle.operator_asking.specs.Asked.{Receives};
 
 use crate::fault::AskFault;
-use frame_stream::{Feeder, Side};
+use session_proto::{Feeder, Side};
 use std::alloc::Global;
 use std::io::Read;
 

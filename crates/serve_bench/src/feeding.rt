@@ -1,6 +1,5 @@
 // A stream, fed in pieces.
-use frame_stream::Feeder;
-use session_proto::Operator;
+use session_proto::{Feeder, Operator};
 use std::alloc::{AllocError, Global};
 
 // The frame of Freeze, the shortest that there is.

@@ -1,6 +1,5 @@
 // Frames read and written, and streams fed, a line of digits at a time.
-use frame_stream::{Feeder, ReadError, Side, decode, encode};
-use session_proto::{Client, Host, Operator};
+use session_proto::{Client, Feeder, Host, Operator, ReadError, Side, decode, encode};
 use std::alloc::{AllocError, Global};
 use std::fmt::Debug;
 

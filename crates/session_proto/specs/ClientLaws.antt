@@ -8,8 +8,8 @@ use Rattle.sector_core.specs.declared.range.Range.{Range}
 use Rattle.plain_machine.specs.declared.step.Why.TheVariants.{Ended}
 use Rattle.host_calls.specs.declared.client.ClientCall.{ClientCall}
 use Rattle.host_calls.specs.declared.client.ClientCall.TheVariants.{Attach, Submit, Reap, Leave}
-use Rattle.frame_stream.specs.Frame.{IsBytes}
-use Rattle.frame_stream.specs.declared.fault.Fault.TheVariants.{BadBody}
+use Rattle.session_proto.specs.Frame.{IsBytes}
+use Rattle.session_proto.specs.declared.fault.Fault.TheVariants.{BadBody}
 use Rattle.session_proto.specs.declared.client.Client.{Client}
 use Rattle.session_proto.specs.Kinds.{read_by}
 use Rattle.session_proto.specs.Fields.{◌>>=◌, big_endian, number_at, ended}

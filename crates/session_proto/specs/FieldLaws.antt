@@ -4,9 +4,9 @@ use Rattle.std.specs.Int.{Width, w8, w16, w32, w64, byte_len, from_be_bytes, to_
 use Rattle.std.proofs.lemmas.Bool.{cases_lt, ltb-false, le-ltb, eqb-true}
 use Rattle.std.proofs.lemmas.List.{append-nil, take_at, drop_at, take-append-drop, length-append, length-take, get_or-drop, get_or-take, get_or_past}
 use Rattle.std.proofs.lemmas.Nat.{be_bytes_2, be_bytes_4, be_bytes_8, from_be_bytes-to_be_bytes_2, from_be_bytes-to_be_bytes_4, from_be_bytes-to_be_bytes_8}
-use Rattle.frame_stream.specs.Frame.{IsBytes}
-use Rattle.frame_stream.specs.declared.fault.Fault.{Fault}
-use Rattle.frame_stream.specs.declared.fault.Fault.TheVariants.{BadBody}
+use Rattle.session_proto.specs.Frame.{IsBytes}
+use Rattle.session_proto.specs.declared.fault.Fault.{Fault}
+use Rattle.session_proto.specs.declared.fault.Fault.TheVariants.{BadBody}
 use Rattle.session_proto.specs.Fields.{◌>>=◌, big_endian, number_at, ended, named}
 
 -- ---- bytes

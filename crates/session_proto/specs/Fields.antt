@@ -1,10 +1,10 @@
 -- The fields of a body: numbers, the most significant byte first, one after another and nothing behind them.
 use Rattle.std.specs.Prelude.{◌≡◌, ℕ, List, [], ◌∷◌, length, take, drop, Option, Some, None, Result, Ok, Err, nat_lt, if◌then◌else◌}
 use Rattle.std.specs.Int.{Width, byte_len, to_be_bytes, from_be_bytes}
-use Rattle.frame_stream.specs.Reading.{Refuses}
-use Rattle.frame_stream.specs.declared.fault.Fault.{Fault}
-use Rattle.frame_stream.specs.declared.fault.Fault.TheVariants.{BadBody}
-use Rattle.frame_stream.specs.declared.fault.ReadError.{ReadError}
+use Rattle.session_proto.specs.Reading.{Refuses}
+use Rattle.session_proto.specs.declared.fault.Fault.{Fault}
+use Rattle.session_proto.specs.declared.fault.Fault.TheVariants.{BadBody}
+use Rattle.session_proto.specs.declared.fault.ReadError.{ReadError}
 
 -- what is read goes on to the next field, and a fault is the last word
 infixl 10 ◌>>=◌

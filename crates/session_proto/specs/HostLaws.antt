@@ -18,8 +18,8 @@ use Rattle.plain_machine.specs.declared.answer.Answer.TheVariants.{Accepted, Ref
 use Rattle.host_calls.specs.Frames.{ResultHasFrame}
 use Rattle.host_calls.specs.declared.ring.RingReply.{RingReply}
 use Rattle.host_calls.specs.declared.ring.RingReply.TheVariants.{Answer, Closed}
-use Rattle.frame_stream.specs.Frame.{IsBytes}
-use Rattle.frame_stream.specs.declared.fault.Fault.TheVariants.{BadBody}
+use Rattle.session_proto.specs.Frame.{IsBytes}
+use Rattle.session_proto.specs.declared.fault.Fault.TheVariants.{BadBody}
 use Rattle.session_proto.specs.declared.host.Host.{Host}
 use Rattle.session_proto.specs.Kinds.{read_by}
 use Rattle.session_proto.specs.Fields.{◌>>=◌, big_endian, number_at, ended, named}

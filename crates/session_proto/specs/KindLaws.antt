@@ -3,9 +3,9 @@ use Rattle.std.proofs.Common.{◌≡◌, ℕ, ◌^◌, ◌<◌, Bool, true, fals
 use Rattle.std.specs.Int.{Width, w8}
 use Rattle.std.proofs.lemmas.Bool.{eqb-true, ne_eqb}
 use Rattle.std.proofs.lemmas.List.{append-nil}
-use Rattle.frame_stream.specs.Frame.{IsBytes}
-use Rattle.frame_stream.specs.declared.fault.Fault.{Fault}
-use Rattle.frame_stream.specs.declared.fault.Fault.TheVariants.{BadKind}
+use Rattle.session_proto.specs.Frame.{IsBytes}
+use Rattle.session_proto.specs.declared.fault.Fault.{Fault}
+use Rattle.session_proto.specs.declared.fault.Fault.TheVariants.{BadKind}
 use Rattle.session_proto.specs.Fields.{◌>>=◌, big_endian, number_at, ended, named}
 use Rattle.session_proto.specs.FieldLaws.{IsWide, wide8, IsBytes-rest, bind_ok, ok_value, number_is, number_again, last_again, ended_is, ended_again, named_is}
 use Rattle.session_proto.specs.Kinds.{said_by, read_by}

@@ -1,7 +1,7 @@
 -- The kinds of a side: a number for each, and what the fields behind it say.
 use Rattle.std.specs.Prelude.{ℕ, List, [], ◌∷◌, Result, Err, ◌==◌, if◌then◌else◌}
-use Rattle.frame_stream.specs.declared.fault.Fault.{Fault}
-use Rattle.frame_stream.specs.declared.fault.Fault.TheVariants.{BadKind}
+use Rattle.session_proto.specs.declared.fault.Fault.{Fault}
+use Rattle.session_proto.specs.declared.fault.Fault.TheVariants.{BadKind}
 
 -- what the fields say behind a kind of the table (our format)
 abbrev pub said_by : {T : Type 0} → List (ℕ × (List ℕ → Result T Fault)) → ℕ → List ℕ → Result T Fault

@@ -1,3 +1,6 @@
+pub mod Frame
+pub mod Reading
+pub mod Stream
 pub mod Fields
 pub mod Kinds
 pub mod FieldLaws

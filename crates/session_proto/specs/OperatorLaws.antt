@@ -6,7 +6,7 @@ use Rattle.sector_core.specs.declared.config.Scheduler.{Scheduler}
 use Rattle.sector_core.specs.declared.config.Scheduler.TheVariants.{Plain, Bfq}
 use Rattle.host_calls.specs.declared.operator.OperatorCall.{OperatorCall}
 use Rattle.host_calls.specs.declared.operator.OperatorCall.TheVariants.{GroupMake, GroupDrop, SetWeight, Freeze, Thaw, Switch, Tick, Hold, Release, Undo, Redo, Stop}
-use Rattle.frame_stream.specs.Frame.{IsBytes}
+use Rattle.session_proto.specs.Frame.{IsBytes}
 use Rattle.session_proto.specs.declared.operator.Operator.{Operator}
 use Rattle.session_proto.specs.Kinds.{read_by}
 use Rattle.session_proto.specs.Fields.{big_endian, ended}

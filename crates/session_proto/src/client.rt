@@ -1,15 +1,16 @@
 // What a client sends.
 ghost use Rattle.std.specs.Prelude.{◌≡◌, ◌<◌, ◌^◌, ◌++◌, OnOk};
 ghost use Rattle.std.proofs.Common.{rules};
-ghost use Rattle.frame_stream.specs.Reading.{Gives};
+ghost use Rattle.session_proto.specs.Reading.{Gives};
 ghost use Rattle.session_proto.specs.Fields.{Reads};
 ghost use Rattle.session_proto.specs.Kinds.{read_by};
 ghost use Rattle.session_proto.specs.Client.{client_body, ClientFits, client_kinds, client_at, span_bytes, span_at, attach_at, fetch_at, store_at, reap_at};
 ghost use Rattle.session_proto.specs.ClientLaws.{client_in_limits, client_again, client_spelled};
 
+use super::fault::{Fault, ReadError};
 use super::fields::{BAD_BODY, ended, put_u8, put_u16, put_u64, u8_of, u16_of, u64_of};
+use super::side::Side;
 use bytes::Bytes;
-use frame_stream::{Fault, ReadError, Side};
 use host_calls::ClientCall;
 use plain_machine::Why;
 use sector_core::{Op, Range};

@@ -1,10 +1,10 @@
 // The fields of a body: numbers, the most significant byte first.
 ghost use Rattle.std.specs.Prelude.{◌≡◌, ◌++◌, OnOk};
 ghost use Rattle.std.specs.Int.{w8, w16, w32, w64};
-ghost use Rattle.frame_stream.specs.Reading.{Gives};
+ghost use Rattle.session_proto.specs.Reading.{Gives};
 ghost use Rattle.session_proto.specs.Fields.{Reads, big_endian, number_at, ended, named};
 
-use frame_stream::{Fault, ReadError};
+use super::fault::{Fault, ReadError};
 use std::alloc::AllocError;
 
 /// The body's kind has no such fields.

@@ -1,6 +1,6 @@
 // What holds of the kinds of all sides.
 ghost use Rattle.std.specs.Prelude.{◌≡◌, Err};
-ghost use Rattle.frame_stream.specs.declared.fault.Fault.TheVariants.{BadKind};
+ghost use Rattle.session_proto.specs.declared.fault.Fault.TheVariants.{BadKind};
 ghost use Rattle.host_calls.specs.declared.client.ClientCall.{ClientCall};
 ghost use Rattle.host_calls.specs.declared.operator.OperatorCall.{OperatorCall};
 ghost use Rattle.host_calls.specs.declared.ring.RingReply.{RingReply};

@@ -1,5 +1,33 @@
 #![tactic(auto)]
-//! The three sides of the host's protocol, in version 1: what clients send, what the operator sends, and what the host sends.
+//! The host's protocol: values in a stream of bytes, each in a frame, and what clients, the operator and the host send in version 1.
+//!
+//! # Frames
+//!
+//! A frame is four bytes of length, the most significant first, and a body.
+//!
+//! | call | rule that it meets |
+//! |---|---|
+//! | [`Side`] | what a side of a protocol gives: the body of each value, which values fit, what a body says, the greatest length |
+//! | [`encode`] | the frame of a value |
+//! | [`decode`] | the value whose frame the bytes are, or the fault |
+//! | [`Feeder::new`] | a feeder to which no byte has come |
+//! | [`Feeder::feed`] | the values of the frames that are whole with this piece, and the fault after them, however the bytes are cut |
+//! | [`Feeder::is_between`] | whether the bytes so far end where a frame ends |
+//! | [`one_frame`] | a value has at most one frame, no two values share one, and none is a proper prefix of another |
+//! | [`one_reading`] | a stream is cut into frames in one way |
+//!
+//! No kind of value is known to these: kinds are those of the type that is a [`Side`], and a second version of a protocol
+//! is a type of its own.
+//!
+//! ```text
+//! // Of a side where a number is kind 02, in two bytes:
+//! encode(alloc, &Some(Ok(7)))               // Ok of 00 00 00 03 02 00 07
+//! feeder.feed(alloc, &[0, 0, 0, 3, 2])      // Ok(Fed { values: [], fault: None })
+//! feeder.feed(alloc, &[0, 7, 0, 0, 0, 0])   // Ok(Fed { values: [Some(Ok(7))], fault: Some(BadLengthField) })
+//! feeder.feed(alloc, &[])                   // Ok(Fed { values: [], fault: Some(BadLengthField) })
+//! ```
+//!
+//! # The sides of version 1
 //!
 //! | type or law | rule that it meets |
 //! |---|---|
@@ -8,8 +36,8 @@
 //! | [`Host`] | so it is with a `RingReply` that has a frame |
 //! | [`sides_are_apart`] | no two sides have a kind in common |
 //!
-//! Each type is a [`Side`](frame_stream::Side): `encode`, `decode` and `Feeder` of `frame_stream` make and read its frames. Each
-//! is a struct around its value. Another version of a side is a type of its own, around the same values.
+//! Each type is a [`Side`]: [`encode`], [`decode`] and [`Feeder`] make and read its frames. Each is a struct around its value.
+//! Another version of a side is a type of its own, around the same values.
 //!
 //! A body is a byte of kind and the fields behind it, nothing more. A number has its most significant byte first. Sizes of
 //! fields are in bytes. Lengths are those of the body: they count the kind, and not the four bytes of length in front.
@@ -64,12 +92,26 @@
 //! the side's kinds with two lemmas: that what it spells is read again, and that nothing else is.
 
 mod client;
+mod decoding;
+mod encoding;
+mod fault;
+mod feeder;
 mod fields;
+mod frame_laws;
 mod host;
 mod laws;
+mod next;
 mod operator;
+mod side;
+mod split;
 
 pub use client::Client;
+pub use decoding::decode;
+pub use encoding::encode;
+pub use fault::{Fault, ReadError};
+pub use feeder::{Fed, Feeder};
+pub use frame_laws::{one_frame, one_reading};
 pub use host::Host;
 pub use laws::sides_are_apart;
 pub use operator::Operator;
+pub use side::Side;

@@ -2,14 +2,15 @@
 ghost use Rattle.std.specs.Prelude.{◌≡◌, ◌∷◌, ◌++◌, OnOk};
 ghost use Rattle.std.specs.Int.{w8, w16, w32};
 ghost use Rattle.std.proofs.Common.{rules};
-ghost use Rattle.frame_stream.specs.Reading.{Gives};
+ghost use Rattle.session_proto.specs.Reading.{Gives};
 ghost use Rattle.session_proto.specs.Fields.{big_endian};
 ghost use Rattle.session_proto.specs.Kinds.{read_by};
 ghost use Rattle.session_proto.specs.Operator.{operator_body, OperatorFits, operator_kinds, operator_at, scheduler_number, scheduler_of_number, group_make_at, group_drop_at, set_weight_at, switch_at, undo_at, redo_at};
 ghost use Rattle.session_proto.specs.OperatorLaws.{operator_in_limits, operator_again, operator_spelled};
 
+use super::fault::{Fault, ReadError};
 use super::fields::{ended, named, put_u8, put_u16, put_u32, u8_of, u16_of, u32_of};
-use frame_stream::{Fault, ReadError, Side};
+use super::side::Side;
 use host_calls::OperatorCall;
 use sector_core::Scheduler;
 use std::alloc::{AllocError, Global};

@@ -2,7 +2,7 @@
 use Rattle.std.proofs.Common.{◌≡◌, ◌+◌, ◌≤◌, List, ℕ, length, ap, arith}
 use Rattle.std.proofs.lemmas.List.{length-append}
 use Rattle.std.specs.Int.{w32, to_be_bytes}
-use Rattle.frame_stream.specs.Frame.{framed, IsFrame}
+use Rattle.session_proto.specs.Frame.{framed, IsFrame}
 use Rattle.session_proto.specs.Host.{host_body, HostFits}
 use Rattle.session_proto.specs.HostLaws.{host_in_limits}
 use Rattle.session_proto.specs.declared.host.Host.{Host}

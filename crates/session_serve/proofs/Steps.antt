@@ -5,10 +5,10 @@ use Rattle.std.proofs.lemmas.List.Concat.{flat_map-append}
 use Rattle.plain_machine.specs.declared.answer.Answer.{Answer}
 use Rattle.host_calls.specs.declared.client.ClientCall.{ClientCall}
 use Rattle.host_calls.specs.declared.ring.Closed.{Closed as HasClosed}
-use Rattle.frame_stream.specs.Frame.{framed}
-use Rattle.frame_stream.specs.Stream.{Held}
-use Rattle.frame_stream.specs.declared.fault.Fault.{Fault}
-use Rattle.frame_stream.specs.declared.feeder.Fed.{Fed}
+use Rattle.session_proto.specs.Frame.{framed}
+use Rattle.session_proto.specs.Stream.{Held}
+use Rattle.session_proto.specs.declared.fault.Fault.{Fault}
+use Rattle.session_proto.specs.declared.feeder.Fed.{Fed}
 use Rattle.session_proto.specs.declared.client.Client.{Client}
 use Rattle.session_serve.specs.Asked.{Known, AreAsked, answer_body, frame_of, frames_of}
 use Rattle.session_serve.specs.Served.{IsCalls, ReadsUnder, HasRead, HasServed}

@@ -4,8 +4,8 @@ use Rattle.plain_machine.specs.declared.answer.Answer.{Answer}
 use Rattle.host_calls.specs.declared.client.ClientCall.{ClientCall}
 use Rattle.host_calls.specs.declared.ring.Closed.{Closed}
 use Rattle.host_calls.specs.declared.ring.RingReply.TheVariants as ring
-use Rattle.frame_stream.specs.Frame.{framed}
-use Rattle.frame_stream.specs.Stream.{frames}
+use Rattle.session_proto.specs.Frame.{framed}
+use Rattle.session_proto.specs.Stream.{frames}
 use Rattle.session_proto.specs.Host.{host_body}
 use Rattle.session_proto.specs.declared.client.Client.{Client}
 

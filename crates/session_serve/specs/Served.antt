@@ -7,8 +7,8 @@ use Rattle.plain_machine.specs.declared.step.Why.TheVariants as why
 use Rattle.host_calls.specs.declared.client.ClientCall.{ClientCall}
 use Rattle.host_calls.specs.declared.client.ClientCall.TheVariants.{Leave}
 use Rattle.host_calls.specs.declared.ring.Closed.{Closed as HasClosed}
-use Rattle.frame_stream.specs.Stream.{IsStream}
-use Rattle.frame_stream.specs.declared.fault.Fault.{Fault}
+use Rattle.session_proto.specs.Stream.{IsStream}
+use Rattle.session_proto.specs.declared.fault.Fault.{Fault}
 use Rattle.session_proto.specs.Client.{client_body, ClientFits, client_at}
 use Rattle.session_proto.specs.declared.client.Client.{Client}
 use Rattle.session_serve.specs.Asked.{Known, AreAsked, AreAskedTillClosed, frame_of, frames_of}

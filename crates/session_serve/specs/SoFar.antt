@@ -4,9 +4,9 @@ use Rattle.std.specs.Io.KnownBytes.{Appends, Consumes, IsAtEnd}
 use Rattle.plain_machine.specs.declared.answer.Answer.{Answer}
 use Rattle.host_calls.specs.declared.client.ClientCall.{ClientCall}
 use Rattle.host_calls.specs.declared.ring.Closed.{Closed as HasClosed}
-use Rattle.frame_stream.specs.Stream.{Held, HasCome}
-use Rattle.frame_stream.specs.declared.fault.Fault.{Fault}
-use Rattle.frame_stream.specs.declared.feeder.Fed.{Fed}
+use Rattle.session_proto.specs.Stream.{Held, HasCome}
+use Rattle.session_proto.specs.declared.fault.Fault.{Fault}
+use Rattle.session_proto.specs.declared.feeder.Fed.{Fed}
 use Rattle.session_proto.specs.Client.{client_body, ClientFits, client_at}
 use Rattle.session_proto.specs.declared.client.Client.{Client}
 use Rattle.session_serve.specs.Asked.{Known, AreAsked, frames_of}

@@ -1,6 +1,6 @@
 // The calls of whole frames, asked and answered.
 ghost use Rattle.std.specs.Prelude.{◌≡◌, ℕ, ◌+◌, ◌-◌, ◌*◌, ◌<◌, ◌≤◌, ◌^◌, List, ◌∷◌, [], length, IfNone};
-ghost use Rattle.frame_stream.specs.Stream.{Held};
+ghost use Rattle.session_proto.specs.Stream.{Held};
 ghost use Rattle.session_proto.specs.declared.client.Client.{Client};
 ghost use Rattle.session_serve.specs.Asked.{Known};
 ghost use Rattle.session_serve.specs.SoFar.{SoFar, Serves, Standing};

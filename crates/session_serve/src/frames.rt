@@ -3,10 +3,9 @@ ghost use Rattle.std.specs.Prelude.{◌≡◌, ◌≤◌, length, IfOk};
 ghost use Rattle.host_calls.specs.Frames.{AnswerHasFrame};
 ghost use Rattle.session_serve.specs.Asked.{frame_of};
 
-use frame_stream::encode;
 use host_calls::RingReply;
 use plain_machine::Answer;
-use session_proto::Host;
+use session_proto::{Host, encode};
 use std::alloc::{AllocError, Global};
 
 /// The frame of the host that answers a client so. It has at most 32,791 bytes.

@@ -8,9 +8,8 @@ ghost use Rattle.session_serve.specs.SoFar.{ReadSoFar, Reads};
 use crate::answering::{Counts, answer_all};
 use crate::asks::Asks;
 use crate::end::{EndCause, SessionEnd};
-use frame_stream::{Fed, Feeder};
 use host_calls::ClientCall;
-use session_proto::Client;
+use session_proto::{Client, Fed, Feeder};
 use std::alloc::Global;
 use std::io::{Read, Write};
 

@@ -1,5 +1,5 @@
 use Rattle.std.proofs.Common.{◌∙◌, refl, inr}
-use Rattle.frame_stream.specs.Frame.{framed}
+use Rattle.session_proto.specs.Frame.{framed}
 use Rattle.operator_asking.proofs.Asks.{written, unwritten, received}
 use Rattle.operator_asking.proofs.one_call.ask.Goals as goal
 

@@ -1,8 +1,8 @@
 use Rattle.std.proofs.Common.{Option, Some, None, refl}
 use Rattle.std.specs.Option.{ok_or}
-use Rattle.frame_stream.specs.Reading.{Gives}
-use Rattle.frame_stream.specs.declared.fault.Fault.TheVariants.{BadBody}
-use Rattle.frame_stream.specs.declared.fault.ReadError.TheVariants.{Fault}
+use Rattle.session_proto.specs.Reading.{Gives}
+use Rattle.session_proto.specs.declared.fault.Fault.TheVariants.{BadBody}
+use Rattle.session_proto.specs.declared.fault.ReadError.TheVariants.{Fault}
 use Rattle.session_proto.specs.Fields.{named}
 use Rattle.session_proto.proofs.fields.named.Goals as goal
 

@@ -9,7 +9,7 @@ use Rattle.host_calls.specs.declared.operator.OperatorCall.{OperatorCall}
 use Rattle.host_calls.specs.declared.operator.OperatorCall.TheVariants.{Stop}
 use Rattle.host_calls.specs.declared.ring.RingReply.{RingReply}
 use Rattle.host_calls.specs.declared.ring.RingReply.TheVariants.{Answer}
-use Rattle.frame_stream.specs.declared.fault.Fault.TheVariants.{BadKind}
+use Rattle.session_proto.specs.declared.fault.Fault.TheVariants.{BadKind}
 use Rattle.session_proto.specs.Client.{client_body, client_at}
 use Rattle.session_proto.specs.Operator.{operator_body, operator_at}
 use Rattle.session_proto.specs.Host.{host_body, host_at}

@@ -1,6 +1,6 @@
 use Rattle.std.proofs.Common.{◌≡◌, ◌+◌, ◌*◌, ◌≤◌, length}
 use Rattle.std.specs.Vec.Iter.{into_iter_items}
-use Rattle.frame_stream.specs.Stream.{Held}
+use Rattle.session_proto.specs.Stream.{Held}
 use Rattle.session_serve.specs.Asked.{Known}
 use Rattle.session_serve.specs.SoFar.{SoFar, Standing}
 use Rattle.session_serve.proofs.answering.answer_all.Given as goal

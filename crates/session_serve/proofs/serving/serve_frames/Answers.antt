@@ -1,5 +1,5 @@
 use Rattle.std.proofs.Common.{◌<◌, ◌∙◌, ◌++◌, [], sym, ap, refl, length, arith, is_some}
-use Rattle.frame_stream.specs.Stream.{Held}
+use Rattle.session_proto.specs.Stream.{Held}
 use Rattle.session_serve.proofs.Steps.{begun, may_read, all_come, reads_on, reads_no_more, meets_fault, none_of, some_of}
 use Rattle.session_serve.proofs.serving.serve_frames.Goals as goal
 

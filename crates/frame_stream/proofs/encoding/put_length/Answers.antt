@@ -1,6 +1,0 @@
-use Rattle.std.proofs.Common.{◌∙◌}
-use Rattle.frame_stream.proofs.Frames.{length_put}
-use Rattle.frame_stream.proofs.encoding.put_length.Goals as goal
-
-pub returns : goal.returns
-returns c = length_put c.args.frame.now c.copy_from_slice.new.self c.split_at_mut-field.result.1.now (c.copy_from_slice.ensures.after ∙ c.to_be_bytes.ensures) c.split_at_mut-field.ensures.back
