@@ -7,7 +7,7 @@ ghost use Rattle.host_paths.specs.AskingLaws.{seat_frames};
 use host_calls::{ClientCall, Closed};
 use plain_machine::Answer;
 use seats::{ClientReplies, Seat};
-use session_serve::Asks;
+use session_proto::Asks;
 use std::alloc::Global;
 use std::sync::Wait;
 

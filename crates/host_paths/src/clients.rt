@@ -4,7 +4,7 @@ ghost use Rattle.host_core.specs.Opening.{IsIdle};
 use crate::asker::SeatAsker;
 use crate::threads::breathe;
 use host_core::Caller;
-use session_serve::serve;
+use session_proto::serve;
 use std::alloc::Global;
 use std::os::unix::net::UnixListener;
 use std::sync::Wait;

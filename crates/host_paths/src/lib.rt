@@ -9,7 +9,7 @@
 //! | [`start_client`] | the thread of one client's path |
 //! | [`serve_operator`] | each call of the operator is asked at his seat, and is answered before the next is asked |
 //! | [`tell_closed`] | the operator is told that the host has ended |
-//! | [`SeatAsker::ask`](session_serve::Asks::ask) | one call staged at the seat and one reply collected there; an answer has a frame of the host, and is no NotYet; once the host has ended nothing is staged |
+//! | [`SeatAsker::ask`](session_proto::Asks::ask) | one call staged at the seat and one reply collected there; an answer has a frame of the host, and is no NotYet; once the host has ended nothing is staged |
 //!
 //! Of sockets and threads there is no contract but that a seat can go on: no clause can name what they do. The calls that they put
 //! together have theirs. [`SeatAsker`] is a client's seat as the asker of a session. The host's core runs on another thread: a call that

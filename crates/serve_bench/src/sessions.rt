@@ -1,7 +1,7 @@
 // Sessions over memory.
 use history::Keeper;
 use sector_core::{Config, ConfigDraft, OutOfMemory};
-use session_serve::serve;
+use session_proto::serve;
 use session_solo::Solo;
 use std::alloc::{AllocError, Global};
 

@@ -1,7 +1,7 @@
 // One session, cut and broken at each of its bytes.
 use crate::run::{Outcome, Setup, front, plain, session};
 use plain_machine::Why;
-use session_serve::EndCause;
+use session_proto::EndCause;
 use std::test::Fail;
 
 // Attach in the root, of priority 4; a fetch of sectors 4 and 5 by session 1; its Reap; and its Leave.

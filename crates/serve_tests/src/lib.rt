@@ -7,7 +7,8 @@
 //! | `cut` | one session in pieces of each length; with a read that fails before each byte, a write that fails after each, one write that fails, an end after each byte, and each limit |
 //! | `long` | the keeper asked by itself, and the longest call and the longest answer |
 //!
-//! Tested are `session_serve` and `session_solo`. `heard` has a keeper that notes what it is asked, and `run` a session over it.
+//! Tested are the sessions of `session_proto`, and `session_solo`. `heard` has a keeper that notes what it is asked, and `run` a session
+//! over it.
 
 #[cfg(test)]
 mod cut;

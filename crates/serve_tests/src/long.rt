@@ -5,7 +5,7 @@ use failing_io::{Narrow, Pieces};
 use history::{Call, ClientCall, Closed, Keeper};
 use plain_machine::{Answer, Reply, Step};
 use sector_core::{ConfigDraft, Op, Outcome, Range};
-use session_serve::{Asks, EndCause, serve};
+use session_proto::{Asks, EndCause, serve};
 use session_solo::Solo;
 use std::alloc::Global;
 use std::test::Fail;

@@ -1,7 +1,7 @@
 // Sessions of a few bytes, and what comes of each.
 use crate::run::{LIMIT, Setup, plain, session};
 use plain_machine::Why;
-use session_serve::EndCause;
+use session_proto::EndCause;
 use std::test::Fail;
 
 // The frame of an Attach in the root, of priority 4.

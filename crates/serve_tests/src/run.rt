@@ -5,7 +5,7 @@ use history::Keeper;
 use host_calls::ClientCall;
 use plain_machine::{Answer, Call, Reply, Why};
 use sector_core::{Config, ConfigDraft};
-use session_serve::{EndCause, SessionEnd, serve};
+use session_proto::{EndCause, SessionEnd, serve};
 use std::alloc::Global;
 use std::test::Fail;
 

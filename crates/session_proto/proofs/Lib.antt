@@ -1,3 +1,6 @@
 pub mod Frames
 pub mod Nexts
 pub mod Streams
+mod Bytes
+mod FrameLengths
+mod Steps

@@ -11,3 +11,6 @@ pub mod Operator
 pub mod OperatorLaws
 pub mod Host
 pub mod HostLaws
+pub mod Asked
+pub mod Served
+pub mod SoFar

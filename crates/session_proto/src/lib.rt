@@ -1,5 +1,6 @@
 #![tactic(auto)]
-//! The host's protocol: values in a stream of bytes, each in a frame, and what clients, the operator and the host send in version 1.
+//! The host's protocol: values in a stream of bytes, each in a frame; what clients, the operator and the host send in version 1; and
+//! a client's session over bytes.
 //!
 //! # Frames
 //!
@@ -90,10 +91,48 @@
 //!
 //! A further kind is an arm in `put_body`, an arm beside those that read with a reader for its fields, and in `specs/` a row of
 //! the side's kinds with two lemmas: that what it spells is read again, and that nothing else is.
+//!
+//! # A client's session
+//!
+//! Its frames are read, its calls asked, and the answers' frames written.
+//!
+//! | call | rule that it meets |
+//! |---|---|
+//! | [`Asks`] | who answers: its answers are those of its own relation, and each has a frame of the host |
+//! | [`serve`] | the calls are those of the first frames of the bytes read, what is written is their answers' frames, and at the end there is at most one Leave |
+//! | [`EndCause::leave`] | for what cause the session leaves its seat, and none where it makes no Leave |
+//!
+//! No thread and no handle is known here. The reader and the writer may be the two directions of a socket, or bytes in memory.
+//! Of a socket the bytes are not known, so there the rules speak of the calls and of the counts alone. The asker may be a keeper on
+//! this thread, or a seat of a host whose core runs on another.
+//!
+//! A session ends at the first of these. Each but the last two is followed by one Leave, which tells the cause. The limit is looked
+//! at before the next read, and before a fault that has come.
+//!
+//! | [`EndCause`] | when |
+//! |---|---|
+//! | `Ended` | the input ends between two frames |
+//! | `ReadFault` | a read fails, an interrupted one too |
+//! | `WriteFault` | a write fails, or takes nothing; then only a proper front of the last frame is written |
+//! | `BadFrame` | the bytes after the last whole frame begin with a fault, or the input ends inside a frame |
+//! | `FrameLimit` | as many frames were answered as the session may have |
+//! | `Closed` | the asker's host has ended |
+//! | `OutOfMemory` | there was no memory for a piece of input or for an answer's frame |
+//!
+//! ```text
+//! // 00 00 00 03 01 00 04 comes, an Attach, and then the end; asked is a new keeper, at seat 0:
+//! serve(alloc, &mut reader, &mut writer, &mut asker, 1_048_576)
+//!     // SessionEnd { why: Ended, calls: 1, written: 13, left: Some(Accepted(Left)) },
+//!     // and 00 00 00 09 81 00 00 00 00 00 00 00 01 is written: Attached 1
+//! ```
 
+mod answer_frames;
+mod answering;
+mod asks;
 mod client;
 mod decoding;
 mod encoding;
+mod end;
 mod fault;
 mod feeder;
 mod fields;
@@ -102,16 +141,21 @@ mod host;
 mod laws;
 mod next;
 mod operator;
+mod serving;
 mod side;
 mod split;
+mod writing;
 
+pub use asks::Asks;
 pub use client::Client;
 pub use decoding::decode;
 pub use encoding::encode;
+pub use end::{EndCause, SessionEnd};
 pub use fault::{Fault, ReadError};
 pub use feeder::{Fed, Feeder};
 pub use frame_laws::{one_frame, one_reading};
 pub use host::Host;
 pub use laws::sides_are_apart;
 pub use operator::Operator;
+pub use serving::serve;
 pub use side::Side;

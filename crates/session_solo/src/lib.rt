@@ -3,7 +3,7 @@
 //!
 //! | call | rule that it meets |
 //! |---|---|
-//! | [`Solo::ask`](session_serve::Asks::ask) | the keeper's answer to the call, made at seat 0, and the keeper after it; that answer has a frame of the host |
+//! | [`Solo::ask`](session_proto::Asks::ask) | the keeper's answer to the call, made at seat 0, and the keeper after it; that answer has a frame of the host |
 //!
 //! It serves one client, on the thread that calls. Nothing waits in it: what has to wait is answered NotYet, and the client
 //! asks again. So a machine can be served, stopped between two sessions, looked at, and stepped back and forth.

@@ -5,7 +5,7 @@ ghost use Rattle.session_solo.specs.SoloLaws.{solo_frames};
 use history::Keeper;
 use host_calls::{ClientCall, Closed, clients_are_answered};
 use plain_machine::Answer;
-use session_serve::Asks;
+use session_proto::Asks;
 use std::alloc::Global;
 
 /// A keeper, asked on this thread. Each call is made at seat 0. It never finds the host ended.

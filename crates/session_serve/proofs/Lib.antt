@@ -1,3 +1,0 @@
-mod Bytes
-mod FrameLengths
-mod Steps
