@@ -8,8 +8,8 @@ use Rattle.host_core.specs.declared.judges.Judges as journal
 use Rattle.seats.specs.Rows.{Row}
 use Rattle.seats.specs.Settling.{AreSettled}
 use Rattle.seats.specs.declared.asked.Asked.{Asked}
-use Rattle.seat_account.specs.Account.{IsFirstPart}
-use Rattle.seat_account.proofs.Accounts.{account-first}
+use Rattle.seats.specs.Account.{IsFirstPart}
+use Rattle.seats.proofs.Accounts.{account-first}
 use Rattle.host_core.specs.RowSettling.{name_of, staged_calls, collected_replies, IsSettled}
 use Rattle.host_core.specs.declared.row_settling.SeatEnd.{SeatEnd}
 use Rattle.host_core.specs.Cores.{seats_of}

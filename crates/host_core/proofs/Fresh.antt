@@ -5,7 +5,7 @@ use Rattle.host_calls.specs.declared.seat.SeatName.{SeatName}
 use Rattle.host_calls.specs.declared.seat.SeatName.TheVariants.{Core}
 use Rattle.host_core.specs.Journal.{Pages}
 use Rattle.seats.specs.Rows.{Row}
-use Rattle.seat_account.proofs.Accounts.{account-none}
+use Rattle.seats.proofs.Accounts.{account-none}
 use Rattle.seats.specs.Seats.{IsFresh, AreBeside}
 use Rattle.seats.specs.declared.desk.Desk.{Desk}
 use Rattle.seats.specs.declared.seat.Seat.{Seat}

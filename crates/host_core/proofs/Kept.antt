@@ -11,8 +11,8 @@ use Rattle.host_core.specs.Journal.{Pages, Entry}
 use Rattle.seats.specs.Rows.{Row, Took}
 use Rattle.seats.specs.declared.asked.Asked.{Asked}
 use Rattle.seats.specs.declared.asked.Asked.TheVariants.{Ask, Take, Stop}
-use Rattle.seat_account.specs.Account.{IsAccount}
-use Rattle.seat_account.proofs.Accounts.{account-takes, account-answers, account-closes}
+use Rattle.seats.specs.Account.{IsAccount}
+use Rattle.seats.proofs.Accounts.{account-takes, account-answers, account-closes}
 use Rattle.host_core.specs.Judging.{entered_at}
 use Rattle.host_core.specs.Visits.{Serves}
 use Rattle.host_core.specs.Closing.{Closes}

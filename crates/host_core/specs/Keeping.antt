@@ -11,7 +11,7 @@ use Rattle.host_core.specs.Journal.{Pages, Entry}
 use Rattle.seats.specs.Rows.{Row}
 use Rattle.seats.specs.declared.asked.Asked.{Asked}
 use Rattle.seats.specs.declared.asked.Asked.TheVariants.{Ask, Take, Stop}
-use Rattle.seat_account.specs.Account.{IsAccount}
+use Rattle.seats.specs.Account.{IsAccount}
 use Rattle.host_core.specs.Judging.{JudgedBy}
 use Rattle.host_core.specs.Turns.{is_accepted}
 use Rattle.host_core.specs.Names.{same_name}

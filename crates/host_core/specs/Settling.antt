@@ -8,7 +8,7 @@ use Rattle.host_calls.specs.declared.ring.RingReply.TheVariants.{Answer as Answe
 use Rattle.host_core.specs.Journal.{Pages}
 use Rattle.host_core.specs.declared.judges.Judges as journal
 use Rattle.seats.specs.Rows.{Row}
-use Rattle.seat_account.specs.Account.{IsFirstPart}
+use Rattle.seats.specs.Account.{IsFirstPart}
 use Rattle.seats.specs.Seats.{AreBeside}
 use Rattle.seats.specs.declared.rules.ClientReplies.{ClientReplies}
 use Rattle.seats.specs.declared.rules.OperatorReplies.{OperatorReplies}

@@ -1,2 +1,4 @@
+pub mod Fits
+pub mod Accounts
 pub mod Took
 pub mod Left

@@ -1,3 +1,4 @@
+pub mod Account
 pub mod Asked
 pub mod AskedLaws
 pub mod Kinds

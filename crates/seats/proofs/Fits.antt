@@ -2,7 +2,7 @@
 use Rattle.std.proofs.Common.{true, false, Bool, ◌≡◌, ℕ, zero, suc, ◌+◌, ◌≤◌, List, [], ◌∷◌, ◌++◌, length, take, refl, sym, ap, ◌∙◌, subst, arith, Some, if◌then◌else◌}
 use Rattle.std.specs.List.{slice_get}
 use Rattle.std.proofs.lemmas.List.{length-append, take-append-le, append_assoc, append-nil}
-use Rattle.seat_account.specs.Account.{Judged, entered, made, front_after, FitsFrom}
+use Rattle.seats.specs.Account.{Judged, entered, made, front_after, FitsFrom}
 
 pub take-whole : {E : Type 0} (xs ys : List E) → take (length xs) (xs ++ ys) ≡ xs
 take-whole [] [] = refl

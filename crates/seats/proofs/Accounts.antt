@@ -3,8 +3,8 @@ use Rattle.std.proofs.Common.{true, false, Bool, ◌≡◌, ℕ, zero, suc, ◌<
 use Rattle.std.specs.List.{filter}
 use Rattle.std.proofs.lemmas.List.{length-append, take-append-le, append_assoc, append-nil, map-append, take-append-drop, length-take-le, length-map, take-map}
 use Rattle.std.proofs.lemmas.List.Elements.{filter-append}
-use Rattle.seat_account.specs.Account.{Judged, call_in, answer_in, entered, made, IsAccount, IsFirstPart}
-use Rattle.seat_account.proofs.Fits.{fits-more, fits-push, made-push, take-whole}
+use Rattle.seats.specs.Account.{Judged, call_in, answer_in, entered, made, IsAccount, IsFirstPart}
+use Rattle.seats.proofs.Fits.{fits-more, fits-push, made-push, take-whole}
 
 module _ {C A E R : Type 0} (judges : List E → C → A → Type 0) (is_entry : C → A → Bool) (entry_of : C → E) (is_own : E → Bool) (reply_of : A → R) where
   le-or-lt : (m n : ℕ) → (m ≤ n) ⊎ (n < m)
