@@ -1,3 +1,4 @@
 pub mod Asking
 pub mod AskingLaws
 pub mod Operating
+pub mod Working

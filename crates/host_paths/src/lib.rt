@@ -1,5 +1,5 @@
 #![tactic(auto)]
-//! The paths at which a host meets its clients and its operator, and the threads of its seats.
+//! The paths at which a host meets its clients and its operator, the workers of its devices, and the threads of its seats.
 //!
 //! | call | what it does |
 //! |---|---|
@@ -10,6 +10,7 @@
 //! | [`serve_operator`] | each call of the operator is asked at his seat, and is answered before the next is asked |
 //! | [`tell_closed`] | the operator is told that the host has ended |
 //! | [`SeatAsker::ask`](session_proto::Asks::ask) | one call staged at the seat and one reply collected there; an answer has a frame of the host, and is no NotYet; once the host has ended nothing is staged |
+//! | [`run_worker`] | each call asks for work under the seat's own number, or tells what the image gave for the work taken last |
 //!
 //! Of sockets and threads there is no contract but that a seat can go on: no clause can name what they do. The calls that they put
 //! together have theirs. [`SeatAsker`] is a client's seat as the asker of a session. The host's core runs on another thread: a call that
@@ -21,6 +22,10 @@
 //! |---|---|
 //! | `DIR/client0` to `DIR/client15` | a client, at the seat of that number |
 //! | `DIR/operator` | the operator |
+//!
+//! A worker takes the work of its device's seat, does it from an image, and tells how it ended. It ends if the host has ended, if its image
+//! can count no more faults, or if the history is full, as then no work ever ends. Where memory was wanting, and after a busy read, it
+//! sleeps before it goes on. No rule reads a time.
 //!
 //! ```text
 //! let doors = open_doors(&rt, alloc, "/run/bfq", 4, &mut made)?;      // five sockets, and the paths of their files in `made`
@@ -37,11 +42,14 @@ mod clients;
 mod doors;
 mod end;
 mod operator;
+mod pauses;
 mod places;
 mod threads;
+mod worker;
 
 pub use asker::SeatAsker;
 pub use doors::{Doors, open_doors, remove_all};
 pub use end::ServeEnd;
 pub use operator::{serve_operator, tell_closed};
 pub use threads::{start_client, start_paths, start_workers};
+pub use worker::{WorkerEnd, run_worker};

@@ -7,10 +7,10 @@ use Rattle.host_calls.specs.declared.ring.RingReply.{RingReply}
 use Rattle.host_calls.specs.declared.ring.RingReply.TheVariants.{Answer as Answered, Closed as Closing}
 use Rattle.plain_machine.specs.declared.answer.Answer.TheVariants.{Accepted, Refused}
 use Rattle.plain_machine.specs.declared.answer.Code.TheVariants.{HistoryFull as NoHistory}
-use Rattle.device_worker.specs.declared.worker.WorkerEnd.{WorkerEnd}
-use Rattle.device_worker.specs.declared.worker.WorkerEnd.TheVariants.{Closed, Faults, HistoryFull}
-use Rattle.device_worker.specs.declared.worker.Round.{Round}
-use Rattle.device_worker.specs.declared.worker.Round.TheVariants.{Ended}
+use Rattle.host_paths.specs.declared.worker.WorkerEnd.{WorkerEnd}
+use Rattle.host_paths.specs.declared.worker.WorkerEnd.TheVariants.{Closed, Faults, HistoryFull}
+use Rattle.host_paths.specs.declared.worker.Round.{Round}
+use Rattle.host_paths.specs.declared.worker.Round.TheVariants.{Ended}
 use Rattle.plain_machine.specs.declared.answer.Reply.TheVariants.{Taken}
 use Rattle.plain_machine.specs.declared.answer.Work.{Work}
 use Rattle.plain_machine.specs.declared.call.DeviceCall.{DeviceCall}

@@ -1,7 +1,7 @@
 // The rounds of a worker.
 ghost use Rattle.std.specs.Prelude.{◌≡◌, ◌-◌, ◌^◌, ◌<◌, [], ◌∷◌, ◌++◌, true, false, None, Some};
 ghost use Rattle.seats.specs.Seats.{staged, collected, is_closed, closed_by, SameSeat};
-ghost use Rattle.device_worker.specs.Working.{HasDone, IsOpen, IsRound, IsMade, IsGoing, IsWhy, IfEnded, IsEndOf};
+ghost use Rattle.host_paths.specs.Working.{HasDone, IsOpen, IsRound, IsMade, IsGoing, IsWhy, IfEnded, IsEndOf};
 
 use crate::pauses::{FIRST, longer, sleep};
 use base_image::Image;

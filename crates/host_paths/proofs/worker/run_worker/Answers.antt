@@ -1,7 +1,7 @@
 use Rattle.std.proofs.Common.{None, subst, sym}
-use Rattle.device_worker.specs.Working.{IsGoing}
-use Rattle.device_worker.proofs.Rounds.{done-more, seat-twice, countable}
-use Rattle.device_worker.proofs.worker.run_worker.Goals as goal
+use Rattle.host_paths.specs.Working.{IsGoing}
+use Rattle.host_paths.proofs.Rounds.{done-more, seat-twice, countable}
+use Rattle.host_paths.proofs.worker.run_worker.Goals as goal
 
 pub loop-preserved-in-Told : goal.loop-preserved-in-Told
 loop-preserved-in-Told g c = (

@@ -3,8 +3,8 @@ use Rattle.host_calls.specs.declared.ring.RingReply.TheVariants.{Answer as Answe
 use Rattle.plain_machine.specs.declared.answer.Answer.TheVariants.{Accepted}
 use Rattle.plain_machine.specs.declared.answer.Reply.TheVariants.{Taken}
 use Rattle.seats.specs.Seats.{collected}
-use Rattle.device_worker.proofs.Rounds.{asked, asked-told}
-use Rattle.device_worker.proofs.worker.work.Goals as goal
+use Rattle.host_paths.proofs.Rounds.{asked, asked-told}
+use Rattle.host_paths.proofs.worker.work.Goals as goal
 
 pub returns-in-Answer-Accepted-Taken-clause-round : goal.returns-in-Answer-Accepted-Taken-clause-round
 returns-in-Answer-Accepted-Taken-clause-round g c =

@@ -1,5 +1,5 @@
-use Rattle.device_worker.proofs.Rounds.{told}
-use Rattle.device_worker.proofs.worker.done.Goals as goal
+use Rattle.host_paths.proofs.Rounds.{told}
+use Rattle.host_paths.proofs.worker.done.Goals as goal
 
 pub returns-in-Ok-clause-told : goal.returns-in-Ok-clause-told
 returns-in-Ok-clause-told g c = told c.args.seat.now _ c.args.work.now c.in-Ok.call (g.I.Image.disk c.args.image.now)

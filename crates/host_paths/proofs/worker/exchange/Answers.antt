@@ -1,5 +1,5 @@
 use Rattle.std.proofs.Common.{◌∙◌}
-use Rattle.device_worker.proofs.worker.exchange.Goals as goal
+use Rattle.host_paths.proofs.worker.exchange.Goals as goal
 
 pub returns-in-Ok-clause-made : goal.returns-in-Ok-clause-made
 returns-in-Ok-clause-made g c = (c.in-Ok.ensures.ok.0, c.in-Ok.ensures.ok.1)
