@@ -1,6 +1,6 @@
 #![tactic(auto)]
 //! `bfqhost`: a block I/O host whose every step can be undone, run from a script (`script_host`), or served over sockets
-//! (`host_server`).
+//! (`host_rings`).
 //!
 //! ```text
 //! bfqhost sim < SCRIPT

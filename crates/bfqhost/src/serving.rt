@@ -5,7 +5,7 @@ ghost use Rattle.bfqhost.specs.Serving.{IsServeStatus, IsEndStatus, serve_status
 
 use crate::faults::{DONE, bad_field, no_image, no_memory, no_socket};
 use base_image::file_images;
-use host_server::{ServeEnd, ServeOptions, run_server};
+use host_rings::{ServeEnd, ServeOptions, run_server};
 use sector_core::{Config, ConfigDraft, ConfigFault};
 use std::fs::File;
 use std::io::ErrorKind;

@@ -1,3 +1,4 @@
 pub mod Names
 pub mod Nearer
+pub mod Warning
 pub mod Workers

@@ -1,5 +1,5 @@
 #![tactic(auto)]
-//! A host's core over its machine, and the seats of its clients, its devices and its operator.
+//! A host's core over its machine, and the seats of its clients, its devices and its operator; and a host that serves these over sockets.
 //!
 //! | call | rule that it meets |
 //! |---|---|
@@ -11,6 +11,7 @@
 //! | [`Book::view`] | the keeper is what comes of the entries' calls, one after the other |
 //! | [`Book::entry`] | the entry of a number, from 0 |
 //! | [`take_work`] | the least issue in flight that is not the last one that another device took, or none |
+//! | [`run_server`] | it ends once the operator has stopped the host; if a socket, a thread or memory is wanting, it says which |
 //!
 //! [`Core`] is that of `host_core` over the [`Book`]: a keeper, and for each entry of its journal the name of the seat whose call it
 //! was.
@@ -31,18 +32,33 @@
 //! core.turn(alloc)                                              // answered: Some(Client(0)), dispatched: false, ended: false
 //! callers[0].collect()                                          // Some(Answer(Accepted(Attached { session: 1 })))
 //! ```
+//!
+//! # A host that serves
+//!
+//! No clause says what [`run_server`] does: none can name what a socket or a thread does. The calls that it puts together have theirs.
+//!
+//! The core has a thread, and so has each path and each device (`host_paths`). Between them stand the rings of the seats alone.
+//!
+//! ```text
+//! run_server(rt, alloc, config, images, ServeOptions { dir: "/run/bfq", clients: 4 })   // Stopped, after the operator's Stop
+//! ```
 
 mod book;
 mod judging;
 mod opening;
+mod running;
+mod server;
 mod takes;
 mod taking;
 mod viewing;
+mod warning;
 
 pub use book::Book;
 pub use host_core::{
     Caller, DeviceSeat, NotSettled, OperatorSeat, SeatEnd, Settled, TurnReport, settle,
 };
+pub use host_paths::ServeEnd;
 pub use opening::{Core, CoreEnd, HostFault, host};
+pub use server::{ServeOptions, run_server};
 pub use takes::take_work;
 pub use viewing::view;

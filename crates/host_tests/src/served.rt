@@ -5,7 +5,7 @@ use crate::gate::Gated;
 use crate::opening::usual;
 use crate::peer::{Frame, Talk, answers, connected, has_ended};
 use host_calls::{OperatorCall, RingReply};
-use host_server::{ServeEnd, ServeOptions, run_server};
+use host_rings::{ServeEnd, ServeOptions, run_server};
 use operator_asking::ask_host;
 use plain_machine::{Answer, Reply};
 use std::alloc::Global;

@@ -1,7 +1,7 @@
 // When a history is nearly full.
-ghost use Rattle.host_server.specs.Warning.{IsNineTenths};
+ghost use Rattle.host_rings.specs.Warning.{IsNineTenths};
 
-use host_rings::Book;
+use crate::book::Book;
 
 /// So many entries of a history that holds `most` are nine tenths, rounded down, and at least one.
 pub fn nine_tenths(most: u32) -> u32

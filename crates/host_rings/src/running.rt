@@ -1,8 +1,9 @@
 // The thread of a host's core.
 
+use crate::book::Book;
+use crate::opening::Core;
 use crate::warning::{has_entry, nine_tenths};
 use host_paths::ServeEnd;
-use host_rings::{Book, Core};
 use std::alloc::Global;
 use std::io::Eprint;
 use std::sync::Wait;

@@ -1,12 +1,12 @@
 // A host that is served.
 ghost use Rattle.std.specs.Prelude.{◌≤◌, length};
 
+use crate::opening::host;
 use crate::running::start_core;
 use base_image::Image;
 use host_paths::{
     Doors, ServeEnd, open_doors, remove_all, start_paths, start_workers, tell_closed,
 };
-use host_rings::host;
 use sector_core::Config;
 use std::alloc::Global;
 use std::io::Eprint;
