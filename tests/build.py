@@ -19,11 +19,13 @@ from libraries import PROGRAMS, build_program, lanes, prove, stale
 # What all crates may take, in minutes by the clock times processors, of which the longest chain of crates leaves some idle.
 MINUTES_OF_ALL = 95
 # What a crate costs whatever its size, as so much code: a check reads what was proved below first, and its library holds much of that.
-CODE_OF_EACH = 1_570
-# The longest chain of crates sets the time. By what share of its work a crate has above it: how many jobs the crate gets, at most. A
-# second job makes a crate a third quicker for a quarter more processor time, and four cost half as much again. And how far a crate with next
-# to nothing above it gives way to others.
-SHARES = [(0.9, 3), (0.6, 2), (0, 1)]
+CODE_OF_EACH = 3_300
+# The longest chain of crates sets the time. Each job costs some 15 seconds of processor time, as it reads what is below anew. So a
+# crate gets one for each so much code of its own, and no more than three: with four, the last gained 8 seconds and cost 15. It gets but
+# one if its chain is less than so much of the longest one. And how far a crate with next to nothing above it gives way to others.
+CODE_OF_A_JOB = 2_500
+MOST_JOBS = 3
+LONG = 0.5
 GIVES_WAY = 16
 
 
@@ -38,6 +40,11 @@ def work(name):
     return CODE_OF_EACH + sum(len(it) for it in lines if not it.startswith(("//", "ghost", "requires", "ensures", "#", "use ")))
 
 
+def jobs_of(name, share):
+    """How many jobs a crate is worth, whose chain is such a share of the longest one."""
+    return min(MOST_JOBS, lanes(), 1 + (work(name) - CODE_OF_EACH) // CODE_OF_A_JOB) if share >= LONG else 1
+
+
 def prove_all(left, lines):
     """Proves crates, each once those below it are, and first those with the most work above them. Gives what was said if one is not proved."""
     behind = {}
@@ -46,16 +53,16 @@ def prove_all(left, lines):
         behind[name] = work(name) + max(above, default=0)
     # One job more than processors, since a crate leaves some idle while it reads and writes libraries. With more they get in each other's way.
     number, most, running, jobs = len(left), lanes(1, 3), {}, {}
-    with ThreadPoolExecutor(most) as pool:
+    with ThreadPoolExecutor(max(1, number)) as pool:
         while left or running:
             ready = [it for it in left if not {*below(it, lines)} & {*left, *jobs}]
             longest = max(behind[it] for it in [*left, *jobs])
             for name in sorted(ready, key=lambda it: -behind[it]):
-                free = most - sum(jobs.values())
-                if free > 0:
+                free, share = most - sum(jobs.values()), behind[name] / longest
+                # The crate that all others wait for goes first, with all its jobs, even where none is free.
+                if free > 0 or share == 1:
                     tell(f"proving {name}; {number - len(left) - len(jobs)} of {number} are proved")
-                    share = behind[name] / longest
-                    jobs[name] = min(next(it for least, it in SHARES if share >= least), lanes(), free)
+                    jobs[name] = jobs_of(name, share) if share == 1 else min(jobs_of(name, share), free)
                     running[pool.submit(prove, name, lines, jobs[name], round(GIVES_WAY * (1 - share)))] = name
                     left.remove(name)
             for ran in wait(running, return_when=FIRST_COMPLETED).done:

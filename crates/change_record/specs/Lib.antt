@@ -7,7 +7,6 @@ pub mod Machine
 pub use Rattle.overlay.specs.Blocks
 pub use Rattle.request_pool.specs.Slots
 pub use Rattle.process_queue.specs.Queue
-pub use Rattle.soft_queue.specs.Turn
 pub use Rattle.service_tree.specs.Members
 pub use Rattle.group_tree.specs.Groups
 pub use Rattle.sector_core.specs.Table
