@@ -14,6 +14,7 @@ use Rattle.change_record.specs.Machine.{Plain, meaning, bfq_of}
 use Rattle.plain_machine.specs.Step.{of_sizes, range_of, next_size, sent_in}
 use Rattle.plain_machine.specs.declared.answer.Reply.{Reply}
 use Rattle.plain_machine.specs.declared.answer.Reply.TheVariants.{Issued}
+use Rattle.bfq_select.specs.Service.{IsBounded}
 use Rattle.dispatch_core.specs.WellFormed.{at, WellFormed}
 use Rattle.dispatch_core.specs.Changes.{sent_next_tables}
 use Rattle.dispatch_core.specs.Ranges.{HasFewSectors, first_start, total_count}
@@ -82,6 +83,11 @@ returns-in_err-charge-clause-made c =
     let none : charge (range_of (bios_at t.bios request.bios.items)).count (bfq_of t) ≡ None =
     ap (λ (r : Range). charge r.count (bfq_of t)) (sym range) ∙ c.in_err-charge.ensures.made in
     refused_by _ _ c.from_residual.result (search rules) (served_uncharged l n tag t slot place request c.requires.well c.requires.serves some here c.requires.free none)
+
+pub expire-requires-clause-bounded : goal.expire-requires-clause-bounded
+expire-requires-clause-bounded c =
+    let P : Tables → Type 0 = λ u. IsBounded (bfq_of u) in
+    subst P (sym c.take_out.ensures.tables) c.charge.ensures.bounded
 
 pub returns-in_err-expire-clause-made : goal.returns-in_err-expire-clause-made
 returns-in_err-expire-clause-made c =
