@@ -8,8 +8,8 @@ use Rattle.plain_machine.specs.declared.step.Step.TheVariants.{Dispatch}
 use Rattle.host_calls.specs.declared.seat.SeatName.{SeatName}
 use Rattle.host_calls.specs.declared.seat.SeatName.TheVariants.{Core}
 use Rattle.host_core.specs.Journal.{Pages, Entry}
-use Rattle.seats.specs.Rows.{Row, Took}
-use Rattle.seats.specs.declared.asked.Asked.TheVariants.{Ask}
+use Rattle.host_core.specs.Rows.{Row, Took}
+use Rattle.host_core.specs.declared.asked.Asked.TheVariants.{Ask}
 use Rattle.host_core.specs.Visits.{SamePages, Serves, Changes}
 use Rattle.host_core.specs.Closing.{AllClose}
 use Rattle.host_core.specs.Rounds.{AllTook}

@@ -3,7 +3,7 @@ use Rattle.std.proofs.Common.{false, ◌≡◌, ℕ, zero, suc, ◌+◌, ◌<◌
 use Rattle.std.specs.List.{slice_get}
 use Rattle.std.proofs.lemmas.List.{length-append}
 use Rattle.std.proofs.lemmas.Option.{slice_get_within, same_Some}
-use Rattle.seats.specs.Rows.{Row}
+use Rattle.host_core.specs.Rows.{Row}
 use Rattle.host_core.specs.Closing.{AllOpen, Closes, AllClose}
 use Rattle.host_core.specs.Visits.{Changes}
 use Rattle.host_core.proofs.Rows.{get-left, get-right, within-or-behind}

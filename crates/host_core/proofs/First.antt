@@ -5,11 +5,11 @@ use Rattle.host_calls.specs.declared.ring.RingReply.TheVariants.{Answer as Answe
 use Rattle.host_calls.specs.declared.seat.SeatName.{SeatName}
 use Rattle.host_core.specs.Journal.{Pages}
 use Rattle.host_core.specs.declared.judges.Judges as journal
-use Rattle.seats.specs.Rows.{Row}
-use Rattle.seats.specs.Settling.{AreSettled}
-use Rattle.seats.specs.declared.asked.Asked.{Asked}
-use Rattle.seats.specs.Account.{IsFirstPart}
-use Rattle.seats.proofs.Accounts.{account-first}
+use Rattle.host_core.specs.Rows.{Row}
+use Rattle.host_core.specs.SeatSettling.{AreSettled}
+use Rattle.host_core.specs.declared.asked.Asked.{Asked}
+use Rattle.host_core.specs.Account.{IsFirstPart}
+use Rattle.host_core.proofs.SeatAccounts.{account-first}
 use Rattle.host_core.specs.RowSettling.{name_of, staged_calls, collected_replies, IsSettled}
 use Rattle.host_core.specs.declared.row_settling.SeatEnd.{SeatEnd}
 use Rattle.host_core.specs.Cores.{seats_of}

@@ -4,11 +4,11 @@ use Rattle.host_calls.specs.declared.ring.RingReply.TheVariants.{Answer as Answe
 use Rattle.host_calls.specs.declared.seat.SeatName.{SeatName}
 use Rattle.host_calls.specs.declared.seat.SeatName.TheVariants.{Core}
 use Rattle.host_core.specs.Journal.{Pages}
-use Rattle.seats.specs.Rows.{Row}
-use Rattle.seats.proofs.Accounts.{account-none}
-use Rattle.seats.specs.Seats.{IsFresh, AreBeside}
-use Rattle.seats.specs.declared.desk.Desk.{Desk}
-use Rattle.seats.specs.declared.seat.Seat.{Seat}
+use Rattle.host_core.specs.Rows.{Row}
+use Rattle.host_core.proofs.SeatAccounts.{account-none}
+use Rattle.host_core.specs.Seats.{IsFresh, AreBeside}
+use Rattle.host_core.specs.declared.desk.Desk.{Desk}
+use Rattle.host_core.specs.declared.seat.Seat.{Seat}
 use Rattle.host_core.specs.RowOpening.{AreFresh}
 use Rattle.host_core.specs.Opened.{IsNameAt, AreOpened}
 use Rattle.host_core.specs.RowSettling.{IsSeatedIn}

@@ -7,11 +7,11 @@ use Rattle.std.proofs.lemmas.List.{length-map, length-append}
 use Rattle.std.proofs.lemmas.Option.{slice_get_within, same_Some, slice_get-map}
 use Rattle.host_calls.specs.declared.seat.SeatName.{SeatName}
 use Rattle.host_calls.specs.declared.seat.SeatName.TheVariants.{Client, Device, Operator}
-use Rattle.seats.specs.Rows.{Row}
-use Rattle.seats.specs.Seats.{IsFresh, row_of}
-use Rattle.seats.specs.declared.asked.Asked.{Asked}
-use Rattle.seats.specs.declared.desk.Desk.{Desk}
-use Rattle.seats.specs.declared.seat.Seat.{Seat}
+use Rattle.host_core.specs.Rows.{Row}
+use Rattle.host_core.specs.Seats.{IsFresh, row_of}
+use Rattle.host_core.specs.declared.asked.Asked.{Asked}
+use Rattle.host_core.specs.declared.desk.Desk.{Desk}
+use Rattle.host_core.specs.declared.seat.Seat.{Seat}
 use Rattle.host_core.specs.RowOpening.{AreFresh}
 use Rattle.host_core.specs.Opened.{IsNameAt, IsFreshRow, AreOpened}
 use Rattle.host_core.proofs.Rows.{get-left, get-right, within-or-behind}

@@ -8,11 +8,11 @@ use Rattle.host_calls.specs.declared.ring.RingReply.TheVariants.{Answer as Answe
 use Rattle.host_calls.specs.declared.seat.SeatName.{SeatName}
 use Rattle.host_calls.specs.declared.seat.SeatName.TheVariants.{Client, Device, Operator, Core}
 use Rattle.host_core.specs.Journal.{Pages, Entry}
-use Rattle.seats.specs.Rows.{Row, Took}
-use Rattle.seats.specs.declared.asked.Asked.{Asked}
-use Rattle.seats.specs.declared.asked.Asked.TheVariants.{Ask, Take, Stop}
-use Rattle.seats.specs.Account.{IsAccount}
-use Rattle.seats.proofs.Accounts.{account-takes, account-answers, account-closes}
+use Rattle.host_core.specs.Rows.{Row, Took}
+use Rattle.host_core.specs.declared.asked.Asked.{Asked}
+use Rattle.host_core.specs.declared.asked.Asked.TheVariants.{Ask, Take, Stop}
+use Rattle.host_core.specs.Account.{IsAccount}
+use Rattle.host_core.proofs.SeatAccounts.{account-takes, account-answers, account-closes}
 use Rattle.host_core.specs.Judging.{entered_at}
 use Rattle.host_core.specs.Visits.{Serves}
 use Rattle.host_core.specs.Closing.{Closes}

@@ -1,3 +1,7 @@
+pub mod Fits
+pub mod SeatAccounts
+pub mod SeatTook
+pub mod Left
 pub mod Accounts
 pub mod Ends
 pub mod First

@@ -4,8 +4,8 @@ use Rattle.std.specs.List.{slice_get}
 use Rattle.std.proofs.lemmas.Option.{same_Some}
 use Rattle.host_calls.specs.declared.seat.SeatName.{SeatName}
 use Rattle.host_core.specs.Journal.{Pages}
-use Rattle.seats.specs.Rows.{Row, Took}
-use Rattle.seats.specs.declared.asked.Asked.{Asked}
+use Rattle.host_core.specs.Rows.{Row, Took}
+use Rattle.host_core.specs.declared.asked.Asked.{Asked}
 use Rattle.host_core.specs.Visits.{SamePages, MustWait, AllReady, Changes}
 use Rattle.host_core.specs.Visited.{VisitsSeat}
 use Rattle.host_core.specs.declared.visit.Came.{Came}

@@ -21,10 +21,10 @@ use Rattle.host_calls.specs.declared.seat.SeatName.{SeatName}
 use Rattle.host_calls.specs.declared.seat.SeatName.TheVariants.{Client, Device, Operator}
 use Rattle.host_calls.specs.Frames.{HasFrame}
 use Rattle.host_core.specs.Journal.{Entry, calls_of}
-use Rattle.seats.specs.Kinds.{is_client_step, is_client_call, is_operator_step, is_operator_call, IsOfKind}
-use Rattle.seats.specs.Rules.{IsFinal, IsForClients}
-use Rattle.seats.specs.declared.asked.Asked.{Asked}
-use Rattle.seats.specs.declared.asked.Asked.TheVariants.{Ask, Take, Stop}
+use Rattle.host_core.specs.Kinds.{is_client_step, is_client_call, is_operator_step, is_operator_call, IsOfKind}
+use Rattle.host_core.specs.Rules.{IsFinal, IsForClients}
+use Rattle.host_core.specs.declared.asked.Asked.{Asked}
+use Rattle.host_core.specs.declared.asked.Asked.TheVariants.{Ask, Take, Stop}
 use Rattle.host_core.specs.Judging.{JudgedBy, is_kept, keeps_calls, MayGet}
 use Rattle.host_core.specs.Visits.{MayTell}
 

@@ -2,8 +2,8 @@
 use Rattle.std.proofs.Common.{◌≡◌, ℕ, ◌<◌, List, length, set, get_or, refl, sym, ap, ◌∙◌, subst, Some, inl, inr}
 use Rattle.std.specs.List.{slice_get}
 use Rattle.std.proofs.lemmas.Option.{same_Some}
-use Rattle.seats.specs.Seats.{SameDesk}
-use Rattle.seats.specs.declared.desk.Desk.{Desk}
+use Rattle.host_core.specs.Seats.{SameDesk}
+use Rattle.host_core.specs.declared.desk.Desk.{Desk}
 use Rattle.host_core.specs.Same.{SameEach, SameDesks}
 use Rattle.host_core.specs.declared.desks.Desks.{Desks}
 use Rattle.host_core.proofs.Ends.{same-place}

@@ -4,11 +4,11 @@ use Rattle.host_calls.specs.declared.client.ClientCall.{ClientCall}
 use Rattle.host_calls.specs.declared.operator.OperatorCall.{OperatorCall}
 use Rattle.plain_machine.specs.declared.call.DeviceCall.{DeviceCall}
 use Rattle.rtrb.specs.declared.AnyItems.{AnyItems}
-use Rattle.seats.specs.Seats.{seat_number, SameSeat, SameDesk, AreBeside}
-use Rattle.seats.specs.declared.desk.Desk.{Desk}
-use Rattle.seats.specs.declared.rules.ClientReplies.{ClientReplies}
-use Rattle.seats.specs.declared.rules.OperatorReplies.{OperatorReplies}
-use Rattle.seats.specs.declared.seat.Seat.{Seat}
+use Rattle.host_core.specs.Seats.{seat_number, SameSeat, SameDesk, AreBeside}
+use Rattle.host_core.specs.declared.desk.Desk.{Desk}
+use Rattle.host_core.specs.declared.seat_rules.ClientReplies.{ClientReplies}
+use Rattle.host_core.specs.declared.seat_rules.OperatorReplies.{OperatorReplies}
+use Rattle.host_core.specs.declared.seat.Seat.{Seat}
 use Rattle.host_core.specs.declared.judges.Judges as journal
 use Rattle.host_core.specs.Same.{SameEach}
 use Rattle.host_core.specs.RowSettling.{IsSeatedIn}

@@ -5,8 +5,8 @@ use Rattle.std.specs.Option.{option_map}
 use Rattle.std.proofs.lemmas.Option.{slice_get_within, slice_get-map, same_Some}
 use Rattle.host_calls.specs.declared.ring.RingReply.{RingReply}
 use Rattle.host_calls.specs.declared.seat.SeatName.{SeatName}
-use Rattle.seats.specs.Rows.{Row}
-use Rattle.seats.specs.declared.asked.Asked.{Asked}
+use Rattle.host_core.specs.Rows.{Row}
+use Rattle.host_core.specs.declared.asked.Asked.{Asked}
 use Rattle.host_core.specs.RowSettling.{IsSettled}
 use Rattle.host_core.proofs.Rows.{get-left, get-right, or-at}
 

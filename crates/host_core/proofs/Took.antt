@@ -2,7 +2,7 @@
 use Rattle.std.proofs.Common.{ℕ, List, refl, sym, ap, ◌∙◌, subst, inl, inr}
 use Rattle.std.specs.List.{slice_get}
 use Rattle.std.proofs.lemmas.Option.{same_Some}
-use Rattle.seats.specs.Rows.{Row, Took}
+use Rattle.host_core.specs.Rows.{Row, Took}
 use Rattle.host_core.specs.Visits.{AllReady, Changes, IsReady}
 use Rattle.host_core.proofs.Ends.{same-place}
 use Rattle.host_core.specs.Rounds.{AllTook}

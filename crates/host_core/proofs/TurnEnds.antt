@@ -4,7 +4,7 @@ use Rattle.std.proofs.lemmas.Option.{slice_get_within}
 use Rattle.host_calls.specs.declared.seat.SeatName.{SeatName}
 use Rattle.host_calls.specs.declared.seat.SeatName.TheVariants.{Operator}
 use Rattle.host_core.specs.Journal.{Pages}
-use Rattle.seats.specs.Rows.{Row, Took}
+use Rattle.host_core.specs.Rows.{Row, Took}
 use Rattle.host_core.specs.Closing.{AllOpen, AllClose}
 use Rattle.host_core.specs.Visits.{AllReady}
 use Rattle.host_core.specs.declared.visit.Came.{Came}

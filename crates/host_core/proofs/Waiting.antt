@@ -3,9 +3,9 @@ use Rattle.std.proofs.Common.{◌≡◌, ℕ, zero, suc, ◌≤◌, List, [], �
 use Rattle.std.proofs.lemmas.List.{length-map}
 use Rattle.std.proofs.lemmas.Option.{same_Some}
 use Rattle.host_calls.specs.declared.seat.SeatName.TheVariants.{Client, Device, Operator}
-use Rattle.seats.specs.Asked.{client_asked, device_asked, operator_asked}
-use Rattle.seats.specs.Rows.{Row, last_taken}
-use Rattle.seats.specs.Seats.{row_of}
+use Rattle.host_core.specs.Asked.{client_asked, device_asked, operator_asked}
+use Rattle.host_core.specs.Rows.{Row, last_taken}
+use Rattle.host_core.specs.Seats.{row_of}
 use Rattle.host_core.specs.Desks.{rows, lasts, caller_rows, device_rows, operator_row}
 use Rattle.host_core.specs.declared.desks.Desks.{Desks}
 

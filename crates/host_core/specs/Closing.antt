@@ -1,7 +1,7 @@
 -- The end of all seats.
 use Rattle.std.specs.Prelude.{◌≡◌, ℕ, true, false, List, [], ◌∷◌, ◌++◌, length, Some, slice_get}
 use Rattle.host_calls.specs.declared.ring.RingReply.TheVariants.{Closed as Ended}
-use Rattle.seats.specs.Rows.{Row}
+use Rattle.host_core.specs.Rows.{Row}
 
 -- no seat has heard the end
 abbrev pub AllOpen : List Row → Type 0

@@ -2,7 +2,7 @@
 use Rattle.std.specs.Prelude.{ℕ, Bool, List, Option}
 use Rattle.host_core.specs.Journal.{Pages}
 use Rattle.host_core.specs.declared.judges.Judges as journal
-use Rattle.seats.specs.Rows.{Row}
+use Rattle.host_core.specs.Rows.{Row}
 use Rattle.host_core.specs.Desks.{rows, lasts}
 use Rattle.host_core.specs.Same.{SameDesks}
 use Rattle.host_core.specs.declared.turns.Core.{Core}

@@ -1,9 +1,9 @@
 -- All desks as one list of rows: the clients, the devices, the operator.
 use Rattle.std.specs.Prelude.{ℕ, List, [], ◌∷◌, ◌++◌, map, Option}
 use Rattle.host_calls.specs.declared.seat.SeatName.TheVariants.{Client, Device, Operator}
-use Rattle.seats.specs.Asked.{client_asked, device_asked, operator_asked}
-use Rattle.seats.specs.Rows.{Row, last_taken}
-use Rattle.seats.specs.Seats.{row_of}
+use Rattle.host_core.specs.Asked.{client_asked, device_asked, operator_asked}
+use Rattle.host_core.specs.Rows.{Row, last_taken}
+use Rattle.host_core.specs.Seats.{row_of}
 use Rattle.host_core.specs.declared.desks.Desks.{Desks}
 
 abbrev pub caller_rows : Desks → List Row

@@ -10,8 +10,8 @@ use Rattle.host_calls.specs.declared.seat.SeatName.{SeatName}
 use Rattle.host_calls.specs.declared.seat.SeatName.TheVariants.{Device, Operator}
 use Rattle.host_core.specs.Journal.{Entry, calls_of, entered_by, Allows}
 use Rattle.host_core.specs.Takes.{TakeRule}
-use Rattle.seats.specs.declared.asked.Asked.{Asked}
-use Rattle.seats.specs.declared.asked.Asked.TheVariants.{Ask, Take, Stop}
+use Rattle.host_core.specs.declared.asked.Asked.{Asked}
+use Rattle.host_core.specs.declared.asked.Asked.TheVariants.{Ask, Take, Stop}
 
 -- the number of a device's seat
 abbrev pub own_number : SeatName → ℕ

@@ -8,10 +8,10 @@ use Rattle.host_calls.specs.declared.ring.RingReply.{RingReply}
 use Rattle.host_calls.specs.declared.ring.RingReply.TheVariants.{Answer as Answered, Closed as Ended}
 use Rattle.host_calls.specs.declared.seat.SeatName.{SeatName}
 use Rattle.host_core.specs.Journal.{Pages, Entry}
-use Rattle.seats.specs.Rows.{Row}
-use Rattle.seats.specs.declared.asked.Asked.{Asked}
-use Rattle.seats.specs.declared.asked.Asked.TheVariants.{Ask, Take, Stop}
-use Rattle.seats.specs.Account.{IsAccount}
+use Rattle.host_core.specs.Rows.{Row}
+use Rattle.host_core.specs.declared.asked.Asked.{Asked}
+use Rattle.host_core.specs.declared.asked.Asked.TheVariants.{Ask, Take, Stop}
+use Rattle.host_core.specs.Account.{IsAccount}
 use Rattle.host_core.specs.Judging.{JudgedBy}
 use Rattle.host_core.specs.Turns.{is_accepted}
 use Rattle.host_core.specs.Names.{same_name}

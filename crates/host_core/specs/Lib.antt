@@ -1,3 +1,11 @@
+pub mod Account
+pub mod Asked
+pub mod AskedLaws
+pub mod Kinds
+pub mod Rules
+pub mod Rows
+pub mod Seats
+pub mod SeatSettling
 pub mod Closing
 pub mod Cores
 pub mod Desks

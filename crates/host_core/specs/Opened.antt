@@ -2,8 +2,8 @@
 use Rattle.std.specs.Prelude.{◌≡◌, ℕ, ◌+◌, ◌<◌, false, List, [], length, Some, slice_get, ◌⊎◌}
 use Rattle.host_calls.specs.declared.seat.SeatName.{SeatName}
 use Rattle.host_calls.specs.declared.seat.SeatName.TheVariants.{Client, Device, Operator}
-use Rattle.seats.specs.Rows.{Row}
-use Rattle.seats.specs.Seats.{IsFresh}
+use Rattle.host_core.specs.Rows.{Row}
+use Rattle.host_core.specs.Seats.{IsFresh}
 use Rattle.host_core.specs.RowOpening.{AreFresh}
 use Rattle.host_core.specs.declared.desks.Desks.{Desks}
 use Rattle.host_core.specs.declared.row_opening.Seats.{Seats}

@@ -1,7 +1,7 @@
 -- A round over the seats.
 use Rattle.std.specs.Prelude.{◌≡◌, ℕ, ◌<◌, ◌≤◌, List, length, Option, None, Some, slice_get, ◌⊎◌}
 use Rattle.host_core.specs.Journal.{Pages}
-use Rattle.seats.specs.Rows.{Row, Took}
+use Rattle.host_core.specs.Rows.{Row, Took}
 use Rattle.host_core.specs.Visits.{SamePages, MustWait, AllReady, Changes}
 use Rattle.host_core.specs.Visited.{VisitsSeat}
 use Rattle.host_core.specs.declared.visit.Came.{Came}

@@ -1,8 +1,8 @@
 -- Seats of one kind and their desks, before the first call.
 use Rattle.std.specs.Prelude.{◌≡◌, ℕ, List, length, Some, slice_get}
-use Rattle.seats.specs.Seats.{IsFresh}
-use Rattle.seats.specs.declared.desk.Desk.{Desk}
-use Rattle.seats.specs.declared.seat.Seat.{Seat}
+use Rattle.host_core.specs.Seats.{IsFresh}
+use Rattle.host_core.specs.declared.desk.Desk.{Desk}
+use Rattle.host_core.specs.declared.seat.Seat.{Seat}
 
 -- so many of them, and each seat with the desk of its place and its number
 pub record AreFresh {C P : Type 0} (count : ℕ) (seats : List (Seat C P)) (desks : List (Desk C P)) : Type 0 where

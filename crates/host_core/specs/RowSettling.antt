@@ -3,13 +3,13 @@ use Rattle.std.specs.Prelude.{◌≡◌, ℕ, List, map, Some, slice_get}
 use Rattle.host_calls.specs.declared.ring.RingReply.{RingReply}
 use Rattle.host_calls.specs.declared.seat.SeatName.{SeatName}
 use Rattle.host_calls.specs.declared.seat.SeatName.TheVariants.{Client, Device as Devices, Operator as Operators}
-use Rattle.seats.specs.Asked.{client_asked, device_asked, operator_asked}
-use Rattle.seats.specs.Rows.{Row}
-use Rattle.seats.specs.Seats.{seat_number, staged, collected, AreBeside}
-use Rattle.seats.specs.Settling.{seat_of, AreSettled}
-use Rattle.seats.specs.declared.asked.Asked.{Asked}
-use Rattle.seats.specs.declared.desk.Desk.{Desk}
-use Rattle.seats.specs.declared.seat.Seat.{Seat}
+use Rattle.host_core.specs.Asked.{client_asked, device_asked, operator_asked}
+use Rattle.host_core.specs.Rows.{Row}
+use Rattle.host_core.specs.Seats.{seat_number, staged, collected, AreBeside}
+use Rattle.host_core.specs.SeatSettling.{seat_of, AreSettled}
+use Rattle.host_core.specs.declared.asked.Asked.{Asked}
+use Rattle.host_core.specs.declared.desk.Desk.{Desk}
+use Rattle.host_core.specs.declared.seat.Seat.{Seat}
 use Rattle.host_core.specs.declared.desks.Desks.{Desks}
 use Rattle.host_core.specs.declared.row_settling.SeatEnd.{SeatEnd}
 use Rattle.host_core.specs.declared.row_settling.SeatEnd.TheVariants.{Caller, Device, Operator}

@@ -1,7 +1,7 @@
 -- Desks over the same rings.
 use Rattle.std.specs.Prelude.{◌≡◌, ℕ, List, Some, slice_get}
-use Rattle.seats.specs.Seats.{SameDesk}
-use Rattle.seats.specs.declared.desk.Desk.{Desk}
+use Rattle.host_core.specs.Seats.{SameDesk}
+use Rattle.host_core.specs.declared.desk.Desk.{Desk}
 use Rattle.host_core.specs.declared.desks.Desks.{Desks}
 
 module _ {C P : Type 0} where

@@ -7,12 +7,12 @@ use Rattle.rtrb.specs.declared.AnyItems.{AnyItems}
 use Rattle.host_calls.specs.declared.ring.RingReply.TheVariants.{Answer as Answered}
 use Rattle.host_core.specs.Journal.{Pages}
 use Rattle.host_core.specs.declared.judges.Judges as journal
-use Rattle.seats.specs.Rows.{Row}
-use Rattle.seats.specs.Account.{IsFirstPart}
-use Rattle.seats.specs.Seats.{AreBeside}
-use Rattle.seats.specs.declared.rules.ClientReplies.{ClientReplies}
-use Rattle.seats.specs.declared.rules.OperatorReplies.{OperatorReplies}
-use Rattle.seats.specs.declared.seat.Seat.{Seat}
+use Rattle.host_core.specs.Rows.{Row}
+use Rattle.host_core.specs.Account.{IsFirstPart}
+use Rattle.host_core.specs.Seats.{AreBeside}
+use Rattle.host_core.specs.declared.seat_rules.ClientReplies.{ClientReplies}
+use Rattle.host_core.specs.declared.seat_rules.OperatorReplies.{OperatorReplies}
+use Rattle.host_core.specs.declared.seat.Seat.{Seat}
 use Rattle.host_core.specs.RowSettling.{IsSeatedIn, IsSeated, name_of, staged_calls, collected_replies}
 use Rattle.host_core.specs.declared.row_settling.SeatEnd.{SeatEnd}
 use Rattle.host_core.specs.Cores.{seats_of}

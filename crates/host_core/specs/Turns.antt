@@ -8,7 +8,7 @@ use Rattle.plain_machine.specs.declared.step.Step.TheVariants.{Dispatch}
 use Rattle.host_calls.specs.declared.seat.SeatName.{SeatName}
 use Rattle.host_calls.specs.declared.seat.SeatName.TheVariants.{Operator, Core}
 use Rattle.host_core.specs.Journal.{Pages, Allows, calls_of, entered_by}
-use Rattle.seats.specs.Rows.{Row}
+use Rattle.host_core.specs.Rows.{Row}
 use Rattle.host_core.specs.Closing.{AllClose}
 use Rattle.host_core.specs.Visits.{Serves, Stops, Changes}
 use Rattle.host_core.specs.Rounds.{AllTook, Passes}

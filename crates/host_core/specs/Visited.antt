@@ -1,7 +1,7 @@
 -- A visit, by what it came to.
 use Rattle.std.specs.Prelude.{◌≡◌, ℕ, List, Option, None, Some}
 use Rattle.host_core.specs.Journal.{Pages}
-use Rattle.seats.specs.Rows.{Row}
+use Rattle.host_core.specs.Rows.{Row}
 use Rattle.host_core.specs.Visits.{Serves, Idles, Stops, IsReady}
 use Rattle.host_core.specs.declared.visit.Came.{Came}
 use Rattle.host_core.specs.declared.visit.Came.TheVariants.{Answered, Stopped}

@@ -9,10 +9,10 @@ use Rattle.host_calls.specs.declared.ring.RingReply.TheVariants.{Answer as Answe
 use Rattle.host_calls.specs.declared.seat.SeatName.{SeatName}
 use Rattle.host_calls.specs.declared.seat.SeatName.TheVariants.{Operator}
 use Rattle.host_core.specs.Journal.{Pages, Entry}
-use Rattle.seats.specs.Kinds.{IsOfKind, AreOfKind}
-use Rattle.seats.specs.Rows.{Row, Took}
-use Rattle.seats.specs.declared.asked.Asked.{Asked}
-use Rattle.seats.specs.declared.asked.Asked.TheVariants.{Stop}
+use Rattle.host_core.specs.Kinds.{IsOfKind, AreOfKind}
+use Rattle.host_core.specs.Rows.{Row, Took}
+use Rattle.host_core.specs.declared.asked.Asked.{Asked}
+use Rattle.host_core.specs.declared.asked.Asked.TheVariants.{Stop}
 use Rattle.host_core.specs.Judging.{JudgedBy, entered_at, keeps_calls, is_kept, MayGet}
 
 -- the same journal

@@ -2,14 +2,15 @@
 ghost use Rattle.std.specs.Prelude.{◌≡◌, List, map, vec_len};
 ghost use Rattle.host_calls.specs.declared.ring.RingReply.{RingReply as Replies};
 ghost use Rattle.host_calls.specs.declared.ring.RingReply.TheVariants.{Closed as Closing};
-ghost use Rattle.seats.specs.Seats.{row_of};
+ghost use Rattle.host_core.specs.Seats.{row_of};
 ghost use Rattle.host_core.specs.Closing.{AllOpen, AllClose};
 ghost use Rattle.host_core.specs.Same.{SameEach};
 
+use crate::asked::Staged;
+use crate::desk::Desk;
 use crate::desks::Desks;
 use host_calls::RingReply;
 use rtrb::Protocol;
-use seats::{Desk, Staged};
 
 impl Desks {
     ghost use Rattle.host_core.specs.Desks.{rows};

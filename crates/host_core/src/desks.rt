@@ -1,10 +1,11 @@
 // All desks of a core.
 ghost use Rattle.std.specs.Prelude.{◌≤◌, vec_len};
 
+use crate::desk::Desk;
+use crate::seat_rules::{ClientReplies, OperatorReplies};
 use host_calls::{ClientCall, OperatorCall};
 use plain_machine::DeviceCall;
 use rtrb::AnyItems;
-use seats::{ClientReplies, Desk, OperatorReplies};
 
 /// The desks of a core: at most 16 clients', at most 4 devices', and the operator's.
 pub struct Desks {

@@ -1,12 +1,12 @@
 // What the core answers to what waits at a seat.
 ghost use Rattle.std.specs.Prelude.{◌≡◌, IfSome, IfNone};
-ghost use Rattle.seats.specs.declared.asked.Asked.TheVariants.{Stop};
+ghost use Rattle.host_core.specs.declared.asked.Asked.TheVariants.{Stop};
 ghost use Rattle.host_core.specs.Judging.{JudgedBy, own_number, entered_at};
 
+use crate::asked::Asked;
 use crate::judges::Judges;
 use host_calls::SeatName;
 use plain_machine::Answer;
-use seats::Asked;
 use std::alloc::Global;
 
 /// What is answered to a call at the seat of a name; nothing to Stop. `lasts` has the issue that each device took last, by its number.

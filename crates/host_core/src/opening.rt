@@ -5,13 +5,15 @@ ghost use Rattle.host_core.specs.Cores.{keeper, seats_of, has_ended};
 ghost use Rattle.host_core.specs.Opening.{ArePaired, IsIdle, AreIdle};
 ghost use Rattle.host_core.specs.Settling.{AreCallersOf, AreDevicesOf, IsOperatorOf};
 
+use crate::bell::Bell;
 use crate::desks::Desks;
 use crate::judges::Judges;
+use crate::seat::Seat;
+use crate::seat_rules::{ClientReplies, OperatorReplies};
 use crate::turns::Core;
 use host_calls::{ClientCall, OperatorCall};
 use plain_machine::DeviceCall;
 use rtrb::AnyItems;
-use seats::{Bell, ClientReplies, OperatorReplies, Seat};
 use std::alloc::{AllocError, Global};
 
 /// A client's seat.

@@ -1,15 +1,16 @@
 // A visit of one seat of a row of seats of one kind.
 ghost use Rattle.std.specs.Prelude.{◌≡◌, ◌<◌, ℕ, map, vec_len};
-ghost use Rattle.seats.specs.Seats.{row_of};
+ghost use Rattle.host_core.specs.Seats.{row_of};
 ghost use Rattle.host_core.specs.Same.{SameEach};
 ghost use Rattle.host_core.specs.Visits.{AllReady, Changes, MayTell};
 ghost use Rattle.host_core.specs.Visited.{VisitsSeat};
 
+use crate::asked::Staged;
+use crate::desk::Desk;
 use crate::judges::Judges;
 use crate::visit::{Came, visit_seat};
 use host_calls::RingReply;
 use rtrb::Protocol;
-use seats::{Desk, Staged};
 use std::alloc::Global;
 
 // Visits the seat at a place of a row.

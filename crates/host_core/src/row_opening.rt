@@ -2,11 +2,15 @@
 ghost use Rattle.std.specs.Prelude.{◌≤◌, IfOk};
 ghost use Rattle.host_core.specs.RowOpening.{AreFresh};
 
+use crate::bell::Bell;
+use crate::desk::Desk;
 use crate::desks::Desks;
+use crate::seat::Seat;
+use crate::seat_opening::open_seat;
+use crate::seat_rules::{ClientReplies, OperatorReplies};
 use host_calls::{ClientCall, OperatorCall, RingReply};
 use plain_machine::DeviceCall;
 use rtrb::{AnyItems, Protocol};
-use seats::{Bell, ClientReplies, Desk, OperatorReplies, Seat, open_seat};
 use std::alloc::{AllocError, Global};
 
 /// The seats of a host, on the side of who asks.

@@ -1,15 +1,18 @@
 // A seat that has ended its work, settled with its desk.
 ghost use Rattle.std.specs.Prelude.{◌≡◌, map, vec_len};
-ghost use Rattle.seats.specs.Seats.{seat_number, staged, collected, row_of};
-ghost use Rattle.seats.specs.Settling.{seat_of};
+ghost use Rattle.host_core.specs.Seats.{seat_number, staged, collected, row_of};
+ghost use Rattle.host_core.specs.SeatSettling.{seat_of};
 ghost use Rattle.host_core.specs.Same.{SameEach};
 ghost use Rattle.host_core.specs.RowSettling.{IsSeatedIn, IsSettled};
 
+use crate::asked::Staged;
+use crate::desk::Desk;
 use crate::desks::Desks;
+use crate::seat_rules::{ClientReplies, OperatorReplies};
+use crate::seat_settling::{FinishedSeat, Settled};
 use host_calls::{ClientCall, OperatorCall, RingReply};
 use plain_machine::DeviceCall;
 use rtrb::{AnyItems, Protocol};
-use seats::{ClientReplies, Desk, FinishedSeat, OperatorReplies, Settled, Staged};
 
 /// A seat of a host that has ended its work, by its kind.
 #[derive(Drop)]

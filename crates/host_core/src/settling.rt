@@ -6,8 +6,8 @@ ghost use Rattle.host_core.specs.Settling.{core_of, AreOfOneHost, IsFirst};
 
 use crate::judges::Judges;
 use crate::row_settling::SeatEnd;
+use crate::seat_settling::Settled;
 use crate::turns::Core;
-use seats::Settled;
 use thiserror::Error;
 
 /// A core that has ended its work: it takes no turn any more.

@@ -5,12 +5,12 @@ ghost use Rattle.host_core.specs.Visits.{AllReady};
 ghost use Rattle.host_core.specs.Names.{AreNamed};
 ghost use Rattle.host_core.specs.Keeping.{AreKept, AreShut, AreSingle};
 
+use crate::bell::Bell;
 use crate::desks::Desks;
 use crate::judges::Judges;
 use crate::turn::{TurnReport, Turned, take_turn};
 use host_calls::SeatName;
 use plain_machine::Call;
-use seats::Bell;
 use std::alloc::Global;
 
 /// The core of a host: whoever keeps its journal, and the desks of all seats.

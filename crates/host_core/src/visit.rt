@@ -1,16 +1,17 @@
 // A visit of one seat.
 ghost use Rattle.std.specs.Prelude.{◌≡◌};
-ghost use Rattle.seats.specs.Seats.{row_of, SameDesk};
+ghost use Rattle.host_core.specs.Seats.{row_of, SameDesk};
 ghost use Rattle.host_core.specs.Judging.{is_kept};
 ghost use Rattle.host_core.specs.Visits.{IsReady, MayTell};
 ghost use Rattle.host_core.specs.Visited.{VisitsSeat};
 
+use crate::asked::Staged;
+use crate::desk::Desk;
 use crate::judges::Judges;
 use crate::judging::judge_asked;
 use host_calls::{RingReply, SeatName};
 use plain_machine::Answer;
 use rtrb::Protocol;
-use seats::{Desk, Staged};
 use std::alloc::Global;
 
 /// What a visit came to.

@@ -3,7 +3,7 @@ use Rattle.std.proofs.Common.{◌≡◌, [], ◌∷◌, ◌++◌, length, ◌+�
 use Rattle.std.proofs.lemmas.List.{length-append}
 use Rattle.host_calls.specs.declared.operator.OperatorCall.{OperatorCall}
 use Rattle.host_calls.specs.declared.ring.RingReply.{RingReply}
-use Rattle.seats.specs.Seats.{staged, collected, is_closed}
+use Rattle.host_core.specs.Seats.{staged, collected, is_closed}
 use Rattle.host_paths.specs.Operating.{Operators, IsBetween}
 
 -- a call that got its reply leaves the seat between two calls

@@ -10,7 +10,7 @@ use Rattle.plain_machine.specs.declared.answer.Reply.TheVariants.{Taken}
 use Rattle.plain_machine.specs.declared.answer.Work.{Work}
 use Rattle.plain_machine.specs.declared.call.DeviceCall.{DeviceCall}
 use Rattle.plain_machine.specs.declared.call.DeviceCall.TheVariants.{Take, Finish, Requeue}
-use Rattle.seats.specs.Seats.{SameSeat, seat_number, staged, collected}
+use Rattle.host_core.specs.Seats.{SameSeat, seat_number, staged, collected}
 use Rattle.host_paths.specs.Working.{Device, Exchange, Does, DoesAll, HasDone, IsRound, IsMade, handed_out}
 
 -- the work that was handed out last

@@ -6,10 +6,10 @@ use Rattle.host_calls.specs.declared.client.ClientCall.{ClientCall}
 use Rattle.host_calls.specs.declared.ring.Closed.{Closed}
 use Rattle.host_calls.specs.declared.ring.RingReply.{RingReply}
 use Rattle.host_calls.specs.declared.ring.RingReply.TheVariants.{Answer as Answered, Closed as Closing}
-use Rattle.seats.specs.Rules.{IsFinal}
-use Rattle.seats.specs.Seats.{staged, collected, is_closed, SameSeat}
-use Rattle.seats.specs.declared.rules.ClientReplies.{ClientReplies}
-use Rattle.seats.specs.declared.seat.Seat.{Seat}
+use Rattle.host_core.specs.Rules.{IsFinal}
+use Rattle.host_core.specs.Seats.{staged, collected, is_closed, SameSeat}
+use Rattle.host_core.specs.declared.seat_rules.ClientReplies.{ClientReplies}
+use Rattle.host_core.specs.declared.seat.Seat.{Seat}
 
 -- the seat of a client
 abbrev pub Caller : Type 0

@@ -2,9 +2,9 @@
 use Rattle.std.specs.Prelude.{◌≡◌, false, [], ◌∷◌, ◌++◌, length}
 use Rattle.host_calls.specs.declared.operator.OperatorCall.{OperatorCall}
 use Rattle.host_calls.specs.declared.ring.RingReply.{RingReply}
-use Rattle.seats.specs.Seats.{staged, collected, is_closed}
-use Rattle.seats.specs.declared.rules.OperatorReplies.{OperatorReplies}
-use Rattle.seats.specs.declared.seat.Seat.{Seat}
+use Rattle.host_core.specs.Seats.{staged, collected, is_closed}
+use Rattle.host_core.specs.declared.seat_rules.OperatorReplies.{OperatorReplies}
+use Rattle.host_core.specs.declared.seat.Seat.{Seat}
 
 -- the seat of the operator
 abbrev pub Operators : Type 0

@@ -15,8 +15,8 @@ use Rattle.plain_machine.specs.declared.answer.Reply.TheVariants.{Taken}
 use Rattle.plain_machine.specs.declared.answer.Work.{Work}
 use Rattle.plain_machine.specs.declared.call.DeviceCall.{DeviceCall}
 use Rattle.plain_machine.specs.declared.call.DeviceCall.TheVariants.{Take}
-use Rattle.seats.specs.Seats.{staged, collected, is_closed, seat_number}
-use Rattle.seats.specs.declared.seat.Seat.{Seat}
+use Rattle.host_core.specs.Seats.{staged, collected, is_closed, seat_number}
+use Rattle.host_core.specs.declared.seat.Seat.{Seat}
 
 -- the seat of a device
 abbrev pub Device : Type 0

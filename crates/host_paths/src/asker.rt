@@ -1,12 +1,12 @@
 // A seat that is asked on this thread.
 ghost use Rattle.std.specs.Prelude.{◌≡◌};
-ghost use Rattle.seats.specs.Seats.{is_closed};
+ghost use Rattle.host_core.specs.Seats.{is_closed};
 ghost use Rattle.host_paths.specs.Asking.{AsksSeat, IsBetween};
 ghost use Rattle.host_paths.specs.AskingLaws.{seat_frames};
 
 use host_calls::{ClientCall, Closed};
+use host_core::{ClientReplies, Seat};
 use plain_machine::Answer;
-use seats::{ClientReplies, Seat};
 use session_proto::Asks;
 use std::alloc::Global;
 use std::sync::Wait;

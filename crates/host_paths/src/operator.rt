@@ -2,7 +2,7 @@
 ghost use Rattle.std.specs.Prelude.{◌≡◌, length, false};
 ghost use Rattle.host_core.specs.Opening.{IsIdle};
 ghost use Rattle.host_paths.specs.Operating.{IsBetween, Asks};
-ghost use Rattle.seats.specs.Seats.{SameSeat, is_closed};
+ghost use Rattle.host_core.specs.Seats.{SameSeat, is_closed};
 
 use crate::clients::FRAME_LIMIT;
 use crate::threads::breathe;

@@ -1,15 +1,15 @@
 // The rounds of a worker.
 ghost use Rattle.std.specs.Prelude.{◌≡◌, ◌-◌, ◌^◌, ◌<◌, [], ◌∷◌, ◌++◌, true, false, None, Some};
-ghost use Rattle.seats.specs.Seats.{staged, collected, is_closed, closed_by, SameSeat};
+ghost use Rattle.host_core.specs.Seats.{staged, collected, is_closed, closed_by, SameSeat};
 ghost use Rattle.host_paths.specs.Working.{HasDone, IsOpen, IsRound, IsMade, IsGoing, IsWhy, IfEnded, IsEndOf};
 
 use crate::pauses::{FIRST, longer, sleep};
 use base_image::Image;
 use device_engine::work_once;
 use host_calls::{Closed, RingReply};
+use host_core::Seat;
 use plain_machine::{Answer, Code, DeviceCall, Reply, Work};
 use rtrb::AnyItems;
-use seats::Seat;
 use std::alloc::Global;
 use std::sync::Wait;
 use std::time::Clock;

@@ -1,10 +1,10 @@
 // A seat and its desk, in two threads.
 ghost use Rattle.std.specs.Prelude.{◌≡◌, length};
-ghost use Rattle.seats.specs.Seats.{staged, collected};
+ghost use Rattle.host_core.specs.Seats.{staged, collected};
 
 use host_calls::{ClientCall, RingReply};
+use host_core::{Bell, ClientReplies, Desk, Seat, open_seat};
 use plain_machine::{Answer, Code};
-use seats::{Bell, ClientReplies, Desk, Seat, open_seat};
 use std::alloc::Global;
 use std::sync::Wait;
 use std::test::Fail;

@@ -1,10 +1,10 @@
 // A seat and its desk, in one thread.
-ghost use Rattle.seats.specs.Seats.{SameSeat, SameDesk};
+ghost use Rattle.host_core.specs.Seats.{SameSeat, SameDesk};
 
 use host_calls::{ClientCall, OperatorCall, RingReply, SeatName};
+use host_core::{Asked, Bell, ClientReplies, Desk, Seat, Staged, open_seat};
 use plain_machine::{Answer, Call, Cause, Code, DeviceCall, Reply, Step, Work};
 use rtrb::AnyItems;
-use seats::{Asked, Bell, ClientReplies, Desk, Seat, Staged, open_seat};
 use sector_core::{Op, Range};
 use std::alloc::Global;
 use std::sync::Wait;

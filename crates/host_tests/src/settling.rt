@@ -1,5 +1,5 @@
 // A seat settled with its core, in one thread.
-ghost use Rattle.seats.specs.Seats.{SameSeat};
+ghost use Rattle.host_core.specs.Seats.{SameSeat};
 ghost use Rattle.host_core.specs.Cores.{SameSeats};
 
 use crate::opening::opened;

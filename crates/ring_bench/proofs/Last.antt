@@ -1,6 +1,6 @@
 -- A list whose last element was taken.
 use Rattle.std.proofs.Common.{◌≡◌, ℕ, List, [], ◌++◌, length, Option, Some, None, IfSome, slice_get, option_to_list, ap, ◌∙◌}
-use Rattle.seats.proofs.Fits.{get-longer, get-next}
+use Rattle.host_core.proofs.Fits.{get-longer, get-next}
 
 module _ {X : Type 0} (Q : X → Type 0) (olds news : List X) where
   pub of-rest : (r : Option X) → olds ≡ news ++ option_to_list r → ((i : ℕ) (s : X) → slice_get olds i ≡ Some s → Q s)

@@ -4,8 +4,8 @@ use Rattle.host_calls.specs.declared.client.ClientCall.{ClientCall}
 use Rattle.plain_machine.specs.declared.call.DeviceCall.{DeviceCall}
 use Rattle.host_core.below.rtrb.specs.declared.AnyItems.{AnyItems}
 use Rattle.host_core.specs.declared.judges.Judges as journal
-use Rattle.seats.specs.declared.rules.ClientReplies.{ClientReplies}
-use Rattle.seats.specs.declared.seat.Seat.{Seat}
+use Rattle.host_core.specs.declared.seat_rules.ClientReplies.{ClientReplies}
+use Rattle.host_core.specs.declared.seat.Seat.{Seat}
 use Rattle.host_core.specs.Cores.{SameSeats}
 use Rattle.host_core.specs.Settling.{core_of, AreCallersOf, AreDevicesOf}
 use Rattle.host_core.specs.declared.settling.CoreEnd.{CoreEnd}

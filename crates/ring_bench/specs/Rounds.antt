@@ -2,9 +2,9 @@
 use Rattle.std.specs.Prelude.{◌≡◌, ℕ, List, Some, slice_get}
 use Rattle.host_calls.specs.declared.client.ClientCall.{ClientCall}
 use Rattle.host_core.specs.declared.judges.Judges as journal
-use Rattle.seats.specs.Seats.{SameSeat}
-use Rattle.seats.specs.declared.rules.ClientReplies.{ClientReplies}
-use Rattle.seats.specs.declared.seat.Seat.{Seat}
+use Rattle.host_core.specs.Seats.{SameSeat}
+use Rattle.host_core.specs.declared.seat_rules.ClientReplies.{ClientReplies}
+use Rattle.host_core.specs.declared.seat.Seat.{Seat}
 use Rattle.host_core.specs.Opening.{IsIdle}
 use Rattle.host_core.specs.Settling.{IsCallerOf, IsOperatorOf}
 use Rattle.host_core.specs.declared.turns.Core.{Core}

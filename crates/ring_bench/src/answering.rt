@@ -1,13 +1,13 @@
 // A core that answers each call at once.
 ghost use Rattle.std.specs.Prelude.{◌≡◌, length};
 ghost use Rattle.host_calls.specs.Frames.{ResultHasFrame};
-ghost use Rattle.seats.specs.Rules.{IsForClients};
+ghost use Rattle.host_core.specs.Rules.{IsForClients};
 ghost use Rattle.host_calls.specs.declared.ring.RingReply.TheVariants.{Answer as Answered};
 
 use bytes::Bytes;
 use host_calls::ClientCall;
+use host_core::{Asked, Bell, ClientReplies, Desk};
 use plain_machine::{Answer, Call, Code, Reply, Step};
-use seats::{Asked, Bell, ClientReplies, Desk};
 use sector_core::BioResult;
 use std::sync::Wait;
 

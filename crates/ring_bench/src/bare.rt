@@ -1,11 +1,11 @@
 // One seat and its desk, with no keeper behind it: what the rings and the bells take.
 ghost use Rattle.std.specs.Prelude.{◌≡◌, length};
-ghost use Rattle.seats.specs.Seats.{staged, collected};
+ghost use Rattle.host_core.specs.Seats.{staged, collected};
 
 use crate::answering::LOOKS;
 use host_calls::ClientCall;
+use host_core::{Bell, ClientReplies, Desk, Seat, open_seat};
 use plain_machine::{Answer, Code};
-use seats::{Bell, ClientReplies, Desk, Seat, open_seat};
 use std::alloc::Global;
 use std::sync::Wait;
 use std::thread::{self, Threads};

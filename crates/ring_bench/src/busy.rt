@@ -1,16 +1,16 @@
 // Clients that ask at once, with two devices at work, each in a thread of its own.
 ghost use Rattle.std.specs.Prelude.{◌≡◌, length, false, IfSome};
-ghost use Rattle.seats.specs.Seats.{staged, collected};
+ghost use Rattle.host_core.specs.Seats.{staged, collected};
 ghost use Rattle.host_core.specs.Opening.{IsIdle, AreIdle};
 
 use crate::opening::opened;
 use crate::rounds::{run, stop};
 use bytes::Bytes;
 use host_calls::{ClientCall, RingReply};
+use host_core::Seat;
 use host_rings::{Caller, DeviceSeat};
 use plain_machine::{Answer, DeviceCall, Reply, Work};
 use rtrb::Protocol;
-use seats::Seat;
 use sector_core::{Op, Outcome, Range};
 use std::alloc::Global;
 use std::sync::Wait;

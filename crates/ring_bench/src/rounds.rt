@@ -1,7 +1,7 @@
 // A core, four clients and the operator, each in a thread of its own; then every end is settled.
 ghost use Rattle.std.specs.Prelude.{IfSome};
 ghost use Rattle.std.specs.Thread.{IsSync};
-ghost use Rattle.seats.specs.Seats.{SameSeat};
+ghost use Rattle.host_core.specs.Seats.{SameSeat};
 ghost use Rattle.host_core.specs.Cores.{SameSeats};
 ghost use Rattle.host_core.specs.Opening.{IsIdle};
 ghost use Rattle.ring_bench.specs.Rounds.{AreFresh, AreFreshOf, AreSame, IsFreshOf};

@@ -1,6 +1,6 @@
 use Rattle.std.proofs.Common.{arith, sym, refl, ◌<◌, ◌∙◌, map, ap, Some, length}
 use Rattle.std.proofs.lemmas.List.{length-map}
-use Rattle.seats.specs.Seats.{row_of}
+use Rattle.host_core.specs.Seats.{row_of}
 use Rattle.host_core.proofs.Rows.{changes-set, get-at}
 use Rattle.host_core.proofs.Ends.{close-none, close-more, close-whole, open-next}
 use Rattle.host_core.proofs.Same.{each-set, each-twice, each-none}

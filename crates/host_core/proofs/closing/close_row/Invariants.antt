@@ -1,5 +1,5 @@
 use Rattle.std.proofs.Common.{◌≡◌, map, vec_len}
-use Rattle.seats.specs.Seats.{row_of}
+use Rattle.host_core.specs.Seats.{row_of}
 use Rattle.host_core.specs.Same.{SameEach}
 use Rattle.host_core.proofs.Ends.{CloseUpto}
 use Rattle.host_core.proofs.closing.close_row.Given as goal

@@ -1,8 +1,8 @@
 use Rattle.std.proofs.Common.{◌≡◌, refl, sym, ap, ◌∙◌, subst, arith, Some}
 use Rattle.std.specs.List.{slice_get}
 use Rattle.std.proofs.lemmas.Option.{slice_get_within}
-use Rattle.seats.specs.Seats.{row_of, AreBeside}
-use Rattle.seats.specs.Settling.{seat_of}
+use Rattle.host_core.specs.Seats.{row_of, AreBeside}
+use Rattle.host_core.specs.SeatSettling.{seat_of}
 use Rattle.host_core.proofs.Same.{each-set}
 use Rattle.host_core.proofs.SettledRows.{map-set, or-stands, row-stands}
 use Rattle.host_core.proofs.row_settling.settle_row.Goals as goal

@@ -1,7 +1,7 @@
 use Rattle.std.proofs.Common.{sym, ap, ◌∙◌}
 use Rattle.std.specs.Prelude.{option_to_list}
 use Rattle.std.specs.Option.{option_copied}
-use Rattle.seats.specs.Seats.{row_of}
+use Rattle.host_core.specs.Seats.{row_of}
 use Rattle.host_core.proofs.Same.{same-twice}
 use Rattle.host_core.proofs.Served.{served, unasked, waits-on, stopped}
 use Rattle.host_core.proofs.visit.visit_seat.Goals as goal

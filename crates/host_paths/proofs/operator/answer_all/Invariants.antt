@@ -1,4 +1,4 @@
-use Rattle.seats.specs.Seats.{SameSeat}
+use Rattle.host_core.specs.Seats.{SameSeat}
 use Rattle.host_paths.specs.Operating.{IsBetween}
 use Rattle.host_paths.proofs.operator.answer_all.Given as goal
 

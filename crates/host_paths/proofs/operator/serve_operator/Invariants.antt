@@ -1,5 +1,5 @@
 use Rattle.std.proofs.Common.{◌≡◌, length}
-use Rattle.seats.specs.Seats.{SameSeat}
+use Rattle.host_core.specs.Seats.{SameSeat}
 use Rattle.host_paths.specs.Operating.{IsBetween}
 use Rattle.host_paths.proofs.operator.serve_operator.Given as goal
 

@@ -1,5 +1,5 @@
 use Rattle.std.proofs.Common.{◌≡◌, None}
-use Rattle.seats.specs.Seats.{SameSeat}
+use Rattle.host_core.specs.Seats.{SameSeat}
 use Rattle.host_paths.specs.Working.{IsOpen, HasDone}
 use Rattle.host_paths.proofs.worker.run_worker.Given as goal
 

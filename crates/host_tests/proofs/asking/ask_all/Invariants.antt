@@ -1,5 +1,5 @@
 use Rattle.std.proofs.Common.{◌≡◌, length}
-use Rattle.seats.specs.Seats.{staged, collected}
+use Rattle.host_core.specs.Seats.{staged, collected}
 use Rattle.host_tests.proofs.asking.ask_all.Given as goal
 
 abbrev pub invariant-loop-session : goal.invariant-loop-session

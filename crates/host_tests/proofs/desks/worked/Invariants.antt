@@ -1,4 +1,4 @@
-use Rattle.seats.specs.Seats.{SameSeat, SameDesk}
+use Rattle.host_core.specs.Seats.{SameSeat, SameDesk}
 use Rattle.host_tests.proofs.desks.worked.Given as goal
 
 abbrev pub invariant-loop-session : goal.invariant-loop-session

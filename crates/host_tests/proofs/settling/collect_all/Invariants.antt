@@ -1,4 +1,4 @@
-use Rattle.seats.specs.Seats.{SameSeat}
+use Rattle.host_core.specs.Seats.{SameSeat}
 use Rattle.host_tests.proofs.settling.collect_all.Given as goal
 
 abbrev pub invariant-loop : goal.invariant-loop

@@ -1,6 +1,6 @@
 use Rattle.std.proofs.Common.{arith, sym, subst}
 use Rattle.std.proofs.lemmas.Option.{slice_get_read}
-use Rattle.seats.specs.Settling.{seat_of}
+use Rattle.host_core.specs.SeatSettling.{seat_of}
 use Rattle.host_core.specs.Settling.{IsCallerOf}
 use Rattle.host_core.proofs.Seated.{caller-stays, caller-works}
 use Rattle.host_tests.proofs.settling.left.Goals as goal

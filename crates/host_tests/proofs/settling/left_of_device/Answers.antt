@@ -1,6 +1,6 @@
 use Rattle.std.proofs.Common.{arith, sym, subst}
 use Rattle.std.proofs.lemmas.Option.{slice_get_read}
-use Rattle.seats.specs.Settling.{seat_of}
+use Rattle.host_core.specs.SeatSettling.{seat_of}
 use Rattle.host_core.specs.Settling.{IsDeviceOf}
 use Rattle.host_core.proofs.Seated.{device-stays, device-works}
 use Rattle.host_tests.proofs.settling.left_of_device.Goals as goal

@@ -1,5 +1,5 @@
 use Rattle.std.proofs.Common.{◌≡◌, length}
-use Rattle.seats.specs.Seats.{staged, collected}
+use Rattle.host_core.specs.Seats.{staged, collected}
 use Rattle.ring_bench.proofs.busy.serve.Given as goal
 
 abbrev pub invariant-loop : goal.invariant-loop

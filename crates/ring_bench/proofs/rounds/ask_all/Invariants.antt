@@ -1,5 +1,5 @@
 use Rattle.std.proofs.Common.{◌≡◌, length}
-use Rattle.seats.specs.Seats.{staged, collected, SameSeat}
+use Rattle.host_core.specs.Seats.{staged, collected, SameSeat}
 use Rattle.ring_bench.proofs.rounds.ask_all.Given as goal
 
 abbrev pub invariant-loop : goal.invariant-loop

@@ -1,7 +1,7 @@
 use Rattle.std.proofs.Common.{map}
 use Rattle.host_calls.specs.declared.seat.SeatName.TheVariants.{Client, Device, Operator}
-use Rattle.seats.specs.Asked.{client_asked, device_asked, operator_asked}
-use Rattle.seats.specs.Seats.{row_of}
+use Rattle.host_core.specs.Asked.{client_asked, device_asked, operator_asked}
+use Rattle.host_core.specs.Seats.{row_of}
 use Rattle.host_core.proofs.FreshRows.{fresh-row, fresh-rows, rows-long, opened-rows}
 use Rattle.host_core.proofs.desks.Desks.open.Goals as goal
 

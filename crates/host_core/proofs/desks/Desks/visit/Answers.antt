@@ -1,8 +1,8 @@
 use Rattle.std.proofs.Common.{arith, refl, ◌-◌, ◌++◌, [], ◌∷◌, length}
 use Rattle.std.proofs.lemmas.List.{length-map, length-append}
 use Rattle.host_calls.specs.declared.seat.SeatName.TheVariants.{Client, Device}
-use Rattle.seats.specs.Asked.{client_asked, device_asked}
-use Rattle.seats.specs.Seats.{row_of}
+use Rattle.host_core.specs.Asked.{client_asked, device_asked}
+use Rattle.host_core.specs.Seats.{row_of}
 use Rattle.host_core.specs.Desks.{caller_rows, device_rows, operator_row}
 use Rattle.host_core.proofs.Rows.{changes-left, changes-right, changes-one, ready-left, ready-right}
 use Rattle.host_core.proofs.Rules.{client-told, operator-told}

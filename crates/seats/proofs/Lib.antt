@@ -1,4 +1,0 @@
-pub mod Fits
-pub mod Accounts
-pub mod Took
-pub mod Left

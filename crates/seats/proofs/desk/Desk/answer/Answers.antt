@@ -1,4 +1,0 @@
-use Rattle.seats.proofs.desk.Desk.answer.Goals as goal
-
-pub returns-clause-row : goal.returns-clause-row
-returns-clause-row g c = cc

@@ -1,4 +1,0 @@
-use Rattle.seats.proofs.desk.Desk.name.Goals as goal
-
-pub returns : goal.returns
-returns g c = c.name.ensures

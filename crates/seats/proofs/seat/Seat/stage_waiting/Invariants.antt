@@ -1,7 +1,0 @@
-use Rattle.std.proofs.Common.{◌≡◌}
-use Rattle.seats.specs.Seats.{staged, collected, is_closed, SameSeat}
-use Rattle.seats.proofs.seat.Seat.stage_waiting.Given as goal
-
-abbrev pub invariant-loop : goal.invariant-loop
-invariant-loop g l =
-    (l.call ≡ l.initial.call) × (SameSeat l.initial.self l.self) × (staged l.self ≡ staged l.initial.self) × (collected l.self ≡ collected l.initial.self) × (is_closed l.self ≡ is_closed l.initial.self)
