@@ -22,10 +22,12 @@ MINUTES_OF_ALL = 95
 CODE_OF_EACH = 3_300
 # The longest chain of crates sets the time. Each job costs some 15 seconds of processor time, as it reads what is below anew. So a
 # crate gets one for each so much code of its own, and no more than three: with four, the last gained 8 seconds and cost 15. It gets but
-# one if its chain is less than so much of the longest one. And how far a crate with next to nothing above it gives way to others.
+# one if its chain is less than so much of the longest one, and gets them all, even if none is free, from so much of it on. And how far a
+# crate with next to nothing above it gives way to others.
 CODE_OF_A_JOB = 2_500
 MOST_JOBS = 3
 LONG = 0.5
+LEADS = 0.9
 GIVES_WAY = 16
 
 
@@ -59,10 +61,9 @@ def prove_all(left, lines):
             longest = max(behind[it] for it in [*left, *jobs])
             for name in sorted(ready, key=lambda it: -behind[it]):
                 free, share = most - sum(jobs.values()), behind[name] / longest
-                # The crate that all others wait for goes first, with all its jobs, even where none is free.
-                if free > 0 or share == 1:
+                if free > 0 or share >= LEADS:
                     tell(f"proving {name}; {number - len(left) - len(jobs)} of {number} are proved")
-                    jobs[name] = jobs_of(name, share) if share == 1 else min(jobs_of(name, share), free)
+                    jobs[name] = jobs_of(name, share) if share >= LEADS else min(jobs_of(name, share), free)
                     running[pool.submit(prove, name, lines, jobs[name], round(GIVES_WAY * (1 - share)))] = name
                     left.remove(name)
             for ran in wait(running, return_when=FIRST_COMPLETED).done:

@@ -2,8 +2,7 @@
 ghost use Rattle.std.specs.Prelude.{◌≡◌, ◌++◌, ◌∷◌, [], Some, codes};
 ghost use Rattle.std.specs.Fmt.{decimal};
 
-use script_line::Line;
-use script_line::Console;
+use script_line::{Console, Line};
 use sector_core::OutOfMemory;
 use std::alloc::Global;
 use std::io::{self, ErrorKind, Read, Write};
