@@ -19,16 +19,15 @@ from libraries import PROGRAMS, build_program, lanes, prove, stale
 # What all crates may take, in minutes by the clock times processors, of which the longest chain of crates leaves some idle.
 MINUTES_OF_ALL = 95
 # What a crate costs whatever its size, as so much code: a check reads what was proved below first, and its library holds much of that.
-CODE_OF_EACH = 3_300
-# The longest chain of crates sets the time. Each job costs some 15 seconds of processor time, as it reads what is below anew. So a
-# crate gets one for each so much code of its own, and no more than three: with four, the last gained 8 seconds and cost 15. It gets but
-# one if its chain is less than so much of the longest one, and gets them all, even if none is free, from so much of it on. And how far a
-# crate with next to nothing above it gives way to others.
+CODE_OF_EACH = 4_000
+# Each job costs some 15 seconds of processor time, as it reads what is below anew. So a crate gets one for each so much code of its own, and
+# no more than three: with four, the last gained 8 seconds and cost 15.
 CODE_OF_A_JOB = 2_500
 MOST_JOBS = 3
+# The longest chain of crates sets the time. A crate gets but one job if its chain is less than so much of the longest one; and the shorter
+# that is, the further the crate gives way to others.
 LONG = 0.5
-LEADS = 0.9
-GIVES_WAY = 16
+GIVES_WAY = 30
 
 
 def tell(text):
@@ -36,35 +35,35 @@ def tell(text):
     print(f"bfqhost: {text}", file=sys.stderr, flush=True)
 
 
-def work(name):
-    """What a proof of a crate costs, in characters of its code. Comments and clauses cost little."""
+def code(name):
+    """How much code a crate has, in characters. Comments and clauses cost little."""
     lines = [line.strip() for it in sources(name) if it.suffix == ".rt" for line in it.read_text().splitlines()]
-    return CODE_OF_EACH + sum(len(it) for it in lines if not it.startswith(("//", "ghost", "requires", "ensures", "#", "use ")))
+    return sum(len(it) for it in lines if not it.startswith(("//", "ghost", "requires", "ensures", "#", "use ")))
 
 
-def jobs_of(name, share):
-    """How many jobs a crate is worth, whose chain is such a share of the longest one."""
-    return min(MOST_JOBS, lanes(), 1 + (work(name) - CODE_OF_EACH) // CODE_OF_A_JOB) if share >= LONG else 1
+def jobs_of(name):
+    """How many jobs a crate is worth."""
+    return min(MOST_JOBS, lanes(), 1 + code(name) // CODE_OF_A_JOB)
 
 
 def prove_all(left, lines):
-    """Proves crates, each once those below it are, and first those with the most work above them. Gives what was said if one is not proved."""
+    """Proves crates, each once those below it are, and first those with the longest chain above. Gives what was said if one is not proved."""
     behind = {}
     for name in reversed(left):
         above = [behind[it] for it in behind if name in below(it, lines)]
-        behind[name] = work(name) + max(above, default=0)
-    # One job more than processors, since a crate leaves some idle while it reads and writes libraries. With more they get in each other's way.
-    number, most, running, jobs = len(left), lanes(1, 3), {}, {}
+        behind[name] = CODE_OF_EACH + code(name) / jobs_of(name) + max(above, default=0)
+    # Two jobs more than processors, since a crate leaves some idle while it reads and writes libraries.
+    number, most, running, jobs = len(left), lanes(2, 3), {}, {}
     with ThreadPoolExecutor(max(1, number)) as pool:
         while left or running:
             ready = [it for it in left if not {*below(it, lines)} & {*left, *jobs}]
             longest = max(behind[it] for it in [*left, *jobs])
             for name in sorted(ready, key=lambda it: -behind[it]):
-                free, share = most - sum(jobs.values()), behind[name] / longest
-                if free > 0 or share >= LEADS:
+                if sum(jobs.values()) < most:
                     tell(f"proving {name}; {number - len(left) - len(jobs)} of {number} are proved")
-                    jobs[name] = jobs_of(name, share) if share >= LEADS else min(jobs_of(name, share), free)
-                    running[pool.submit(prove, name, lines, jobs[name], round(GIVES_WAY * (1 - share)))] = name
+                    share = behind[name] / longest
+                    jobs[name] = jobs_of(name) if share >= LONG else 1
+                    running[pool.submit(prove, name, lines, jobs[name], min(19, round(GIVES_WAY * (1 - share))))] = name
                     left.remove(name)
             for ran in wait(running, return_when=FIRST_COMPLETED).done:
                 del jobs[running.pop(ran)]
