@@ -17,7 +17,7 @@ from checkout import TOP, below, crate_lines, sources
 from libraries import PROGRAMS, build_program, lanes, prove, stale
 
 # What all crates may take, in minutes by the clock times processors, of which the longest chain of crates leaves some idle.
-MINUTES_OF_ALL = 95
+MINUTES_OF_ALL = 110
 # What a crate costs whatever its size, as so much code: a check reads what was proved below first, and its library holds much of that.
 CODE_OF_EACH = 4_000
 # Each job costs some 15 seconds of processor time, as it reads what is below anew. So a crate gets one for each so much code of its own, and
