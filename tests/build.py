@@ -20,8 +20,8 @@ from libraries import PROGRAMS, build_program, lanes, prove, stale
 MINUTES_OF_ALL = 110
 # What a crate costs whatever its size, as so much code: a check reads what was proved below first, and its library holds much of that.
 CODE_OF_EACH = 4_000
-# Each job costs some 15 seconds of processor time, as it reads what is below anew. So a crate gets one for each so much code of its own, and
-# no more than three: with four, the last gained 8 seconds and cost 15.
+# Each job reads what is below anew: for one crate a second took 17 seconds of processor time, and two more 15 together, by which the clock
+# gained 8. So a crate gets one for each so much code of its own, and no more than three.
 CODE_OF_A_JOB = 2_500
 MOST_JOBS = 3
 # The longest chain of crates sets the time. A crate gets but one job if its chain is less than so much of the longest one; and the shorter
