@@ -52,7 +52,7 @@ def prove_all(left, lines):
     for name in reversed(left):
         above = [behind[it] for it in behind if name in below(it, lines)]
         behind[name] = CODE_OF_EACH + code(name) / jobs_of(name) + max(above, default=0)
-    # Two jobs more than processors, since a crate leaves some idle while it reads and writes libraries.
+    # Crates begin until there are two jobs more than processors, since one leaves some idle while it reads and writes libraries.
     number, most, running, jobs = len(left), lanes(2, 3), {}, {}
     with ThreadPoolExecutor(max(1, number)) as pool:
         while left or running:
