@@ -7,7 +7,7 @@ use Rattle.service_tree.specs.declared.member.State.TheVariants.{Idle, Active, S
 use Rattle.group_tree.specs.Groups.{climb, most_levels, path}
 use Rattle.change_record.specs.declared.change.InService.{InService}
 use Rattle.change_record.specs.Machine.{Bfq, put}
-use Rattle.bfq_select.specs.Rules.{top, group_of, member_of, put_vtime, is_idle, along, stamp, start_from, activate_path, activate, risen, charge_one, served_more, charge}
+use Rattle.change_record.specs.Rules.{top, group_of, member_of, put_vtime, is_idle, along, stamp, start_from, activate_path, activate, risen, charge_one, served_more, charge}
 use Rattle.plain_machine.proofs.Puts.{put_here, put_other, some_is, and_then_is}
 use Rattle.bfq_laws.proofs.Quiet.{unrefused}
 use Rattle.bfq_laws.proofs.Shape.{In, Levels, Stands, parent-stands, stands-low, climbing, At, state, parent-at, stamp-at, vtime-at}

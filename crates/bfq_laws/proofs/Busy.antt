@@ -14,9 +14,9 @@ use Rattle.change_record.specs.declared.change.Seat.{Seat}
 use Rattle.change_record.specs.declared.change.InService.{InService}
 use Rattle.change_record.specs.Tables.{empty_service}
 use Rattle.change_record.specs.Machine.{WholeRequest, Bfq, Plain, put}
-use Rattle.bfq_select.specs.declared.expiry.Expiry.{Expiry}
-use Rattle.bfq_select.specs.declared.expiry.Expiry.TheVariants.{Emptying}
-use Rattle.bfq_select.specs.Rules.{absent, is_idle, group_of, activate, select, charge, expire, stands}
+use Rattle.change_record.specs.declared.change.Expiry.{Expiry}
+use Rattle.change_record.specs.declared.change.Expiry.TheVariants.{Emptying}
+use Rattle.change_record.specs.Rules.{absent, is_idle, group_of, activate, select, charge, expire, stands}
 use Rattle.plain_machine.specs.declared.answer.Reply.{Reply}
 use Rattle.plain_machine.specs.Step.{Limits, opening, is_bfq, with_entity, attached, new_bio, with_bio, change_first, queue_with, submitted, woken, range_of, next_request, with_budget_in, with_slot, older, without_first, without_empty, without_entity, sent_next, sent_in, sent_by_bfq, shape}
 use Rattle.plain_machine.proofs.Puts.{put_here, put_other, some_is, and_then_is, map_is}

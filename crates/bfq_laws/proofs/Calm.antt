@@ -10,7 +10,7 @@ use Rattle.process_queue.specs.Next.{has_start}
 use Rattle.change_record.specs.declared.change.Seat.{Seat}
 use Rattle.change_record.specs.declared.change.InService.{InService}
 use Rattle.change_record.specs.Machine.{WholeRequest, Bfq, Plain}
-use Rattle.bfq_select.specs.Rules.{group_of, put_vtime, activate, charge}
+use Rattle.change_record.specs.Rules.{group_of, put_vtime, activate, charge}
 use Rattle.plain_machine.specs.declared.answer.Reply.{Reply}
 use Rattle.plain_machine.specs.Step.{Limits, is_bfq, unreaped, with_unreaped, submitted, woken, range_of, next_request, with_budget_in, with_slot, without_first, without_empty, sent_next, sent_in, sent_by_bfq, with_first_budgets, begun_again, switched, shape}
 use Rattle.plain_machine.proofs.Puts.{some_is, and_then_is, map_is}

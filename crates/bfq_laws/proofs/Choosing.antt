@@ -8,7 +8,7 @@ use Rattle.service_tree.specs.Members.{least_start}
 use Rattle.group_tree.specs.Groups.{climb, path}
 use Rattle.change_record.specs.declared.change.InService.{InService}
 use Rattle.change_record.specs.Machine.{Bfq, put}
-use Rattle.bfq_select.specs.Rules.{group_of, put_vtime, is_idle, picked, jumped, in_service, on_pick, taken, select_from, select}
+use Rattle.change_record.specs.Rules.{group_of, put_vtime, is_idle, picked, jumped, in_service, on_pick, taken, select_from, select}
 use Rattle.plain_machine.specs.Step.{with_slot}
 use Rattle.plain_machine.proofs.Puts.{put_here, put_other, some_is}
 use Rattle.bfq_laws.proofs.Quiet.{jumped-quiet}

@@ -7,9 +7,9 @@ use Rattle.process_queue.specs.Queue.{is_empty}
 use Rattle.process_queue.specs.Next.{has_start}
 use Rattle.change_record.specs.declared.change.InService.{InService}
 use Rattle.change_record.specs.Machine.{WholeRequest, Bfq, Plain, put}
-use Rattle.bfq_select.specs.declared.expiry.Expiry.{Expiry}
-use Rattle.bfq_select.specs.declared.expiry.Expiry.TheVariants.{Exhaustion, Timeout, Emptying}
-use Rattle.bfq_select.specs.Rules.{activate, budget_after, select, charge, expire}
+use Rattle.change_record.specs.declared.change.Expiry.{Expiry}
+use Rattle.change_record.specs.declared.change.Expiry.TheVariants.{Exhaustion, Timeout, Emptying}
+use Rattle.change_record.specs.Rules.{activate, budget_after, select, charge, expire}
 use Rattle.plain_machine.specs.declared.answer.Reply.{Reply}
 use Rattle.plain_machine.specs.declared.call.Call.{Call}
 use Rattle.plain_machine.specs.Step.{Limits, opening, is_bfq, submitted, woken, range_of, next_request, with_budget_in, with_slot, without_first, without_empty, sent_next, sent_in, sent_by_bfq, begun_again, shape}

@@ -7,8 +7,8 @@ use Rattle.service_tree.specs.Members.{least_start}
 use Rattle.group_tree.specs.Groups.{climb, most_levels, path}
 use Rattle.change_record.specs.declared.change.InService.{InService}
 use Rattle.change_record.specs.Machine.{Bfq, put}
-use Rattle.bfq_select.specs.declared.expiry.Expiry.{Expiry}
-use Rattle.bfq_select.specs.Rules.{top, group_of, is_idle, along, stamp, ended, is_backlogged, rested, expire_one, out_of_service, expire}
+use Rattle.change_record.specs.declared.change.Expiry.{Expiry}
+use Rattle.change_record.specs.Rules.{top, group_of, is_idle, along, stamp, ended, is_backlogged, rested, expire_one, out_of_service, expire}
 use Rattle.plain_machine.proofs.Puts.{put_here, put_other, some_is, and_then_is}
 use Rattle.bfq_laws.proofs.Quiet.{expire-slot}
 use Rattle.bfq_laws.proofs.Tree.{placed, idle}

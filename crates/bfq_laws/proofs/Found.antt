@@ -4,7 +4,7 @@ use Rattle.std.proofs.Common.{true, false, Bool, not, ◌&&◌, cond, ◌≡◌,
 use Rattle.process_queue.specs.Queue.{is_empty}
 use Rattle.change_record.specs.declared.change.InService.{InService}
 use Rattle.change_record.specs.Machine.{WholeRequest, Plain}
-use Rattle.bfq_select.specs.Rules.{member_of, is_idle}
+use Rattle.change_record.specs.Rules.{member_of, is_idle}
 use Rattle.plain_machine.specs.declared.call.Call.{Call}
 use Rattle.plain_machine.specs.Step.{Limits, is_bfq, with_slot}
 use Rattle.plain_machine.specs.Keeper.{machine_of, replay}

@@ -3,9 +3,9 @@ use Rattle.std.proofs.Common.{true, false, ◌≡◌, ◌⊎◌, inl, inr, ℕ, 
 use Rattle.std.proofs.lemmas.Bool.{ltb-false}
 use Rattle.change_record.specs.declared.change.InService.{InService}
 use Rattle.change_record.specs.Machine.{Bfq, Plain}
-use Rattle.bfq_select.specs.declared.expiry.Expiry.{Expiry}
-use Rattle.bfq_select.specs.declared.expiry.Expiry.TheVariants.{Exhaustion, Timeout}
-use Rattle.bfq_select.specs.Rules.{expire}
+use Rattle.change_record.specs.declared.change.Expiry.{Expiry}
+use Rattle.change_record.specs.declared.change.Expiry.TheVariants.{Exhaustion, Timeout}
+use Rattle.change_record.specs.Rules.{expire}
 use Rattle.plain_machine.specs.Step.{Limits, next_size, with_budget_in}
 use Rattle.plain_machine.proofs.Puts.{some_is}
 

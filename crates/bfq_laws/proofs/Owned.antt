@@ -11,7 +11,7 @@ use Rattle.process_queue.specs.Merge.{joins_at}
 use Rattle.process_queue.specs.Next.{has_start}
 use Rattle.change_record.specs.declared.change.Seat.{Seat}
 use Rattle.change_record.specs.Machine.{WholeRequest, Bfq, Plain, put}
-use Rattle.bfq_select.specs.Rules.{activate, charge}
+use Rattle.change_record.specs.Rules.{activate, charge}
 use Rattle.plain_machine.specs.declared.answer.Reply.{Reply}
 use Rattle.plain_machine.specs.Step.{Limits, is_bfq, is_session, unreaped, with_unreaped, new_bio, with_bio, change_first, queue_with, merge_in, submitted, woken, is_of, flying, left_of, is_gone, range_of, next_request, with_budget_in, with_slot, without_first, without_empty, sent_next, sent_in, sent_by_bfq, shape}
 use Rattle.plain_machine.proofs.Puts.{put_here, put_other, some_is, and_then_is, map_is}

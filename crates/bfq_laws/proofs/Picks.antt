@@ -10,7 +10,7 @@ use Rattle.service_tree.specs.declared.member.State.TheVariants.{Idle, Active, S
 use Rattle.service_tree.specs.Members.{Service, is_active, is_eligible, numbered, soonest, lesser, least, least_start, pick}
 use Rattle.change_record.specs.Exchange.{with_vtime}
 use Rattle.change_record.specs.Machine.{Bfq}
-use Rattle.bfq_select.specs.Rules.{vtime_of, put_vtime, picked, jumped}
+use Rattle.change_record.specs.Rules.{vtime_of, put_vtime, picked, jumped}
 use Rattle.plain_machine.proofs.Puts.{put_here, some_is}
 use Rattle.bfq_laws.proofs.Tree.{placed, IsPlaced, numbered-placed, soonest-is, first_of_some}
 

@@ -5,8 +5,8 @@ use Rattle.service_tree.specs.Members.{least_start}
 use Rattle.group_tree.specs.Groups.{path}
 use Rattle.change_record.specs.declared.change.InService.{InService}
 use Rattle.change_record.specs.Machine.{Bfq, put}
-use Rattle.bfq_select.specs.declared.expiry.Expiry.{Expiry}
-use Rattle.bfq_select.specs.Rules.{top, group_of, member_of, put_vtime, is_idle, along, finish_from, stamped, stamp, start_from, activate_path, activate, picked, jumped, in_service, on_pick, taken, select_from, select, risen, charge_one, served_more, charge, ended, is_backlogged, rested, expire_one, budget_after, out_of_service, expire}
+use Rattle.change_record.specs.declared.change.Expiry.{Expiry}
+use Rattle.change_record.specs.Rules.{top, group_of, member_of, put_vtime, is_idle, along, finish_from, stamped, stamp, start_from, activate_path, activate, picked, jumped, in_service, on_pick, taken, select_from, select, risen, charge_one, served_more, charge, ended, is_backlogged, rested, expire_one, budget_after, out_of_service, expire}
 use Rattle.plain_machine.proofs.Puts.{some_is, and_then_is}
 
 -- the budgets and the slot are those from before

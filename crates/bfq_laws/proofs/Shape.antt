@@ -8,7 +8,7 @@ use Rattle.service_tree.specs.Members.{Service}
 use Rattle.group_tree.specs.Groups.{has_entity, entity_of, climb}
 use Rattle.change_record.specs.Exchange.{with_member}
 use Rattle.change_record.specs.Machine.{Bfq, put}
-use Rattle.bfq_select.specs.Rules.{top, absent, group_of, member_of, put_member, put_vtime, finish_from, stamped, stamp}
+use Rattle.change_record.specs.Rules.{top, absent, group_of, member_of, put_member, put_vtime, finish_from, stamped, stamp}
 use Rattle.plain_machine.proofs.Puts.{put_here, put_other, some_is}
 use Rattle.bfq_laws.proofs.Quiet.{unrefused}
 use Rattle.bfq_laws.proofs.Tree.{placed, placed-here, placed-elsewhere, placed-other, placed-vtime, length-member, length-vtime}

@@ -15,8 +15,8 @@ use Rattle.change_record.specs.declared.change.InService.{InService}
 use Rattle.change_record.specs.declared.change.Seat.{Seat}
 use Rattle.change_record.specs.Tables.{empty_service}
 use Rattle.change_record.specs.Machine.{WholeRequest, Bfq, Plain, put}
-use Rattle.bfq_select.specs.declared.expiry.Expiry.TheVariants.{Emptying}
-use Rattle.bfq_select.specs.Rules.{activate, charge, expire, stands, absent}
+use Rattle.change_record.specs.declared.change.Expiry.TheVariants.{Emptying}
+use Rattle.change_record.specs.Rules.{activate, charge, expire, stands, absent}
 use Rattle.plain_machine.specs.declared.answer.Reply.{Reply}
 use Rattle.plain_machine.specs.declared.call.Call.{Call}
 use Rattle.plain_machine.specs.Step.{Limits, opening, is_bfq, older, begun_again, with_entity, without_entity, is_gone, prio_weight, attached, submitted, woken, range_of, next_request, with_budget_in, with_slot, without_first, without_empty, sent_next, sent_in, sent_by_bfq, shape}

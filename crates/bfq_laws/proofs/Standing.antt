@@ -9,7 +9,7 @@ use Rattle.soft_queue.specs.Turn.{numbers}
 use Rattle.group_tree.specs.Groups.{has_entity, entity_of, climb, most_levels, path, depth}
 use Rattle.change_record.specs.declared.change.InService.{InService}
 use Rattle.change_record.specs.Machine.{Bfq, put}
-use Rattle.bfq_select.specs.Rules.{absent, group_of, is_idle, stands}
+use Rattle.change_record.specs.Rules.{absent, group_of, is_idle, stands}
 use Rattle.plain_machine.specs.Step.{Limits, with_entity, without_entity, free_group, is_in, is_used}
 use Rattle.plain_machine.proofs.Puts.{put_here, put_other, put_cases, some_is}
 use Rattle.bfq_laws.proofs.Puts.{find-within}

@@ -10,7 +10,7 @@ use Rattle.service_tree.specs.Members.{counts_in, does_count, numbered}
 use Rattle.group_tree.specs.Groups.{path}
 use Rattle.change_record.specs.declared.change.InService.{InService}
 use Rattle.change_record.specs.Machine.{Bfq, Plain}
-use Rattle.bfq_select.specs.Rules.{group_of, vtime_of, wsum, is_idle}
+use Rattle.change_record.specs.Rules.{group_of, vtime_of, wsum, is_idle}
 use Rattle.plain_machine.specs.declared.call.Call.{Call}
 use Rattle.plain_machine.specs.Step.{Limits, with_slot}
 use Rattle.plain_machine.specs.Keeper.{machine_of, replay}

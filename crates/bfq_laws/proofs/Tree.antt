@@ -14,8 +14,8 @@ use Rattle.change_record.specs.declared.change.InService.{InService}
 use Rattle.change_record.specs.declared.change.Seat.{Seat}
 use Rattle.change_record.specs.Exchange.{with_member, with_vtime}
 use Rattle.change_record.specs.Machine.{Bfq, put}
-use Rattle.bfq_select.specs.declared.expiry.Expiry.{Expiry}
-use Rattle.bfq_select.specs.Rules.{top, absent, group_of, member_of, vtime_of, put_member, put_vtime, is_idle, along, finish_from, stamped, stamp, start_from, activate_path, activate, picked, jumped, in_service, on_pick, taken, select_from, select, risen, charge_one, served_more, charge, ended, is_backlogged, rested, expire_one, out_of_service, expire}
+use Rattle.change_record.specs.declared.change.Expiry.{Expiry}
+use Rattle.change_record.specs.Rules.{top, absent, group_of, member_of, vtime_of, put_member, put_vtime, is_idle, along, finish_from, stamped, stamp, start_from, activate_path, activate, picked, jumped, in_service, on_pick, taken, select_from, select, risen, charge_one, served_more, charge, ended, is_backlogged, rested, expire_one, out_of_service, expire}
 use Rattle.plain_machine.proofs.Puts.{put_here, put_other, some_is, and_then_is}
 use Rattle.bfq_laws.proofs.Quiet.{Quiet, unrefused, jumped-quiet}
 

@@ -11,7 +11,7 @@ use Rattle.sector_core.specs.declared.config.Scheduler.TheVariants.{Plain as Pla
 use Rattle.change_record.specs.Blocks.{Blocks}
 use Rattle.process_queue.specs.Queue.{is_empty}
 use Rattle.group_tree.specs.Groups.{entity_of, depth, most_levels}
-use Rattle.bfq_select.specs.Rules.{stands}
+use Rattle.change_record.specs.Rules.{stands}
 use Rattle.change_record.specs.declared.change.InService.{InService}
 use Rattle.change_record.specs.declared.change.Seat.{Seat}
 use Rattle.change_record.specs.Machine.{WholeRequest, Flight, Plain, put}

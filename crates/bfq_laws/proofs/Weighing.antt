@@ -12,9 +12,9 @@ use Rattle.group_tree.specs.Groups.{entity_of, climb, most_levels, path}
 use Rattle.change_record.specs.declared.change.InService.{InService}
 use Rattle.change_record.specs.Exchange.{with_member, with_vtime}
 use Rattle.change_record.specs.Machine.{WholeRequest, Bfq, Plain, put}
-use Rattle.bfq_select.specs.declared.expiry.Expiry.{Expiry}
-use Rattle.bfq_select.specs.declared.expiry.Expiry.TheVariants.{Emptying}
-use Rattle.bfq_select.specs.Rules.{top, absent, group_of, member_of, put_member, put_vtime, is_idle, along, finish_from, stamped, stamp, start_from, activate_path, activate, picked, jumped, in_service, on_pick, taken, select_from, select, risen, charge_one, served_more, charge, ended, is_backlogged, rested, expire_one, out_of_service, expire}
+use Rattle.change_record.specs.declared.change.Expiry.{Expiry}
+use Rattle.change_record.specs.declared.change.Expiry.TheVariants.{Emptying}
+use Rattle.change_record.specs.Rules.{top, absent, group_of, member_of, put_member, put_vtime, is_idle, along, finish_from, stamped, stamp, start_from, activate_path, activate, picked, jumped, in_service, on_pick, taken, select_from, select, risen, charge_one, served_more, charge, ended, is_backlogged, rested, expire_one, out_of_service, expire}
 use Rattle.plain_machine.specs.declared.answer.Reply.{Reply}
 use Rattle.plain_machine.specs.declared.call.Call.{Call}
 use Rattle.plain_machine.specs.Step.{Limits, opening, is_bfq, is_weight, with_entity, prio_weight, submitted, woken, range_of, next_request, with_budget_in, with_slot, without_first, without_empty, sent_next, sent_in, sent_by_bfq, begun_again, shape}

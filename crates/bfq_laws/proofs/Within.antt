@@ -12,8 +12,8 @@ use Rattle.change_record.specs.declared.change.Seat.{Seat}
 use Rattle.change_record.specs.declared.change.InService.{InService}
 use Rattle.change_record.specs.Tables.{empty_service}
 use Rattle.change_record.specs.Machine.{WholeRequest, Bfq, Plain, put}
-use Rattle.bfq_select.specs.declared.expiry.Expiry.TheVariants.{Emptying}
-use Rattle.bfq_select.specs.Rules.{group_of, activate, select, charge, expire}
+use Rattle.change_record.specs.declared.change.Expiry.TheVariants.{Emptying}
+use Rattle.change_record.specs.Rules.{group_of, activate, select, charge, expire}
 use Rattle.plain_machine.specs.declared.answer.Reply.{Reply}
 use Rattle.plain_machine.specs.declared.call.Call.{Call}
 use Rattle.plain_machine.specs.Step.{Limits, opening, is_bfq, with_entity, attached, submitted, woken, size_of, range_of, next_request, next_size, with_budget_in, with_slot, without_first, without_empty, sent_next, sent_in, sent_by_bfq, older, switched, shape}

@@ -1,7 +1,7 @@
 -- Which sessions' queues wait or are served.
 use Rattle.std.specs.Prelude.{◌≡◌, ℕ, ◌<◌, true, false, not, ◌&&◌, List, Some, is_some}
 use Rattle.process_queue.specs.Queue.{is_empty}
-use Rattle.bfq_select.specs.Rules.{member_of, is_idle}
+use Rattle.change_record.specs.Rules.{member_of, is_idle}
 use Rattle.change_record.specs.declared.change.InService.{InService}
 use Rattle.change_record.specs.Machine.{Plain}
 use Rattle.plain_machine.specs.declared.call.Call.{Call}

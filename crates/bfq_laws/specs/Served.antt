@@ -2,7 +2,7 @@
 use Rattle.std.specs.Prelude.{◌≡◌, ℕ, ◌↔◌, List, Contains, Some}
 use Rattle.service_tree.specs.declared.member.State.TheVariants.{Serving}
 use Rattle.group_tree.specs.Groups.{path}
-use Rattle.bfq_select.specs.Rules.{member_of}
+use Rattle.change_record.specs.Rules.{member_of}
 use Rattle.change_record.specs.declared.change.InService.{InService}
 use Rattle.change_record.specs.Machine.{Bfq}
 use Rattle.plain_machine.specs.declared.call.Call.{Call}

@@ -1,7 +1,7 @@
 -- What the sums of weights are by which a charge divides.
 use Rattle.std.specs.Prelude.{◌≡◌, ℕ, ◌≤◌, true, List, All, Some}
 use Rattle.group_tree.specs.Groups.{path}
-use Rattle.bfq_select.specs.Rules.{group_of, wsum}
+use Rattle.change_record.specs.Rules.{group_of, wsum}
 use Rattle.change_record.specs.declared.change.InService.{InService}
 use Rattle.change_record.specs.Machine.{Bfq, Plain}
 use Rattle.plain_machine.specs.declared.call.Call.{Call}

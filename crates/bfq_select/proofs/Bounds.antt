@@ -5,7 +5,7 @@ use Rattle.service_tree.specs.Members.{Service}
 use Rattle.change_record.specs.declared.change.InService.{InService}
 use Rattle.change_record.specs.Exchange.{with_member}
 use Rattle.change_record.specs.Machine.{Bfq, put}
-use Rattle.bfq_select.specs.Rules.{put_member}
+use Rattle.change_record.specs.Rules.{put_member}
 use Rattle.bfq_select.specs.Service.{IsBounded}
 
 -- what holds of each member and of the new one holds of each after it is put

@@ -1,7 +1,7 @@
 -- The choice, level by level.
 use Rattle.std.proofs.Common.{◌≡◌, ℕ, suc, ◌-◌, Option, Some, None, true, false, if◌then◌else◌, nat_lt, sym, ap, ◌∙◌}
 use Rattle.change_record.specs.Machine.{Bfq}
-use Rattle.bfq_select.specs.Rules.{select_from, jumped, picked, in_service, on_pick, taken}
+use Rattle.change_record.specs.Rules.{select_from, jumped, picked, in_service, on_pick, taken}
 
 -- the choice goes on with so many levels
 abbrev next : ℕ → ℕ → Bfq → ℕ → Bfq

@@ -2,7 +2,7 @@
 use Rattle.std.proofs.Common.{◌≡◌, ℕ, ◌+◌, ◌<◌, List, ◌∷◌, Option, Some, None, true, get_or, drop, length, if◌then◌else◌, sym, ap, ◌∙◌, add-one, drop-cons}
 use Rattle.std.specs.Option.{option_and_then}
 use Rattle.change_record.specs.Machine.{Bfq}
-use Rattle.bfq_select.specs.Rules.{along, activate_path, is_idle, member_of, start_from, stamp}
+use Rattle.change_record.specs.Rules.{along, activate_path, is_idle, member_of, start_from, stamp}
 
 -- what is left of a list is its next element, and what is left after it
 dropped : (path : List ℕ) (n d : ℕ) → n < length path → drop n path ≡ get_or path n d ∷ drop (n + 1) path

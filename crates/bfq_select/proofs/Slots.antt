@@ -4,8 +4,8 @@ use Rattle.std.specs.Option.{option_and_then}
 use Rattle.group_tree.specs.Groups.{path}
 use Rattle.change_record.specs.declared.change.InService.{InService}
 use Rattle.change_record.specs.Machine.{Bfq}
-use Rattle.bfq_select.specs.declared.expiry.Expiry.{Expiry}
-use Rattle.bfq_select.specs.Rules.{along, charge, charge_one, served_more, expire, expire_one, out_of_service}
+use Rattle.change_record.specs.declared.change.Expiry.{Expiry}
+use Rattle.change_record.specs.Rules.{along, charge, charge_one, served_more, expire, expire_one, out_of_service}
 
 -- a bound of the service in the one slot
 pub one_slot : (slot served : InService) → Some slot ≡ Some served → slot.service ≤ 65536 → served.service ≤ 65536

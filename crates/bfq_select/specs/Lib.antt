@@ -1,7 +1,7 @@
-pub mod Rules
 pub mod Service
 pub mod Course
 pub use Rattle.change_record.specs.Tables
 pub use Rattle.change_record.specs.Exchange
 pub use Rattle.change_record.specs.Machine
+pub use Rattle.change_record.specs.Rules
 pub use Rattle.change_record.specs.Trail

@@ -1,7 +1,7 @@
 // How the entities of a path leave the service.
 ghost use Rattle.std.specs.Prelude.{◌≡◌, ◌≤◌, MatchResult, Some, None, length};
 ghost use Rattle.change_record.specs.Machine.{bfq_of};
-ghost use Rattle.bfq_select.specs.Rules.{along, budget_after, expire_one, is_backlogged};
+ghost use Rattle.change_record.specs.Rules.{along, budget_after, expire_one, is_backlogged};
 ghost use Rattle.bfq_select.specs.Service.{IsSized, IsBounded};
 ghost use Rattle.bfq_select.specs.Course.{Exchanges};
 

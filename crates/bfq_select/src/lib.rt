@@ -9,20 +9,22 @@
 //! | [`expire`] | the queue in service leaves it with a new budget, and its path at the finish of what it was served |
 //! | [`member_in`] | what a group's tree knows of an entity; the rules read it |
 //!
-//! The rules stand in `specs/Rules.antt`, on the plain machine: a call makes the exchanges that lead there, through the
-//! tape. An exchange on one place is made by its setter alone, whose clauses speak of the plain machine already.
+//! The rules stand in `Rules.antt` of `change_record`, beside the plain machine that they speak of: a call makes the
+//! exchanges that lead there, through the tape. An exchange on one place is made by its setter alone, whose clauses
+//! speak of the plain machine already.
 //! A time never passes 2^62: a rule that would make a greater one is refused, and what it has exchanged leads back.
 
 mod activating;
 mod charging;
 mod expiring;
-mod expiry;
 mod places;
 mod reading;
+mod refused;
 mod rules;
 mod selecting;
 mod stamping;
 
-pub use expiry::{Expiry, VtimeFull};
+pub use change_record::Expiry;
 pub use reading::member_in;
+pub use refused::VtimeFull;
 pub use rules::{activate, charge, expire, select};

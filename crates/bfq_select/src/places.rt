@@ -2,7 +2,7 @@
 ghost use Rattle.std.specs.Prelude.{◌≡◌, ◌≤◌, ◌<◌, ◌^◌, Some};
 ghost use Rattle.change_record.specs.declared.change.InService.{InService as Slot};
 ghost use Rattle.change_record.specs.Machine.{bfq_of, put};
-ghost use Rattle.bfq_select.specs.Rules.{put_member, put_vtime};
+ghost use Rattle.change_record.specs.Rules.{put_member, put_vtime};
 ghost use Rattle.bfq_select.specs.Service.{IsSized, IsBounded};
 ghost use Rattle.bfq_select.specs.Course.{Exchanges};
 

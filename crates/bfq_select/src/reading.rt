@@ -1,7 +1,7 @@
 // What the rules read of entities and groups.
 ghost use Rattle.std.specs.Prelude.{◌≡◌, ◌<◌, ◌≤◌, ◌^◌, IfSome};
 ghost use Rattle.change_record.specs.Machine.{bfq_of};
-ghost use Rattle.bfq_select.specs.Rules.{group_of, member_in, vtime_of, wsum, picked, is_idle};
+ghost use Rattle.change_record.specs.Rules.{group_of, member_in, vtime_of, wsum, picked, is_idle};
 ghost use Rattle.service_tree.specs.Members.{least_start};
 ghost use Rattle.bfq_select.specs.Service.{IsSized, IsBounded};
 

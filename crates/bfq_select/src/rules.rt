@@ -3,7 +3,7 @@ ghost use Rattle.std.specs.Prelude.{◌≡◌, ◌+◌, ◌≤◌, ◌<◌, Matc
 ghost use Rattle.change_record.specs.declared.change.InService.{InService as Slot};
 ghost use Rattle.change_record.specs.Trail.{KeepsTrail};
 ghost use Rattle.change_record.specs.Machine.{bfq_of};
-ghost use Rattle.bfq_select.specs.Rules.{activate, select, charge, expire};
+ghost use Rattle.change_record.specs.Rules.{activate, select, charge, expire};
 ghost use Rattle.bfq_select.specs.Service.{IsSized, IsBounded, OnlyServes};
 
 use crate::activating::activate_path;

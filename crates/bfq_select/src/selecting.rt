@@ -1,7 +1,7 @@
 // The choice in one group.
 ghost use Rattle.std.specs.Prelude.{◌≡◌, ◌≤◌, ◌<◌, IfSome};
 ghost use Rattle.change_record.specs.Machine.{bfq_of};
-ghost use Rattle.bfq_select.specs.Rules.{jumped, picked, in_service};
+ghost use Rattle.change_record.specs.Rules.{jumped, picked, in_service};
 ghost use Rattle.bfq_select.specs.Service.{IsSized, IsBounded};
 ghost use Rattle.bfq_select.specs.Course.{Exchanges};
 

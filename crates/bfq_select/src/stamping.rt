@@ -1,7 +1,7 @@
 // What a service costs in virtual time, and how an entity gets its start and its finish.
 ghost use Rattle.std.specs.Prelude.{◌≡◌, ◌*◌, ◌≤◌, ◌^◌, MatchResult, Some, None};
 ghost use Rattle.change_record.specs.Machine.{bfq_of};
-ghost use Rattle.bfq_select.specs.Rules.{delta, stamp};
+ghost use Rattle.change_record.specs.Rules.{delta, stamp};
 ghost use Rattle.bfq_select.specs.Service.{IsSized, IsBounded};
 ghost use Rattle.bfq_select.specs.Course.{Exchanges};
 

@@ -4,6 +4,7 @@ pub mod Laws
 pub mod Trail
 pub mod Tape
 pub mod Machine
+pub mod Rules
 pub use Rattle.overlay.specs.Blocks
 pub use Rattle.request_pool.specs.Slots
 pub use Rattle.process_queue.specs.Queue

@@ -33,6 +33,17 @@ pub struct InService {
     pub age: u64,
 }
 
+/// Why the queue in service leaves it.
+#[derive(Clone, Copy, Debug, PartialEq, Eq)]
+pub enum Expiry {
+    /// The next request is greater than what is left of the budget.
+    Exhaustion,
+    /// The queue has been in service for too many ticks.
+    Timeout,
+    /// The queue has no request left.
+    Emptying,
+}
+
 /// What the tables of a machine are made for.
 #[derive(Clone, Copy, Debug, PartialEq, Eq)]
 pub struct Making {

@@ -21,7 +21,7 @@ mod room;
 mod tape;
 mod turns;
 
-pub use change::{Change, InService, Making, Outbox, Seat};
+pub use change::{Change, Expiry, InService, Making, Outbox, Seat};
 pub use laws::{back_leads_forth, turned_twice};
 pub use parts::Parts;
 pub use room::push_within;

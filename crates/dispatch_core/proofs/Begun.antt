@@ -12,7 +12,7 @@ use Rattle.service_tree.specs.Members.{Service}
 use Rattle.change_record.specs.Tables.{Tables}
 use Rattle.change_record.specs.Exchange.{with_member, tree_at}
 use Rattle.change_record.specs.Machine.{Bfq, bfq_of, put}
-use Rattle.bfq_select.specs.Rules.{put_member}
+use Rattle.change_record.specs.Rules.{put_member}
 use Rattle.plain_machine.specs.Step.{Limits, with_first_budgets}
 use Rattle.dispatch_core.specs.WellFormed.{one}
 use Rattle.dispatch_core.proofs.Ruling.{put_set}

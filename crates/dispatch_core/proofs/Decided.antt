@@ -17,7 +17,7 @@ use Rattle.process_queue.specs.Queue.{is_empty}
 use Rattle.process_queue.specs.Merge.{merge_of}
 use Rattle.group_tree.specs.Groups.{has_entity}
 use Rattle.std.proofs.lemmas.Bool.{cases_lt}
-use Rattle.bfq_select.specs.Rules.{activate, stands}
+use Rattle.change_record.specs.Rules.{activate, stands}
 use Rattle.sector_core.specs.declared.config.Scheduler.{Scheduler}
 use Rattle.plain_machine.specs.declared.answer.Reply.{Reply}
 use Rattle.plain_machine.specs.declared.answer.Code.TheVariants.{NoSession, StaleSession, BadCount, BadLength, OutOfRange, TooManyBios, BadSeat, SeatTaken, NoGroup, BadPrio, VtimeFull, NothingQueued, NoTag, NotInFlight, BadOutcome, HistoryFull}

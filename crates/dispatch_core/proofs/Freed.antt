@@ -11,7 +11,7 @@ use Rattle.change_record.specs.declared.change.Seat.{Seat}
 use Rattle.change_record.specs.Tables.{Tables}
 use Rattle.change_record.specs.Exchange.{with_member, tree_at}
 use Rattle.change_record.specs.Machine.{Plain, meaning, bfq_of, put}
-use Rattle.bfq_select.specs.Rules.{group_of}
+use Rattle.change_record.specs.Rules.{group_of}
 use Rattle.plain_machine.specs.Step.{Limits, without_entity, without_gone}
 use Rattle.dispatch_core.specs.WellFormed.{at, taken, WellFormed}
 use Rattle.dispatch_core.specs.Changes.{leaving_entry, gone_tables, fewer_tables}

@@ -13,7 +13,7 @@ use Rattle.change_record.specs.declared.change.Change.TheVariants.{TreeMember, V
 use Rattle.change_record.specs.Tables.{Tables}
 use Rattle.change_record.specs.Exchange.{after, with_member, with_vtime, tree_at}
 use Rattle.change_record.specs.Machine.{Bfq, Plain, bfq_of, meaning, put}
-use Rattle.bfq_select.specs.Rules.{stands, group_of, put_vtime}
+use Rattle.change_record.specs.Rules.{stands, group_of, put_vtime}
 use Rattle.bfq_select.specs.Service.{IsSized, IsBounded}
 use Rattle.plain_machine.specs.declared.answer.Code.TheVariants.{NoGroup, RootGroup, BadWeight, TooDeep, GroupInUse}
 use Rattle.plain_machine.specs.declared.answer.Reply.TheVariants.{Group, Done}

@@ -10,8 +10,8 @@ use Rattle.process_queue.specs.Next.{next_slot, has_start}
 use Rattle.change_record.specs.declared.change.InService.{InService}
 use Rattle.change_record.specs.Tables.{Tables}
 use Rattle.change_record.specs.Machine.{WholeRequest, Bfq, Plain, meaning, whole_at, bfq_of, put}
-use Rattle.bfq_select.specs.declared.expiry.Expiry.TheVariants.{Emptying}
-use Rattle.bfq_select.specs.Rules.{charge, expire, select}
+use Rattle.change_record.specs.declared.change.Expiry.TheVariants.{Emptying}
+use Rattle.change_record.specs.Rules.{charge, expire, select}
 use Rattle.bfq_select.specs.Service.{IsSized, IsBounded, OnlyServes}
 use Rattle.plain_machine.specs.declared.answer.Reply.{Reply}
 use Rattle.plain_machine.specs.declared.answer.Reply.TheVariants.{Issued}

@@ -12,8 +12,8 @@ use Rattle.change_record.specs.Machine.{Bfq, WholeRequest, Plain, meaning, bfq_o
 use Rattle.bfq_select.specs.Service.{OnlyServes}
 use Rattle.dispatch_core.proofs.Ruling.{IsYoung, served-meaning}
 use Rattle.process_queue.specs.Next.{starts, wanted, has_start}
-use Rattle.bfq_select.specs.declared.expiry.Expiry.{Expiry}
-use Rattle.bfq_select.specs.Rules.{top, put_vtime, group_of, along, finish_from, stamped, stamp, picked, jumped, in_service, on_pick, taken, select_from, select, risen, charge_one, served_more, charge, ended, is_backlogged, rested, expire_one, out_of_service, expire}
+use Rattle.change_record.specs.declared.change.Expiry.{Expiry}
+use Rattle.change_record.specs.Rules.{top, put_vtime, group_of, along, finish_from, stamped, stamp, picked, jumped, in_service, on_pick, taken, select_from, select, risen, charge_one, served_more, charge, ended, is_backlogged, rested, expire_one, out_of_service, expire}
 use Rattle.plain_machine.specs.Step.{shape, size_of, next_request, next_size}
 use Rattle.plain_machine.specs.Whole.{IsWhole, AreWhole}
 

@@ -11,7 +11,7 @@ use Rattle.change_record.specs.declared.change.InService.{InService}
 use Rattle.change_record.specs.Tables.{Tables}
 use Rattle.change_record.specs.Exchange.{with_member, with_vtime, tree_at}
 use Rattle.change_record.specs.Machine.{Bfq, Plain, bfq_of, meaning, put}
-use Rattle.bfq_select.specs.Rules.{put_vtime, group_of}
+use Rattle.change_record.specs.Rules.{put_vtime, group_of}
 use Rattle.bfq_select.specs.Service.{IsSized, IsBounded, OnlyServes}
 use Rattle.plain_machine.specs.Step.{Limits, with_entity, without_entity, prio_weight}
 use Rattle.dispatch_core.specs.WellFormed.{WellFormed, Ruled}

@@ -4,7 +4,7 @@ use Rattle.std.specs.Option.{option_and_then}
 use Rattle.std.proofs.lemmas.Option.{same_Some}
 use Rattle.change_record.specs.Machine.{Bfq}
 use Rattle.group_tree.specs.Groups.{path}
-use Rattle.bfq_select.specs.Rules.{activate, activate_path, stamp, stamped, start_from, finish_from, member_of, is_idle, top}
+use Rattle.change_record.specs.Rules.{activate, activate_path, stamp, stamped, start_from, finish_from, member_of, is_idle, top}
 
 -- a stamp does
 stamp-slot : (start entity : ℕ) (b c : Bfq) → stamp start entity b ≡ Some c → c.slot ≡ b.slot

@@ -13,7 +13,7 @@ pub use Rattle.change_record.specs.Tape
 pub use Rattle.change_record.specs.Machine
 pub use Rattle.plain_machine.specs.Step
 pub use Rattle.plain_machine.specs.Entities
-pub use Rattle.bfq_select.specs.Rules
+pub use Rattle.change_record.specs.Rules
 pub use Rattle.bfq_select.specs.Service
 pub use Rattle.plain_machine.specs.Numbers
 pub use Rattle.plain_machine.specs.Keeper

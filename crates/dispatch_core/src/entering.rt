@@ -2,7 +2,7 @@
 ghost use Rattle.std.specs.Prelude.{◌≡◌, ◌+◌, ◌≤◌, length};
 ghost use Rattle.change_record.specs.Trail.{KeepsTrail};
 ghost use Rattle.change_record.specs.Machine.{bfq_of};
-ghost use Rattle.bfq_select.specs.Rules.{stands};
+ghost use Rattle.change_record.specs.Rules.{stands};
 ghost use Rattle.plain_machine.specs.Step.{of_sizes};
 ghost use Rattle.plain_machine.specs.Entities.{service_of};
 ghost use Rattle.dispatch_core.specs.Changes.{entered};

@@ -4,7 +4,7 @@ ghost use Rattle.process_queue.specs.Merge.{merge_place};
 ghost use Rattle.process_queue.specs.Queue.{is_empty, queue_slots};
 ghost use Rattle.change_record.specs.Trail.{KeepsTrail};
 ghost use Rattle.change_record.specs.Machine.{bfq_of, meaning};
-ghost use Rattle.bfq_select.specs.Rules.{activate};
+ghost use Rattle.change_record.specs.Rules.{activate};
 ghost use Rattle.bfq_select.specs.Service.{IsSized, IsBounded, OnlyServes};
 ghost use Rattle.plain_machine.specs.Step.{submit, merge_in, is_bfq, with_unreaped, of_sizes};
 ghost use Rattle.dispatch_core.specs.Counts.{submit_exchanges};

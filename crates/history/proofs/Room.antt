@@ -17,7 +17,7 @@ use Rattle.std.specs.Option.{option_map}
 use Rattle.sector_core.specs.declared.config.Scheduler.{Scheduler}
 use Rattle.sector_core.specs.declared.config.Scheduler.TheVariants.{Plain as PlainScheduler, Bfq as BfqScheduler}
 use Rattle.group_tree.specs.Groups.{depth, most_levels}
-use Rattle.bfq_select.specs.Rules.{stands}
+use Rattle.change_record.specs.Rules.{stands}
 use Rattle.plain_machine.specs.declared.answer.Reply.{Reply}
 use Rattle.plain_machine.specs.declared.answer.Reply.TheVariants.{Queued}
 

@@ -11,7 +11,7 @@ use Rattle.sector_core.specs.declared.config.Scheduler.{Scheduler}
 use Rattle.sector_core.specs.declared.config.Scheduler.TheVariants.{Plain as PlainScheduler, Bfq as BfqScheduler}
 use Rattle.process_queue.specs.Next.{has_start}
 use Rattle.group_tree.specs.Groups.{depth, most_levels}
-use Rattle.bfq_select.specs.Rules.{stands, charge}
+use Rattle.change_record.specs.Rules.{stands, charge}
 use Rattle.change_record.specs.declared.change.InService.{InService}
 use Rattle.change_record.specs.Machine.{WholeRequest, Flight, Bfq, Plain}
 use Rattle.plain_machine.specs.declared.answer.Reply.{Reply}

@@ -3,7 +3,7 @@ use Rattle.std.proofs.Common.{true, false, ◌≡◌, ◌≢◌, ℕ, ◌+◌, �
 use Rattle.group_tree.specs.Groups.{entity_of}
 use Rattle.change_record.specs.declared.change.InService.{InService}
 use Rattle.change_record.specs.Machine.{Bfq, put}
-use Rattle.bfq_select.specs.Rules.{budget_after}
+use Rattle.change_record.specs.Rules.{budget_after}
 use Rattle.plain_machine.specs.declared.call.Call.{Call}
 use Rattle.plain_machine.specs.Step.{Limits, opening_bfq, older}
 use Rattle.plain_machine.specs.Keeper.{machine_of, replay}

@@ -7,7 +7,7 @@ use Rattle.service_tree.specs.Members.{Service, is_active, numbered, lesser, lea
 use Rattle.change_record.specs.Exchange.{with_member, with_vtime}
 use Rattle.change_record.specs.Tables.{empty_service}
 use Rattle.change_record.specs.Machine.{Bfq, put}
-use Rattle.bfq_select.specs.Rules.{group_of, member_in, put_member, put_vtime, absent}
+use Rattle.change_record.specs.Rules.{group_of, member_in, put_member, put_vtime, absent}
 use Rattle.plain_machine.specs.declared.call.Call.{Call}
 use Rattle.plain_machine.specs.Step.{Limits, opening_bfq}
 use Rattle.plain_machine.proofs.Puts.{put_here, put_other, some_is}

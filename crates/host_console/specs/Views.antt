@@ -15,7 +15,7 @@ use Rattle.soft_queue.specs.Turn.{numbers}
 use Rattle.change_record.specs.declared.change.Seat.{Seat}
 use Rattle.change_record.specs.declared.change.InService.{InService}
 use Rattle.change_record.specs.Machine.{WholeRequest, Plain}
-use Rattle.bfq_select.specs.Rules.{group_of, vtime_of, stands}
+use Rattle.change_record.specs.Rules.{group_of, vtime_of, stands}
 use Rattle.plain_machine.specs.Step.{range_of, size_of, seat_of, is_in}
 use Rattle.plain_machine.specs.Entities.{entity_view}
 use Rattle.plain_machine.specs.declared.view.EntityView.{EntityView}

@@ -11,7 +11,7 @@ use Rattle.sector_core.specs.declared.range.Range.{Range}
 use Rattle.sector_core.specs.declared.config.Scheduler.{Scheduler}
 use Rattle.sector_core.specs.declared.config.Scheduler.TheVariants.{Plain as PlainScheduler, Bfq as BfqScheduler}
 use Rattle.group_tree.specs.Groups.{entity_of, depth, most_levels}
-use Rattle.bfq_select.specs.Rules.{put_vtime, stands}
+use Rattle.change_record.specs.Rules.{put_vtime, stands}
 use Rattle.change_record.specs.declared.change.InService.{InService}
 use Rattle.change_record.specs.Machine.{WholeRequest, Flight, Bfq, Plain, put}
 use Rattle.plain_machine.specs.declared.answer.Reply.{Reply}

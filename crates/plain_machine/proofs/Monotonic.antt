@@ -12,8 +12,8 @@ use Rattle.sector_core.specs.declared.config.Scheduler.TheVariants.{Plain as Pla
 use Rattle.process_queue.specs.Queue.{is_empty}
 use Rattle.process_queue.specs.Next.{has_start}
 use Rattle.group_tree.specs.Groups.{entity_of}
-use Rattle.bfq_select.specs.declared.expiry.Expiry.TheVariants.{Exhaustion, Timeout, Emptying}
-use Rattle.bfq_select.specs.Rules.{vtime_of, stands, group_of, put_vtime, select, charge, expire}
+use Rattle.change_record.specs.declared.change.Expiry.TheVariants.{Exhaustion, Timeout, Emptying}
+use Rattle.change_record.specs.Rules.{vtime_of, stands, group_of, put_vtime, select, charge, expire}
 use Rattle.change_record.specs.declared.change.InService.{InService}
 use Rattle.change_record.specs.Exchange.{with_vtime}
 use Rattle.service_tree.specs.Members.{Service}

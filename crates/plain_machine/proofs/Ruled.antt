@@ -9,7 +9,7 @@ use Rattle.sector_core.specs.declared.config.Scheduler.TheVariants.{Plain as Pla
 use Rattle.group_tree.specs.Groups.{entity_of}
 use Rattle.change_record.specs.declared.change.InService.{InService}
 use Rattle.change_record.specs.Machine.{WholeRequest, Bfq, Plain, put}
-use Rattle.bfq_select.specs.Rules.{group_of, member_of, put_member, put_vtime}
+use Rattle.change_record.specs.Rules.{group_of, member_of, put_member, put_vtime}
 use Rattle.plain_machine.specs.Step.{Limits, with_entity, prio_weight, submitted, without_entity, is_gone, without_gone, with_leaving, owed_fewer, left, is_leaving, seat_of, delivered, completed, after_outcome, after_finish, with_first_times, with_first_vtime, with_first_budgets, for_each, begun_again, older}
 use Rattle.plain_machine.proofs.Leads.{Leads}
 use Rattle.plain_machine.proofs.Rules.{Changes, woken-bfq, sent_by_bfq-rules}

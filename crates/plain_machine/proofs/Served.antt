@@ -8,7 +8,7 @@ use Rattle.change_record.specs.Machine.{WholeRequest, Bfq, Plain}
 use Rattle.process_queue.specs.Queue.{is_empty}
 use Rattle.process_queue.specs.Merge.{shape_of}
 use Rattle.process_queue.specs.Next.{start_of, starts, wanted, has_start, next_of}
-use Rattle.bfq_select.specs.Rules.{activate, charge}
+use Rattle.change_record.specs.Rules.{activate, charge}
 use Rattle.plain_machine.specs.declared.answer.Reply.{Reply}
 use Rattle.plain_machine.specs.Step.{Limits, is_bfq, woken, shape, range_of, next_request, with_budget_in, with_slot, without_first, without_empty, sent_next, sent_in, sent_by_bfq}
 use Rattle.plain_machine.proofs.Puts.{some_is, and_then_is, map_is}

@@ -4,7 +4,7 @@ use Rattle.std.specs.Option.{option_map_or}
 use Rattle.service_tree.specs.declared.member.State.{State}
 use Rattle.service_tree.specs.declared.member.State.TheVariants.{Idle, Active, Serving}
 use Rattle.change_record.specs.Machine.{Bfq, Plain}
-use Rattle.bfq_select.specs.Rules.{member_of, vtime_of, stands}
+use Rattle.change_record.specs.Rules.{member_of, vtime_of, stands}
 use Rattle.plain_machine.specs.declared.view.EntityView.{EntityView}
 
 -- the virtual time of a group that stands

@@ -27,8 +27,8 @@ use Rattle.sector_core.specs.declared.config.Scheduler.TheVariants.{Plain as Pla
 use Rattle.service_tree.specs.declared.member.State.TheVariants.{Idle}
 use Rattle.group_tree.specs.Groups.{entity_of, depth, most_levels}
 use Rattle.process_queue.specs.Next.{next_of, has_start}
-use Rattle.bfq_select.specs.declared.expiry.Expiry.TheVariants.{Exhaustion, Timeout, Emptying}
-use Rattle.bfq_select.specs.Rules.{group_of, member_of, put_member, put_vtime, stands, activate, select, charge, expire}
+use Rattle.change_record.specs.declared.change.Expiry.TheVariants.{Exhaustion, Timeout, Emptying}
+use Rattle.change_record.specs.Rules.{group_of, member_of, put_member, put_vtime, stands, activate, select, charge, expire}
 use Rattle.plain_machine.specs.declared.answer.Code.TheVariants.{BadSeat, SeatTaken, NoSession, StaleSession, NoGroup, BadPrio, BadCount, BadLength, OutOfRange, TooManyBios, NothingOwed, NothingQueued, NoTag, BadTag, NotInFlight, BadOutcome, RootGroup, BadWeight, TooDeep, GroupsFull, GroupInUse, AlreadyFrozen, NotFrozen, NotDrained, SameScheduler, NoneInService, VtimeFull, HistoryFull, OutOfMemory}
 use Rattle.plain_machine.specs.declared.answer.Cause.TheVariants.{Frozen, RequestsFull, NotCompleted}
 use Rattle.plain_machine.specs.declared.answer.Reply.{Reply}

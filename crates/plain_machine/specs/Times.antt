@@ -1,7 +1,7 @@
 -- What no step does to the virtual times of groups: let one fall.
 use Rattle.std.specs.Prelude.{◌≡◌, ℕ, ◌≤◌, Bool, true, false}
 use Rattle.change_record.specs.Machine.{Bfq, Plain}
-use Rattle.bfq_select.specs.Rules.{vtime_of, stands}
+use Rattle.change_record.specs.Rules.{vtime_of, stands}
 use Rattle.plain_machine.specs.declared.step.Step.{Step}
 use Rattle.plain_machine.specs.declared.step.Step.TheVariants.{Attach, Submit, Reap, Leave, Dispatch, Finish, Requeue, GroupMake, GroupDrop, SetWeight, Freeze, Thaw, Switch, Tick}
 use Rattle.plain_machine.specs.Step.{Limits, step}

@@ -6,7 +6,7 @@ use Rattle.std.proofs.lemmas.List.Concat.{flat_map-cons}
 use Rattle.soft_queue.specs.Turn.{numbers}
 use Rattle.change_record.specs.Machine.{Bfq, Plain}
 use Rattle.group_tree.specs.Groups.{has_entity}
-use Rattle.bfq_select.specs.Rules.{stands, vtime_of}
+use Rattle.change_record.specs.Rules.{stands, vtime_of}
 use Rattle.plain_machine.specs.Entities.{vtime_view}
 
 -- the texts from a place on are that of the item there, and those after it

@@ -1,7 +1,7 @@
 // The groups with their members, the queue in service, and what is stored.
 ghost use Rattle.std.specs.Prelude.{◌≡◌, ◌+◌, ◌∷◌, ◌++◌, true, codes, Option, OnOk};
 ghost use Rattle.std.specs.Fmt.{decimal};
-ghost use Rattle.bfq_select.specs.Rules.{stands};
+ghost use Rattle.change_record.specs.Rules.{stands};
 ghost use Rattle.sector_core.specs.declared.range.Range.{Range as RangeOf};
 ghost use Rattle.std.specs.List.{flat_map};
 ghost use Rattle.soft_queue.specs.Turn.{numbers};

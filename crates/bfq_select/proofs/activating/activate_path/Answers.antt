@@ -1,6 +1,6 @@
 use Rattle.std.proofs.Common.{◌≡◌, ◌+◌, ℕ, Some, true, get_or, ◌∙◌, arith, rules}
 use Rattle.change_record.specs.Machine.{Bfq, bfq_of}
-use Rattle.bfq_select.specs.Rules.{is_idle, member_of, start_from, stamp}
+use Rattle.change_record.specs.Rules.{is_idle, member_of, start_from, stamp}
 use Rattle.bfq_select.proofs.Courses.{course_more}
 use Rattle.bfq_select.proofs.Paths.{activate_more}
 use Rattle.bfq_select.proofs.activating.activate_path.Goals as goal

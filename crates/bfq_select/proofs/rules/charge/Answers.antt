@@ -2,7 +2,7 @@ use Rattle.std.proofs.Common.{◌≡◌, ◌+◌, ◌≤◌, Some, None, sym, ap
 use Rattle.group_tree.specs.Groups.{parent, path}
 use Rattle.change_record.specs.declared.change.InService.{InService}
 use Rattle.change_record.specs.Machine.{Bfq, bfq_of}
-use Rattle.bfq_select.specs.Rules.{served_more}
+use Rattle.change_record.specs.Rules.{served_more}
 use Rattle.bfq_select.proofs.Slots.{one_slot, charge_all}
 use Rattle.bfq_select.proofs.rules.charge.Goals as goal
 

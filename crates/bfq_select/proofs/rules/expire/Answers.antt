@@ -2,7 +2,7 @@ use Rattle.std.proofs.Common.{◌≡◌, Some, None, sym, ap, ◌∙◌, rules}
 use Rattle.group_tree.specs.Groups.{parent, path}
 use Rattle.change_record.specs.declared.change.InService.{InService}
 use Rattle.change_record.specs.Machine.{Bfq, bfq_of}
-use Rattle.bfq_select.specs.Rules.{out_of_service}
+use Rattle.change_record.specs.Rules.{out_of_service}
 use Rattle.bfq_select.proofs.Slots.{expire_all}
 use Rattle.bfq_select.proofs.rules.expire.Goals as goal
 

@@ -1,7 +1,7 @@
 use Rattle.std.proofs.Common.{◌≡◌, ◌+◌, length, true, subst, sym, ap, ◌∙◌, arith, rules}
 use Rattle.change_record.specs.Tables.{Tables}
 use Rattle.change_record.specs.Machine.{bfq_of, meaning}
-use Rattle.bfq_select.specs.Rules.{stands}
+use Rattle.change_record.specs.Rules.{stands}
 use Rattle.dispatch_core.specs.WellFormed.{WellFormed}
 use Rattle.dispatch_core.specs.Changes.{attached_tables}
 use Rattle.plain_machine.specs.Step.{of_sizes}

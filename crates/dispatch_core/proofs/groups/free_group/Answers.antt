@@ -1,6 +1,6 @@
 use Rattle.std.proofs.Common.{◌≡◌, false, arith, rules}
 use Rattle.change_record.specs.Machine.{bfq_of}
-use Rattle.bfq_select.specs.Rules.{stands}
+use Rattle.change_record.specs.Rules.{stands}
 use Rattle.dispatch_core.proofs.Grouping.{free_is, free_none}
 use Rattle.dispatch_core.proofs.groups.free_group.Goals as goal
 

@@ -5,7 +5,7 @@ use Rattle.change_record.specs.Tables.{Tables}
 use Rattle.change_record.specs.Exchange.{after}
 use Rattle.change_record.specs.Trail.{IsTrail}
 use Rattle.change_record.specs.Machine.{bfq_of, meaning}
-use Rattle.bfq_select.specs.Rules.{stands, group_of}
+use Rattle.change_record.specs.Rules.{stands, group_of}
 use Rattle.plain_machine.specs.Step.{of_sizes, is_used}
 use Rattle.plain_machine.specs.declared.answer.Answer.TheVariants.{Accepted}
 use Rattle.plain_machine.specs.declared.answer.Reply.TheVariants.{Done}

@@ -6,7 +6,7 @@ use Rattle.change_record.specs.Exchange.{after}
 use Rattle.change_record.specs.Trail.{IsTrail}
 use Rattle.change_record.specs.Machine.{bfq_of, meaning}
 use Rattle.group_tree.specs.Groups.{depth}
-use Rattle.bfq_select.specs.Rules.{stands}
+use Rattle.change_record.specs.Rules.{stands}
 use Rattle.plain_machine.specs.Step.{of_sizes, group_make, is_weight, free_group, Outcome_of, MayGiveWay}
 use Rattle.plain_machine.specs.declared.answer.Answer.TheVariants.{Accepted}
 use Rattle.plain_machine.specs.declared.answer.Reply.TheVariants.{Group}

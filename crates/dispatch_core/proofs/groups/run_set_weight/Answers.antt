@@ -3,7 +3,7 @@ use Rattle.change_record.specs.declared.change.Change.TheVariants.{Pending}
 use Rattle.change_record.specs.Tables.{Tables}
 use Rattle.change_record.specs.Exchange.{after}
 use Rattle.change_record.specs.Machine.{bfq_of, meaning}
-use Rattle.bfq_select.specs.Rules.{stands}
+use Rattle.change_record.specs.Rules.{stands}
 use Rattle.plain_machine.specs.Step.{of_sizes, is_weight}
 use Rattle.plain_machine.specs.declared.answer.Answer.TheVariants.{Accepted}
 use Rattle.plain_machine.specs.declared.answer.Reply.TheVariants.{Done}

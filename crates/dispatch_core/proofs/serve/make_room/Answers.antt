@@ -1,7 +1,7 @@
 use Rattle.std.proofs.Common.{◌≡◌, Some, None, true}
 use Rattle.change_record.specs.Machine.{bfq_of}
-use Rattle.bfq_select.specs.declared.expiry.Expiry.TheVariants.{Exhaustion, Timeout}
-use Rattle.bfq_select.specs.Rules.{expire}
+use Rattle.change_record.specs.declared.change.Expiry.TheVariants.{Exhaustion, Timeout}
+use Rattle.change_record.specs.Rules.{expire}
 use Rattle.plain_machine.specs.Step.{of_sizes}
 use Rattle.dispatch_core.proofs.Ruling.{served-well}
 use Rattle.dispatch_core.proofs.NextSlot.{expire_slot, no_slot_young}

@@ -1,8 +1,8 @@
 use Rattle.std.proofs.Common.{◌≡◌, ℕ, ◌+◌, ◌≤◌, Option, Some, None, true, false, sym, ap, ◌∙◌, subst, arith, rules}
 use Rattle.std.proofs.lemmas.Option.{same_Some}
 use Rattle.sector_core.specs.declared.range.Range.{Range}
-use Rattle.bfq_select.specs.declared.expiry.Expiry.TheVariants.{Emptying}
-use Rattle.bfq_select.specs.Rules.{charge, expire}
+use Rattle.change_record.specs.declared.change.Expiry.TheVariants.{Emptying}
+use Rattle.change_record.specs.Rules.{charge, expire}
 use Rattle.request_pool.specs.declared.Request.{Request}
 use Rattle.process_queue.specs.Queue.{queue_slots, is_empty}
 use Rattle.process_queue.specs.Merge.{bios_at}

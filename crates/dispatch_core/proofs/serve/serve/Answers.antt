@@ -4,7 +4,7 @@ use Rattle.change_record.specs.declared.change.InService.{InService as ServiceSl
 use Rattle.change_record.specs.Tables.{Tables, Loose}
 use Rattle.change_record.specs.Trail.{IsTrail}
 use Rattle.change_record.specs.Machine.{Plain, Bfq, meaning, bfq_of}
-use Rattle.bfq_select.specs.Rules.{select}
+use Rattle.change_record.specs.Rules.{select}
 use Rattle.bfq_select.specs.Service.{OnlyServes}
 use Rattle.plain_machine.specs.declared.answer.Reply.{Reply}
 use Rattle.plain_machine.specs.Step.{of_sizes, next_size, with_slot, sent_by_bfq}

@@ -18,7 +18,7 @@ use Rattle.dispatch_core.proofs.Decided.{submit_full, submit_goes, not_both, nee
 use Rattle.dispatch_core.proofs.Merges.{merge_none}
 use Rattle.process_queue.specs.Queue.{is_empty, queue_slots}
 use Rattle.change_record.specs.Machine.{bfq_of, whole_at}
-use Rattle.bfq_select.specs.Rules.{activate}
+use Rattle.change_record.specs.Rules.{activate}
 use Rattle.plain_machine.specs.declared.answer.Reply.{Reply}
 use Rattle.plain_machine.specs.declared.answer.Code.TheVariants.{VtimeFull}
 use Rattle.plain_machine.specs.Step.{is_bfq, woken}

@@ -4,7 +4,7 @@ use Rattle.std.specs.Fmt.{decimal}
 use Rattle.soft_queue.specs.Turn.{numbers}
 use Rattle.change_record.specs.Machine.{Plain}
 use Rattle.dispatch_core.specs.Running.{plain_of}
-use Rattle.bfq_select.specs.Rules.{vtime_of}
+use Rattle.change_record.specs.Rules.{vtime_of}
 use Rattle.host_console.specs.Views.{parent_text, member_text, tree_look}
 use Rattle.script_host.proofs.Told.{on_ok, stands_of}
 use Rattle.script_host.proofs.entities.put_tree.Goals as goal

@@ -2,7 +2,7 @@ use Rattle.std.proofs.Common.{◌≡◌, [], None, Some, true, cond, sym, ap, �
 use Rattle.std.specs.Prelude.{slice_get}
 use Rattle.change_record.specs.Tables.{Tables}
 use Rattle.change_record.specs.Machine.{bfq_of}
-use Rattle.bfq_select.specs.Rules.{stands, vtime_of}
+use Rattle.change_record.specs.Rules.{stands, vtime_of}
 use Rattle.dispatch_core.proofs.Grouping.{get-none}
 use Rattle.dispatch_core.proofs.machine.View.vtime.Goals as goal
 

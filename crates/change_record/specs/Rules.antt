@@ -9,8 +9,8 @@ use Rattle.group_tree.specs.Groups.{path, has_entity}
 use Rattle.change_record.specs.declared.change.InService.{InService}
 use Rattle.change_record.specs.Exchange.{with_member, with_vtime}
 use Rattle.change_record.specs.Machine.{Bfq, put}
-use Rattle.bfq_select.specs.declared.expiry.Expiry.{Expiry}
-use Rattle.bfq_select.specs.declared.expiry.Expiry.TheVariants.{Exhaustion, Timeout, Emptying}
+use Rattle.change_record.specs.declared.change.Expiry.{Expiry}
+use Rattle.change_record.specs.declared.change.Expiry.TheVariants.{Exhaustion, Timeout, Emptying}
 
 -- no time is greater; a rule that would make a greater one is refused (our profile)
 abbrev pub top : ℕ
