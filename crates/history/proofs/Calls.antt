@@ -9,6 +9,7 @@ use Rattle.plain_machine.specs.declared.answer.Answer.TheVariants.{Accepted, Ref
 use Rattle.plain_machine.specs.declared.answer.Reply.{Reply}
 use Rattle.plain_machine.specs.declared.answer.Reply.TheVariants.{Moved, Done}
 use Rattle.plain_machine.specs.declared.answer.Code.{Code}
+use Rattle.plain_machine.specs.declared.answer.Code.TheVariants.{OutOfMemory}
 use Rattle.plain_machine.specs.declared.answer.Cause.{Cause}
 use Rattle.plain_machine.specs.declared.answer.Cause.TheVariants.{Held}
 use Rattle.plain_machine.specs.Step.{Limits, of_sizes, step, IsAccepted, MayGiveWay}
@@ -88,6 +89,14 @@ may-wait r new held room journal now most s cause h e j may =
       | inl x ↦ inl (ap (λ n. (n, NotYet cause)) (same-state r new held journal now most x.1 j) ∙ sym (step-done k s (NotYet cause) h (sym x.0)))
       | inr x ↦ inr (subst (λ o. MayGiveWay o.1) (sym (step-done k s _ h refl)) (did-accepted k s _ x.0), tt, x.1, same-state r new held journal now most x.2 j)
     ]
+
+-- a redo that wants memory
+pub redo-wants : (r new : Line) (held : Bool) (journal now : List Call) (most n : ℕ)
+    → held ≡ true → (n == 0) ≡ false → nat_lt (length r.steps) (r.cursor + n) ≡ false → nat_lt (length journal) most ≡ true → SameLine r new → now ≡ journal
+    → MayCall (state_of r held journal most) (Redo n) (Refused OutOfMemory) (state_of new held now most)
+redo-wants r new held journal now most n h z c room same e =
+    let k : State = state_of r held journal most in
+    inr (subst (λ o. MayGiveWay o.1) (sym (redo-done k n h z c room)) tt, tt, refl, same-state r new held journal now most same e)
 
 -- the line is the same after a step that is not accepted
 pub same-refused : (r new : Line) (room : Bool) (s : Step) (code : Code) → MayStep r room s (Refused code) new → SameLine r new

@@ -216,6 +216,10 @@ get-last (y ∷ xs) x d = get-last xs x d
 last-number : {A : Type 0} (xs : List A) (x : A) → length (xs ++ x ∷ []) - 1 ≡ length xs
 last-number xs x = let e : length (xs ++ x ∷ []) ≡ length xs + 1 = length-append xs (x ∷ []) in omega (arith, e)
 
+-- an accepted step makes one more
+pub length-added : (all steps : List (List Change)) (c : List Change) → all ≡ steps ++ c ∷ [] → length all ≡ length steps + 1
+length-added all steps c h = ap length h ∙ length-append steps (c ∷ [])
+
 -- only the last of the steps from a number on is kept
 pub kept-last : (steps : List (List Change)) (c : List Change) (k : ℕ) → k ≤ length steps
     → take k (steps ++ c ∷ []) ++ step_at (steps ++ c ∷ []) (length (steps ++ c ∷ []) - 1) ∷ [] ≡ take k steps ++ c ∷ []

@@ -121,9 +121,16 @@ impl Keeper {
         }
         let room = has_room(&self.journal, self.most);
         let entry = entry_of(&mut self.journal, self.roll.cursor(), step);
+        // A call drops the entry: so no way out proves the drop of each part of it anew.
         match self.roll.step(alloc, room, entry.is_some(), step) {
-            Answer::Refused(code) => return Answer::Refused(code),
-            Answer::NotYet(cause) => return Answer::NotYet(cause),
+            Answer::Refused(code) => {
+                drop(entry);
+                return Answer::Refused(code);
+            }
+            Answer::NotYet(cause) => {
+                drop(entry);
+                return Answer::NotYet(cause);
+            }
             Answer::Accepted(reply) => match entry {
                 Some(entry) => {
                     push_within(&mut self.journal, entry);

@@ -112,12 +112,19 @@ impl Roll {
     {
         let copy = copy_of(&mut self.line, ready, step);
         let serial = self.last + 1;
+        // A call drops what is left over: so no way out proves the drop of each part anew.
         match self
             .machine
             .apply(alloc, serial, room, step, &mut self.tape)
         {
-            Answer::Refused(code) => return Answer::Refused(code),
-            Answer::NotYet(cause) => return Answer::NotYet(cause),
+            Answer::Refused(code) => {
+                drop(copy);
+                return Answer::Refused(code);
+            }
+            Answer::NotYet(cause) => {
+                drop(copy);
+                return Answer::NotYet(cause);
+            }
             Answer::Accepted(reply) => match copy {
                 Some(step) => {
                     self.tape.keep_last(self.cursor);
@@ -130,6 +137,7 @@ impl Roll {
                     let at = self.tape.len() - 1;
                     self.machine.back(&mut self.tape, at);
                     self.tape.drop_last();
+                    drop(reply);
                     return Answer::Refused(Code::OutOfMemory);
                 }
             },

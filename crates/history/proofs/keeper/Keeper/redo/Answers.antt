@@ -1,12 +1,61 @@
-use Rattle.std.proofs.Common.{true, false, ◌≡◌, ℕ, ◌+◌, ◌==◌, nat_lt, [], ◌∷◌, ◌++◌, length, sym, ap, ◌∙◌, arith, rules}
+use Rattle.std.proofs.Common.{true, false, ◌≡◌, ℕ, ◌+◌, ◌==◌, nat_lt, [], ◌∷◌, ◌++◌, length, sym, ap, ◌∙◌, refl, subst, arith, rules}
 use Rattle.plain_machine.specs.declared.call.Call.TheVariants.{Redo}
-use Rattle.plain_machine.specs.declared.answer.Answer.TheVariants.{Accepted}
+use Rattle.plain_machine.specs.declared.answer.Answer.TheVariants.{Accepted, Refused}
 use Rattle.plain_machine.specs.declared.answer.Reply.TheVariants.{Moved}
-use Rattle.plain_machine.specs.Keeper.{State}
+use Rattle.plain_machine.specs.declared.answer.Code.TheVariants.{OutOfMemory}
+use Rattle.plain_machine.specs.Keeper.{State, MayCall}
 use Rattle.history.specs.Keeping.{state_of}
 use Rattle.plain_machine.specs.Step.{of_sizes}
-use Rattle.history.proofs.Calls.{keeper-more, redo-done}
+use Rattle.history.proofs.Calls.{keeper-same, keeper-more, redo-done, redo-wants}
 use Rattle.history.proofs.keeper.Keeper.redo.Goals as goal
+
+-- where there is no memory, all is as it was
+
+pub invariant_of-self : goal.invariant_of-self
+invariant_of-self c =
+    let i = c.self.inside in
+    let e = c.reserved.ensures in
+    keeper-same i.roll i.roll i.held i.journal.items _ _ _ _ _ i.most (record { sizes = refl; steps = refl; cursor = refl; last = refl })
+    e.items e.len e.capacity c.self.invariant
+
+pub invariant_of-self-in-Err : goal.invariant_of-self-in-Err
+invariant_of-self-in-Err c =
+    let i = c.self.inside in
+    let e = c.reserved.ensures in
+    let r = c.in-Err.ensures in
+    keeper-same i.roll c.redo_steps.new.roll i.held i.journal.items _ _ _ _ _ i.most (record { sizes = r.sizes; steps = r.steps; cursor = r.err; last = r.last })
+    e.items e.len e.capacity c.self.invariant
+
+pub returns-in-Err-clause-may : goal.returns-in-Err-clause-may
+returns-in-Err-clause-may c =
+    let i = c.self.inside in
+    let n : ℕ = c.args.k in
+    let r = c.in-Err.ensures in
+    let room : nat_lt (length i.journal.items) i.most ≡ true = sym c.has_room.ensures ∙ c.if-not-has_room.false in
+    let at = c.cursor.ensures.cursor in
+    let long = c.length.ensures in
+    let few = c.if-length-end.false in
+    let positive = c.if-k-eq0.false in
+    let enough : nat_lt (length i.roll.steps) (i.roll.cursor + n) ≡ false = search (rules, at, long, few) in
+    let some : (n == 0) ≡ false = search (rules, positive) in
+    let P : State → Type 0 = λ s. MayCall s (Redo n) (Refused OutOfMemory) (state_of c.redo_steps.new.roll i.held c.reserved.new.journal.items i.most) in
+    subst P (ap (λ v. v.state) c.self.view_is) (redo-wants i.roll c.redo_steps.new.roll i.held i.journal.items _ i.most n c.if-not-self.false some enough room
+    (record { sizes = r.sizes; steps = r.steps; cursor = r.err; last = r.last }) c.reserved.ensures.items)
+
+pub returns-then-not-reserved-clause-may : goal.returns-then-not-reserved-clause-may
+returns-then-not-reserved-clause-may c =
+    let i = c.self.inside in
+    let n : ℕ = c.args.k in
+    let room : nat_lt (length i.journal.items) i.most ≡ true = sym c.has_room.ensures ∙ c.if-not-has_room.false in
+    let at = c.cursor.ensures.cursor in
+    let long = c.length.ensures in
+    let few = c.if-length-end.false in
+    let positive = c.if-k-eq0.false in
+    let enough : nat_lt (length i.roll.steps) (i.roll.cursor + n) ≡ false = search (rules, at, long, few) in
+    let some : (n == 0) ≡ false = search (rules, positive) in
+    let P : State → Type 0 = λ s. MayCall s (Redo n) (Refused OutOfMemory) (state_of i.roll i.held c.reserved.new.journal.items i.most) in
+    subst P (ap (λ v. v.state) c.self.view_is) (redo-wants i.roll i.roll i.held i.journal.items _ i.most n c.if-not-self.false some enough room
+    (record { sizes = refl; steps = refl; cursor = refl; last = refl }) c.reserved.ensures.items)
 
 pub invariant_of-self-2 : goal.invariant_of-self-2
 invariant_of-self-2 c =

@@ -1,5 +1,5 @@
 use Rattle.std.proofs.Common.{◌≡◌, ℕ, ◌+◌, List, [], ◌∷◌, ◌++◌, take, sym, ap, ◌∙◌, subst}
-use Rattle.std.proofs.lemmas.List.{take_more}
+use Rattle.std.proofs.lemmas.List.{take_more, take_all}
 use Rattle.plain_machine.specs.Keeper.{MayRun}
 use Rattle.plain_machine.specs.declared.call.Call.{Call}
 use Rattle.plain_machine.specs.declared.answer.Answer.{Answer}
@@ -24,3 +24,27 @@ loop-made-preserved c =
       kept = subst R (sym cut) (subst S (sym now) (kept-more c.args.self.now c.loop-made.self c.call.new.self (take made calls) c.loop-made.answers.items call c.call.result
           c.loop-made.invariant.kept c.call.ensures.may c.call.ensures.turns));
     }
+
+pub returns-in-Err-clause-err : goal.returns-in-Err-clause-err
+returns-in-Err-clause-err c =
+    let l = c.loop-made in
+    let P : List Answer → Type 0 = λ answers. MayRun c.args.self.now.state (take l.made c.args.calls.now) answers l.self.state in
+    subst P (sym c.reserve.ensures.items) l.invariant.run
+
+pub returns-in-Err-clause-stop_turns : goal.returns-in-Err-clause-stop_turns
+returns-in-Err-clause-stop_turns c =
+    let l = c.loop-made in
+    let P : List Answer → Type 0 = λ answers. KeptRun c.args.self.now (take l.made c.args.calls.now) answers l.self in
+    subst P (sym c.reserve.ensures.items) l.invariant.kept
+
+pub returns-clause-ok : goal.returns-clause-ok
+returns-clause-ok c =
+    let l = c.loop-made in
+    let P : List Call → Type 0 = λ calls. MayRun c.args.self.now.state calls l.answers.items l.self.state in
+    subst P (take_all l.made c.args.calls.now c.loop-made-test.false) l.invariant.run
+
+pub returns-clause-turns : goal.returns-clause-turns
+returns-clause-turns c =
+    let l = c.loop-made in
+    let P : List Call → Type 0 = λ calls. KeptRun c.args.self.now calls l.answers.items l.self in
+    subst P (take_all l.made c.args.calls.now c.loop-made-test.false) l.invariant.kept

@@ -1,12 +1,20 @@
-use Rattle.std.proofs.Common.{ℕ, suc, ◌<◌, [], length, sym, ap, ◌∙◌, subst, arith}
+use Rattle.std.proofs.Common.{ℕ, suc, ◌+◌, ◌<◌, ◌%◌, ◌^◌, [], length, get_or, sym, ap, ◌∙◌, subst, arith}
 use Rattle.std.proofs.Common.{map}
 use Rattle.std.proofs.Math.Seq.{map-set_same}
+use Rattle.std.proofs.lemmas.List.{get_or-map}
 use Rattle.change_record.specs.Tape.{step_at}
 use Rattle.change_record.specs.Exchange.{forth_left}
 use Rattle.change_record.proofs.Exchanges.{length-forth_left}
 use Rattle.history.proofs.Ways.{same-line, redo-line, next-waits}
 use Rattle.history.specs.Line.{IsLine}
 use Rattle.history.proofs.roll.Roll.redo.Goals as goal
+
+pub forth-requires-clause-there : goal.forth-requires-clause-there
+forth-requires-clause-there c =
+    let i = c.self.inside in
+    let lt : i.cursor < length i.line.items = subst (λ v. v.cursor < length v.steps) (sym c.self.view_is) c.requires in
+    let even = c.self.invariant.even in
+    omega (arith, lt, even)
 
 pub forth-requires-clause-puts : goal.forth-requires-clause-puts
 forth-requires-clause-puts c =
@@ -30,3 +38,21 @@ returns-in-Ok-clause-lengths c =
     ap (map length) c.in-Ok.ensures.steps
     ∙ map-set_same length i.tape.steps k (forth_left (step_at i.tape.steps k) i.machine.tables) [] (length-forth_left (step_at i.tape.steps k) i.machine.tables)
     ∙ ap (λ v. v.lengths) c.self.view_is
+
+pub invariant_of-self-in-Err : goal.invariant_of-self-in-Err
+invariant_of-self-in-Err c =
+    let i = c.self.inside in
+    let e = c.in-Err.ensures in
+    same-line i.line.items i.cursor i.last _ _ _ _ _ _ _ _ e.sizes e.err e.kept e.current c.self.invariant
+
+pub returns-in-Err-clause-lengths : goal.returns-in-Err-clause-lengths
+returns-in-Err-clause-lengths c = ap (map length) c.in-Err.ensures.kept ∙ ap (λ v. v.lengths) c.self.view_is
+
+pub returns-in-Ok-clause-turns : goal.returns-in-Ok-clause-turns
+returns-in-Ok-clause-turns c =
+    let i = c.self.inside in
+    let lt : i.cursor < length i.line.items = subst (λ v. v.cursor < length v.steps) (sym c.self.view_is) c.requires in
+    let even = c.self.invariant.even in
+    c.in-Ok.ensures.turns
+    ∙ ap (λ n. (i.machine.turns + n) % 2 ^ 64) (sym (get_or-map length i.tape.steps i.cursor [] 0 (omega (arith, lt, even))))
+    ∙ ap (λ v. (v.turns + get_or v.lengths v.cursor 0) % 2 ^ 64) c.self.view_is

@@ -1,7 +1,8 @@
-use Rattle.std.proofs.Common.{◌≡◌, ℕ, suc, ◌+◌, ◌-◌, ◌≤◌, List, [], ◌∷◌, ◌++◌, length, take, refl, sym, ap, ◌∙◌, subst, arith}
+use Rattle.std.proofs.Common.{◌≡◌, ℕ, suc, ◌+◌, ◌-◌, ◌≤◌, List, [], ◌∷◌, ◌++◌, length, take, set, refl, sym, ap, ◌∙◌, subst, arith}
 use Rattle.plain_machine.specs.declared.answer.Answer.TheVariants.{Accepted, Refused, NotYet}
 use Rattle.plain_machine.specs.declared.answer.Code.TheVariants.{OutOfMemory}
-use Rattle.std.proofs.Common.{true, map}
+use Rattle.std.proofs.Common.{true, map, length-set}
+use Rattle.change_record.specs.declared.change.Change.{Change}
 use Rattle.change_record.specs.Machine.{Plain}
 use Rattle.change_record.specs.Tape.{step_at}
 use Rattle.plain_machine.specs.declared.sizes.Sizes.{Sizes}
@@ -15,7 +16,8 @@ use Rattle.dispatch_core.specs.Running.{plain_of}
 use Rattle.history.specs.Line.{IsLine}
 use Rattle.history.specs.Roll.{Line, plain_at, MayStep}
 use Rattle.history.proofs.Lines.{past-fold}
-use Rattle.history.proofs.Ways.{same-line, step-line, made, may-other, may-accept, may-want, kept-last}
+use Rattle.change_record.specs.Exchange.{back_tables, FitBack}
+use Rattle.history.proofs.Ways.{same-line, step-line, made, may-other, may-accept, may-want, kept-last, added-last, dropped-last, length-added}
 use Rattle.history.proofs.roll.Roll.step.Goals as goal
 
 pub returns-in-Refused-clause-may : goal.returns-in-Refused-clause-may
@@ -106,3 +108,120 @@ returns-in-Some-clause-lengths c =
     let M : Plain → Type 0 = λ m. IsCount m s (length r.0) in
     let Q : Line → Type 0 = λ v. IsCount (plain_at v) s (length r.0) in
     (length r.0, subst P c.self.view_is lists, subst Q c.self.view_is (subst M plain r.2))
+
+-- the machine and its tape are as they were, and the line too
+pub invariant_of-self : goal.invariant_of-self
+invariant_of-self c =
+    let i = c.self.inside in
+    let r = c.in-Refused.ensures.records in
+    let P : List Stamped → Type 0 = λ l. IsLine l i.cursor i.last c.apply.new.self.sizes c.apply.new.self.tables c.apply.new.tape.steps c.apply.new.tape.current in
+    subst P (sym c.copy_of-copy.ensures.items) (same-line i.line.items i.cursor i.last _ _ _ _ _ _ _ _ c.apply.ensures.sizes r.1 r.0
+    (c.apply.ensures.idle ∙ sym c.self.invariant.idle) c.self.invariant)
+
+pub returns-in-Refused-clause-lengths : goal.returns-in-Refused-clause-lengths
+returns-in-Refused-clause-lengths c = ap (map length) c.in-Refused.ensures.records.0 ∙ ap (λ v. v.lengths) c.self.view_is
+
+pub returns-in-Refused-clause-ready : goal.returns-in-Refused-clause-ready
+returns-in-Refused-clause-ready c = λ h. absurd h
+
+pub invariant_of-self-in-NotYet : goal.invariant_of-self-in-NotYet
+invariant_of-self-in-NotYet c =
+    let i = c.self.inside in
+    let r = c.in-NotYet.ensures.records in
+    let P : List Stamped → Type 0 = λ l. IsLine l i.cursor i.last c.apply.new.self.sizes c.apply.new.self.tables c.apply.new.tape.steps c.apply.new.tape.current in
+    subst P (sym c.copy_of-copy.ensures.items) (same-line i.line.items i.cursor i.last _ _ _ _ _ _ _ _ c.apply.ensures.sizes r.1 r.0
+    (c.apply.ensures.idle ∙ sym c.self.invariant.idle) c.self.invariant)
+
+pub returns-in-NotYet-clause-lengths : goal.returns-in-NotYet-clause-lengths
+returns-in-NotYet-clause-lengths c = ap (map length) c.in-NotYet.ensures.records.0 ∙ ap (λ v. v.lengths) c.self.view_is
+
+pub returns-in-NotYet-clause-ready : goal.returns-in-NotYet-clause-ready
+returns-in-NotYet-clause-ready c = λ h. absurd h
+
+pub returns-in-Some-clause-ready : goal.returns-in-Some-clause-ready
+returns-in-Some-clause-ready c = λ h. c.in-Some.ensures.wanted
+
+pub keep_last-requires-clause-there : goal.keep_last-requires-clause-there
+keep_last-requires-clause-there c =
+    let within = c.self.invariant.within in
+    let even = c.self.invariant.even in
+    let r = c.in-Accepted.ensures.records in
+    let more = length-added c.apply.new.tape.steps c.self.inside.tape.steps r.0 r.1 in
+    omega (arith, within, even, more)
+
+pub keep_last-requires-clause-idle : goal.keep_last-requires-clause-idle
+keep_last-requires-clause-idle c = c.apply.ensures.idle
+
+pub cut_and_push-requires-clause-within : goal.cut_and_push-requires-clause-within
+cut_and_push-requires-clause-within c =
+    let P : List Stamped → Type 0 = λ l. c.self.inside.cursor ≤ length l in
+    subst P (sym c.copy_of-copy.ensures.items) c.self.invariant.within
+
+pub overflow_sub-at : goal.overflow_sub-at
+overflow_sub-at c =
+    let r = c.in-Accepted.ensures.records in
+    let more = length-added c.apply.new.tape.steps c.self.inside.tape.steps r.0 r.1 in
+    let len = c.len-at.ensures in
+    omega (arith, more, len)
+
+pub back-requires-clause-there : goal.back-requires-clause-there
+back-requires-clause-there c =
+    let r = c.in-Accepted.ensures.records in
+    let more = length-added c.apply.new.tape.steps c.self.inside.tape.steps r.0 r.1 in
+    let len = c.len-at.ensures in
+    omega (arith, more, len)
+
+pub drop_last-requires-clause-there : goal.drop_last-requires-clause-there
+drop_last-requires-clause-there c =
+    let r = c.in-Accepted.ensures.records in
+    let more = length-added c.apply.new.tape.steps c.self.inside.tape.steps r.0 r.1 in
+    let same = ap length c.back.ensures.steps ∙ length-set c.apply.new.tape.steps _ _ in
+    omega (arith, more, same)
+
+pub drop_last-requires-clause-idle : goal.drop_last-requires-clause-idle
+drop_last-requires-clause-idle c = c.back.ensures.current ∙ c.apply.ensures.idle
+
+-- the step that is taken back is the last of the tape
+taken-back : (all steps : List (List Change)) (changes : List Change) (n : ℕ) → n ≡ length all → all ≡ steps ++ changes ∷ [] → step_at all (n - 1) ≡ changes
+taken-back all steps changes n e h =
+    ap (λ x. step_at all (x - 1)) e ∙ ap (λ l. step_at l (length l - 1)) h ∙ added-last steps changes
+
+-- without it the tape is as it was
+steps-before : (all now steps : List (List Change)) (changes left : List Change) (n : ℕ) → n ≡ length all → all ≡ steps ++ changes ∷ [] → now ≡ set all (n - 1) left
+    → take (length now - 1) now ≡ steps
+steps-before all now steps changes left n e h w =
+    ap (λ l. take (length l - 1) l) w
+    ∙ ap (λ x. take (length (set all (x - 1) left) - 1) (set all (x - 1) left)) e
+    ∙ ap (λ l. take (length (set l (length l - 1) left) - 1) (set l (length l - 1) left)) h
+    ∙ dropped-last steps changes left
+
+pub back-requires-clause-fits : goal.back-requires-clause-fits
+back-requires-clause-fits c =
+    let r = c.in-Accepted.ensures.records in
+    let P : List Change → Type 0 = λ d. FitBack d c.apply.new.self.tables in
+    subst P (sym (taken-back c.apply.new.tape.steps c.self.inside.tape.steps r.0 c.len-at.result c.len-at.ensures r.1)) r.3.fits
+
+pub invariant_of-self-in-None : goal.invariant_of-self-in-None
+invariant_of-self-in-None c =
+    let i = c.self.inside in
+    let r = c.in-Accepted.ensures.records in
+    let e = c.back.ensures in
+    let all : List (List Change) = c.apply.new.tape.steps in
+    let n : ℕ = c.len-at.result in
+    let last = taken-back all i.tape.steps r.0 n c.len-at.ensures r.1 in
+    let tables : c.back.new.self.tables ≡ i.machine.tables = e.tables ∙ ap (λ d. back_tables d c.apply.new.self.tables) last ∙ r.3.back in
+    let tapes : c.drop_last.new.self.steps ≡ i.tape.steps =
+    c.drop_last.ensures.steps ∙ steps-before all c.back.new.tape.steps i.tape.steps r.0 _ n c.len-at.ensures r.1 e.steps in
+    let P : List Stamped → Type 0 = λ l. IsLine l i.cursor i.last c.back.new.self.sizes c.back.new.self.tables c.drop_last.new.self.steps c.drop_last.new.self.current in
+    subst P (sym c.copy_of-copy.ensures.items) (same-line i.line.items i.cursor i.last _ _ _ _ _ _ _ _ (e.sizes ∙ c.apply.ensures.sizes) tables tapes
+    (c.drop_last.ensures.current ∙ sym c.self.invariant.idle) c.self.invariant)
+
+pub returns-in-None-clause-lengths : goal.returns-in-None-clause-lengths
+returns-in-None-clause-lengths c =
+    let steps = c.self.inside.tape.steps in
+    let r = c.in-Accepted.ensures.records in
+    let before = steps-before c.apply.new.tape.steps c.back.new.tape.steps steps r.0 _ c.len-at.result c.len-at.ensures r.1 c.back.ensures.steps in
+    ap (map length) (c.drop_last.ensures.steps ∙ before) ∙ ap (λ v. v.lengths) c.self.view_is
+
+pub returns-in-None-clause-ready : goal.returns-in-None-clause-ready
+returns-in-None-clause-ready c = λ h. absurd h
