@@ -20,7 +20,7 @@ use Rattle.std.proofs.lemmas.Bool.{cases_lt}
 use Rattle.change_record.specs.Rules.{activate, stands}
 use Rattle.sector_core.specs.declared.config.Scheduler.{Scheduler}
 use Rattle.plain_machine.specs.declared.answer.Reply.{Reply}
-use Rattle.plain_machine.specs.declared.answer.Code.TheVariants.{NoSession, StaleSession, BadCount, BadLength, OutOfRange, TooManyBios, BadSeat, SeatTaken, NoGroup, BadPrio, VtimeFull, NothingQueued, NoTag, NotInFlight, BadOutcome, HistoryFull}
+use Rattle.plain_machine.specs.declared.answer.Code.TheVariants.{NoSession, StaleSession, BadCount, BadLength, OutOfRange, TooManyBios, BadSeat, SeatTaken, NoGroup, BadPrio, VtimeFull, NothingQueued, NoTag, BadTag, NotInFlight, BadOutcome, HistoryFull}
 use Rattle.plain_machine.specs.declared.answer.Cause.TheVariants.{Frozen, RequestsFull, NotCompleted}
 use Rattle.plain_machine.specs.declared.answer.Reply.TheVariants.{Attached, Queued, Completed, Issued, Finished}
 use Rattle.plain_machine.specs.declared.answer.Answer.{Answer}
@@ -249,6 +249,10 @@ module _ (m : Plain) (room : Bool) (seat session : ℕ) (s : Seat) (h : seat < 1
   reap_does bio bios first e = reap_goes bio bios first
       ∙ ap (λ b. accepted b m (record m { seat = put m.seat seat (option_map (with_unreaped (unreaped m seat - 1)) (m.seat seat)); outbox = put m.outbox seat bios }) (Completed bio.serial (unwrap_or bio.result Written))) e
 
+  pub reap_late : (bio : Bio) (bios : List Bio) → m.outbox seat ≡ bio ∷ bios → room ≡ false → reap m room seat session ≡ (m, Refused HistoryFull)
+  reap_late bio bios first e = reap_goes bio bios first
+      ∙ ap (λ b. accepted b m (record m { seat = put m.seat seat (option_map (with_unreaped (unreaped m seat - 1)) (m.seat seat)); outbox = put m.outbox seat bios }) (Completed bio.serial (unwrap_or bio.result Written))) e
+
 -- Dispatch where nothing is in the dispatch list
 module _ (l : Limits) (m : Plain) (n : ℕ) (room : Bool) (none_again : m.requeued ≡ []) where
   pub dispatch_idle : next_queue m ≡ None → dispatch l m n room ≡ (m, Refused NothingQueued)
@@ -309,6 +313,12 @@ if_full room m o e none = ap (accepted_if room m) none ∙ ap (λ b. (m, Refused
 pub if_made : (room : Bool) (m : Plain) (o : Option (Plain × Reply)) (next : Plain) (reply : Reply) → room ≡ true → o ≡ Some (next, reply)
     → accepted_if room m o ≡ (next, Accepted reply)
 if_made room m o next reply e some = ap (accepted_if room m) some ∙ ap (λ b. accepted b m next reply) e
+
+-- Finish with a tag that there is not
+pub finish_past : (l : Limits) (m : Plain) (room : Bool) (tag issue : ℕ) (outcome : Outcome) → l.tags ≤ tag → finish l m room tag issue outcome ≡ (m, Refused BadTag)
+finish_past l m room tag issue outcome past =
+    let e1 = is_le l.tags tag past in
+    rw e1 refl
 
 module _ (l : Limits) (m : Plain) (room : Bool) (tag issue : ℕ) (outcome : Outcome) (within : tag < l.tags) where
   not_past : nat_le l.tags tag ≡ false

@@ -45,6 +45,8 @@ pub mod Requeues
 pub mod SentAgain
 pub mod Ended
 pub mod FinishLaws
+pub mod MayFinish
+pub mod MayReap
 pub mod Modes
 pub mod Requeued
 pub mod Waking

@@ -1,13 +1,15 @@
 -- What has been shown before the tables are changed (our profile).
-use Rattle.std.specs.Prelude.{◌≡◌, ℕ, ◌+◌, ◌*◌, ◌<◌, ◌≤◌, ◌^◌, false, List, length, All, Option, None, Some}
+use Rattle.std.specs.Prelude.{◌≡◌, ℕ, ◌+◌, ◌*◌, ◌<◌, ◌≤◌, ◌^◌, ◌≢◌, slice_get, true, Bool, false, List, length, All, Option, None, Some}
 use Rattle.sector_core.specs.declared.range.Range.{Range}
 use Rattle.sector_core.specs.declared.bio.Op.{Op}
 use Rattle.sector_core.specs.declared.bio.Bio.{Bio}
 use Rattle.sector_core.specs.declared.bio.Outcome.{Outcome}
 use Rattle.sector_core.specs.declared.bio.Outcome.TheVariants.{Fetched, Stored, Failed}
+use Rattle.request_pool.specs.declared.Request.{Request}
 use Rattle.change_record.specs.declared.change.Seat.{Seat}
 use Rattle.change_record.specs.Tables.{Tables}
-use Rattle.plain_machine.specs.Step.{Limits, payload_length}
+use Rattle.change_record.specs.Machine.{outbox_at}
+use Rattle.plain_machine.specs.Step.{Limits, payload_length, fits}
 use Rattle.dispatch_core.specs.WellFormed.{at, one, times, IsSlotOf}
 use Rattle.dispatch_core.specs.Ranges.{total_count}
 
@@ -48,3 +50,27 @@ pub record MaySubmit (l : Limits) (t : Tables) (seat : ℕ) (entry : Seat) (plac
   pub payload_fits : length payload ≡ payload_length op range.count
   pub place_of : IsSlotOf seat place
   pub place_free : at t.bios place ≡ None
+
+-- what Finish's tests have shown before memory is sought: the tag bears a request of a session that sits, and the outcome is one of it
+pub record MayFinish (l : Limits) (t : Tables) (room : Bool) (tag issue : ℕ) (outcome : Outcome) (slot seat size : ℕ) : Type 0 where
+  pub within : tag < l.tags
+  pub in_time : room ≡ true
+  pub borne : at t.tags tag ≡ Some (record { issue = issue; slot = slot })
+  pub request : Request
+  pub here : at t.requests slot ≡ Some request
+  pub seat_within : seat < 16
+  pub entry : Seat
+  pub sits : at t.seats seat ≡ Some entry
+  pub session : entry.session ≡ request.session
+  pub size_is : size ≡ total_count t.bios request.bios.items
+  pub good : fits request.op size outcome ≡ true
+
+-- what Reap's tests have shown: a session that stays sits at the seat, bios are owed to it, and one waits in its outbox
+pub record MayReap (t : Tables) (room : Bool) (seat session : ℕ) (entry : Seat) (place : ℕ) : Type 0 where
+  pub within : seat < 16
+  pub sits : at t.seats seat ≡ Some entry
+  pub stays : entry.leaving ≡ false
+  pub session_is : entry.session ≡ session
+  pub owed : entry.unreaped ≢ 0
+  pub first : slice_get (outbox_at t.outboxes seat) 0 ≡ Some place
+  pub in_time : room ≡ true

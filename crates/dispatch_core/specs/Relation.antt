@@ -1,5 +1,5 @@
 -- What the functions of the steps say: the plain step's answer, and what is left behind.
-use Rattle.std.specs.Prelude.{◌≡◌, ℕ, ◌+◌, ◌≤◌, Result, MatchResult, List, length}
+use Rattle.std.specs.Prelude.{◌≡◌, true, false, ℕ, ◌+◌, ◌≤◌, Result, MatchResult, List, length}
 use Rattle.sector_core.specs.declared.memory.OutOfMemory.{OutOfMemory as WantOfMemory}
 use Rattle.change_record.specs.declared.change.Change.{Change}
 use Rattle.change_record.specs.Tables.{Tables}
@@ -21,3 +21,9 @@ Leaves l n least more (Accepted reply) before changes now left spare =
     WellFormed l (n + 1) now × (1 ≤ spare) × (length changes + least ≤ length left) × (length left ≤ length changes + (least + more))
 Leaves l n least more (Refused code) before changes now left spare = (now ≡ before) × (left ≡ changes)
 Leaves l n least more (NotYet cause) before changes now left spare = (now ≡ before) × (left ≡ changes)
+
+-- the plain step does not accept: this is its answer, and the machine stays as it is
+abbrev pub Declines : Plain → Answer → Outcome_of → Type 0
+Declines m (Accepted reply) outcome = true ≡ false
+Declines m (Refused code) outcome = (m, Refused code) ≡ outcome
+Declines m (NotYet cause) outcome = (m, NotYet cause) ≡ outcome

@@ -1,5 +1,6 @@
 // What becomes of the bios of a finished request.
-ghost use Rattle.std.specs.Prelude.{◌≡◌, ◌+◌, ◌*◌, ◌≤◌, ◌<◌, ◌^◌, [], ◌∷◌, None, IfOk, OnOk, IfSome, IsSome, Some, length};
+ghost use Rattle.std.specs.Prelude.{◌≡◌, ◌+◌, ◌*◌, ◌≤◌, ◌<◌, ◌^◌, [], ◌∷◌, None, IfOk, OnOk, IfSome, IsSome, Some, length, unwrap_or};
+ghost use Rattle.std.specs.FinMap as blocks;
 ghost use Rattle.change_record.specs.Trail.{KeepsTrail};
 ghost use Rattle.process_queue.specs.Merge.{bios_at};
 ghost use Rattle.plain_machine.specs.Step.{content, with_blocks, after_outcome, completed, result_of, rest_of_outcome};
@@ -183,13 +184,20 @@ fn content_of(
     let mut rest = bytes;
     for sector in range.start..range.end() {
         let (first, others) = rest.split_at(rest.len().min(512));
-        match overlay.get(sector) {
-            Some(block) => found.extend_from_slice(block.as_slice())?,
-            None => found.extend_from_slice(first)?,
-        }
+        found.extend_from_slice(block_or(overlay, sector, first))?;
         rest = others;
     }
     Ok(Bytes::from_vec(found)?)
+}
+
+// The overlay's block at a sector where it has one, else the image's bytes there.
+fn block_or<'a>(overlay: &'a Overlay, sector: u64, image: &'a [u8]) -> &'a [u8]
+    ensures { result.now ≡ unwrap_or (blocks.get overlay.now sector) image.now }
+{
+    match overlay.get(sector) {
+        Some(block) => block.as_slice(),
+        None => image,
+    }
 }
 
 // Puts the blocks of a store into the overlay.

@@ -1,13 +1,14 @@
 // Finish: every bio of the request gets its result and goes to its session's outbox.
-ghost use Rattle.std.specs.Prelude.{◌≡◌, ◌+◌, ◌≤◌, ◌<◌, ◌++◌, ◌≢◌, ℕ, IfOk, MatchOption, OnOk, IfSome, IsSome, None, Some, length, slice_set, slice_index_or, if◌then◌else◌};
+ghost use Rattle.std.specs.Prelude.{◌≡◌, ◌+◌, ◌≤◌, ◌<◌, ◌++◌, ◌≢◌, ℕ, IfOk, MatchOption, MatchResult, OnOk, IfSome, IsSome, None, Some, length, slice_set, slice_index_or, if◌then◌else◌};
 ghost use Rattle.change_record.specs.Machine.{meaning, outbox_at};
 ghost use Rattle.change_record.specs.declared.change.Seat.{Seat};
 ghost use Rattle.change_record.specs.Trail.{KeepsTrail};
+ghost use Rattle.plain_machine.specs.declared.answer.Answer.TheVariants.{Refused};
 ghost use Rattle.plain_machine.specs.Step.{finish, fits, of_sizes};
 ghost use Rattle.dispatch_core.specs.Changes.{ended_tables};
 ghost use Rattle.dispatch_core.specs.Counts.{finish_exchanges, blocks_put, is_of_leaver};
 ghost use Rattle.dispatch_core.specs.Ranges.{total_count};
-ghost use Rattle.dispatch_core.specs.Ready.{IsReady};
+ghost use Rattle.dispatch_core.specs.Ready.{IsReady, MayFinish};
 ghost use Rattle.dispatch_core.specs.Relation.{Answers, Leaves};
 ghost use Rattle.dispatch_core.specs.WellFormed.{at, WellFormed};
 
@@ -38,34 +39,58 @@ pub fn run_finish(
     ensures trail { KeepsTrail tape.old.current parts.old.tables tape.new.current parts.new.tables }
     ensures steps { tape.new.steps ≡ tape.old.steps }
 {
-    if tag >= sizes.tags {
-        return Ok(Answer::Refused(Code::BadTag));
-    }
-    let Some(borne) = parts.tags().get(tag) else {
-        return Ok(Answer::Refused(Code::NotInFlight));
+    let (slot, seat, size) = match found_request(sizes, parts, serial, room, tag, issue, outcome) {
+        Ok(found) => found,
+        Err(code) => return Ok(Answer::Refused(code)),
     };
-    if borne.issue != issue {
-        return Ok(Answer::Refused(Code::NotInFlight));
-    }
-    let Some(request) = parts.pool().request(borne.slot) else {
-        unreachable!()
-    };
-    let size = range_of_request(parts.pool(), request).count;
-    if !fits_outcome(request.op, size, outcome) {
-        return Ok(Answer::Refused(Code::BadOutcome));
-    }
-    if !room {
-        return Ok(Answer::Refused(Code::HistoryFull));
-    }
-    let Some(seat) = seat_of(parts, request.session) else {
+    let Some(request) = parts.pool().request(slot) else {
         unreachable!()
     };
     let slots = list_from(request.bios.as_slice());
     let slots = slots.as_slice();
     let bios = slots.len() as u32;
     tape.reserve(size as usize + slots.len() + 5)?;
-    end_request(alloc, parts, tape, tag, borne.slot, seat, slots, outcome)?;
+    end_request(alloc, parts, tape, tag, slot, seat, slots, outcome)?;
     Ok(Answer::Accepted(Reply::Finished { bios }))
+}
+
+// The slot of the request that ends, its session's seat and its sectors, or why it is refused.
+fn found_request(
+    sizes: Sizes,
+    parts: &Parts,
+    serial: u64,
+    room: bool,
+    tag: u8,
+    issue: u64,
+    outcome: &Outcome,
+) -> Result<(Slot, u8, u32), Code>
+    requires { WellFormed (of_sizes sizes) serial parts.now.tables }
+    ensures { MatchResult result (λ found. MayFinish (of_sizes sizes) parts.now.tables room tag issue outcome.now found.0 found.1 found.2)
+        (λ code. finish (of_sizes sizes) (meaning parts.now.tables) room tag issue outcome.now ≡ (meaning parts.now.tables, Refused code)) }
+{
+    if tag >= sizes.tags {
+        return Err(Code::BadTag);
+    }
+    let Some(borne) = parts.tags().get(tag) else {
+        return Err(Code::NotInFlight);
+    };
+    if borne.issue != issue {
+        return Err(Code::NotInFlight);
+    }
+    let Some(request) = parts.pool().request(borne.slot) else {
+        unreachable!()
+    };
+    let size = range_of_request(parts.pool(), request).count;
+    if !fits_outcome(request.op, size, outcome) {
+        return Err(Code::BadOutcome);
+    }
+    if !room {
+        return Err(Code::HistoryFull);
+    }
+    let Some(seat) = seat_of(parts, request.session) else {
+        unreachable!()
+    };
+    Ok((borne.slot, seat, size))
 }
 
 // The bios of a request get their results and go to the seat's outbox, or are dropped where its session leaves.

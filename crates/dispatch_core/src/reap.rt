@@ -1,10 +1,11 @@
 // Reap: the first completed bio of a session is handed out.
-ghost use Rattle.std.specs.Prelude.{◌≡◌, ◌+◌, ◌-◌, ◌≤◌, IfOk, unwrap_or, None, Some, drop, length, slice_set};
+ghost use Rattle.std.specs.Prelude.{◌≡◌, ◌+◌, ◌-◌, ◌≤◌, IfOk, MatchResult, unwrap_or, None, Some, drop, length, slice_set};
 ghost use Rattle.change_record.specs.Trail.{KeepsTrail};
-ghost use Rattle.change_record.specs.Machine.{outbox_at};
+ghost use Rattle.change_record.specs.Machine.{meaning, outbox_at};
 ghost use Rattle.sector_core.specs.declared.bio.BioResult.TheVariants.{Written};
 ghost use Rattle.plain_machine.specs.Step.{reap, with_unreaped, of_sizes};
-ghost use Rattle.dispatch_core.specs.Relation.{Answers, Leaves};
+ghost use Rattle.dispatch_core.specs.Ready.{MayReap};
+ghost use Rattle.dispatch_core.specs.Relation.{Answers, Declines, Leaves};
 ghost use Rattle.dispatch_core.specs.WellFormed.{WellFormed};
 
 use crate::slots::{list_from, outbox_slots};
@@ -28,37 +29,58 @@ pub fn run_reap(
     ensures trail { KeepsTrail tape.old.current parts.old.tables tape.new.current parts.new.tables }
     ensures steps { tape.new.steps ≡ tape.old.steps }
 {
-    if seat >= 16 {
-        return Ok(Answer::Refused(Code::BadSeat));
-    }
-    let Some(entry) = parts.seat(seat) else {
-        return Ok(Answer::Refused(Code::NoSession));
+    let (entry, place) = match found_bio(sizes, parts, serial, room, seat, session) {
+        Ok(found) => found,
+        Err(answer) => return Ok(answer),
     };
-    if entry.leaving {
-        return Ok(Answer::Refused(Code::NoSession));
-    }
-    if entry.session != session {
-        return Ok(Answer::Refused(Code::StaleSession));
-    }
-    if entry.unreaped == 0 {
-        return Ok(Answer::Refused(Code::NothingOwed));
-    }
-    let Some(place) = outbox_slots(parts, seat).first().copied() else {
-        return Ok(Answer::NotYet(Cause::NotCompleted));
-    };
-    if !room {
-        return Ok(Answer::Refused(Code::HistoryFull));
-    }
     let Some(bio) = parts.pool().bio(place) else {
         unreachable!()
     };
-    let reply = Reply::Completed {
-        bio: bio.serial,
-        result: result_of_bio(bio)?,
-    };
+    let number = bio.serial;
+    let result = result_of_bio(bio)?;
     tape.reserve(3)?;
     take_out(parts, tape, seat, entry, place);
-    Ok(Answer::Accepted(reply))
+    Ok(Answer::Accepted(Reply::Completed {
+        bio: number,
+        result,
+    }))
+}
+
+// The seat's entry and the slot of the bio that is handed out, or the answer where none is.
+fn found_bio(
+    sizes: Sizes,
+    parts: &Parts,
+    serial: u64,
+    room: bool,
+    seat: u8,
+    session: u64,
+) -> Result<(Seat, Slot), Answer>
+    requires { WellFormed (of_sizes sizes) serial parts.now.tables }
+    ensures { MatchResult result (λ found. MayReap parts.now.tables room seat session found.0 found.1)
+        (λ answer. Declines (meaning parts.now.tables) answer (reap (meaning parts.now.tables) room seat session)) }
+{
+    if seat >= 16 {
+        return Err(Answer::Refused(Code::BadSeat));
+    }
+    let Some(entry) = parts.seat(seat) else {
+        return Err(Answer::Refused(Code::NoSession));
+    };
+    if entry.leaving {
+        return Err(Answer::Refused(Code::NoSession));
+    }
+    if entry.session != session {
+        return Err(Answer::Refused(Code::StaleSession));
+    }
+    if entry.unreaped == 0 {
+        return Err(Answer::Refused(Code::NothingOwed));
+    }
+    let Some(place) = outbox_slots(parts, seat).first().copied() else {
+        return Err(Answer::NotYet(Cause::NotCompleted));
+    };
+    if !room {
+        return Err(Answer::Refused(Code::HistoryFull));
+    }
+    Ok((entry, place))
 }
 
 // What became of a completed bio.

@@ -76,12 +76,8 @@ fn send_again(
     let Some(request) = parts.pool().request(slot) else {
         unreachable!()
     };
-    let reply = Reply::Issued {
-        tag,
-        issue: serial,
-        op: request.op,
-        range: range_of_request(parts.pool(), request),
-    };
+    let op = request.op;
+    let range = range_of_request(parts.pool(), request);
     tape.reserve(2)?;
     tape.exchange(parts, Change::Requeued { slot, link: None });
     tape.exchange(
@@ -94,7 +90,12 @@ fn send_again(
             }),
         },
     );
-    Ok(Answer::Accepted(reply))
+    Ok(Answer::Accepted(Reply::Issued {
+        tag,
+        issue: serial,
+        op,
+        range,
+    }))
 }
 
 // Scheduler none: of the next queue in turn the earliest request is sent.
@@ -124,12 +125,8 @@ fn send_first(
     let Some(request) = parts.pool().request(slot) else {
         unreachable!()
     };
-    let reply = Reply::Issued {
-        tag,
-        issue: serial,
-        op: request.op,
-        range: range_of_request(parts.pool(), request),
-    };
+    let op = request.op;
+    let range = range_of_request(parts.pool(), request);
     tape.reserve(3)?;
     tape.exchange(parts, Change::QueueLink { slot, link: None });
     tape.exchange(
@@ -148,7 +145,12 @@ fn send_first(
         served: seat,
     };
     tape.exchange(parts, mode);
-    Ok(Answer::Accepted(reply))
+    Ok(Answer::Accepted(Reply::Issued {
+        tag,
+        issue: serial,
+        op,
+        range,
+    }))
 }
 
 /// The sectors of a request, from its first bio to its last.

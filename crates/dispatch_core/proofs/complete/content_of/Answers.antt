@@ -4,7 +4,6 @@ use Rattle.std.specs.FinMap as blocks
 use Rattle.plain_machine.specs.Step.{content}
 use Rattle.dispatch_core.proofs.Contents.{all_more, content-more, content-none, first_bytes, other_bytes}
 use Rattle.dispatch_core.proofs.complete.content_of.Goals as goal
-use Rattle.dispatch_core.proofs.complete.content_of.Goals.{in-Some+in_ok-extend_from_slice-in-Some, in-None+in_ok-extend_from_slice-in-None}
 
 pub loop-sector-init : goal.loop-sector-init
 loop-sector-init c =
@@ -20,16 +19,9 @@ loop-sector-preserved c =
     let all = content overlay c.args.range.start c.args.range.count c.args.bytes.now in
     let others : c.split_at.result.1.now ≡ drop 512 rest = c.split_at.ensures.back ∙ other_bytes rest c.min.result (search rules) in
     let first : c.split_at.result.0.now ≡ take 512 rest = c.split_at.ensures.front ∙ first_bytes rest c.min.result (search rules) in
-    elim c.match-get.branch [
-      | in-Some+in_ok-extend_from_slice-in-Some w ↦
-          let more : c.match-get.found.items ≡ found ++ unwrap_or (blocks.get overlay sector) (take 512 rest) =
-          ap (λ v. v.items) w.found-is ∙ w.in_ok-extend_from_slice-in-Some.ensures.items ∙ ap (λ l. found ++ l) (w.as_slice.ensures.bytes ∙ ap (λ o. unwrap_or o (take 512 rest)) w.in-Some.ensures) in
-          content-more overlay found c.match-get.found.items rest c.split_at.result.1.now all sector c.end-sector-end.result c.loop-sector-test.true more others c.loop-sector.invariant
-      | in-None+in_ok-extend_from_slice-in-None w ↦
-          let more : c.match-get.found.items ≡ found ++ unwrap_or (blocks.get overlay sector) (take 512 rest) =
-          ap (λ v. v.items) w.found-is ∙ w.in_ok-extend_from_slice-in-None.ensures.items ∙ ap (λ l. found ++ l) (first ∙ ap (λ o. unwrap_or o (take 512 rest)) w.in-None.ensures) in
-          content-more overlay found c.match-get.found.items rest c.split_at.result.1.now all sector c.end-sector-end.result c.loop-sector-test.true more others c.loop-sector.invariant
-    ]
+    let more : c.extend_from_slice.new.self.items ≡ found ++ unwrap_or (blocks.get overlay sector) (take 512 rest) =
+    c.in_ok-extend_from_slice.ensures.items ∙ ap (λ l. found ++ l) (c.block_or.ensures ∙ ap (unwrap_or (blocks.get overlay sector)) first) in
+    content-more overlay found c.extend_from_slice.new.self.items rest c.split_at.result.1.now all sector c.end-sector-end.result c.loop-sector-test.true more others c.loop-sector.invariant
 
 pub returns : goal.returns
 returns c = c.in_ok-from_vec.ensures.ok ∙ content-none c.args.overlay.now c.loop-sector.found.items c.loop-sector.rest.now (content c.args.overlay.now c.args.range.start c.args.range.count c.args.bytes.now) c.loop-sector.sector c.end-sector-end.result c.loop-sector-test.false c.loop-sector.invariant

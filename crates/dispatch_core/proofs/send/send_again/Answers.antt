@@ -1,4 +1,4 @@
-use Rattle.std.proofs.Common.{◌≡◌, ◌+◌, length, Some, None, subst, sym, ap, ◌∙◌, arith, rules}
+use Rattle.std.proofs.Common.{◌≡◌, ◌+◌, length, Some, None, subst, sym, ap, ◌∙◌, arith, rules, List}
 use Rattle.sector_core.specs.Table.{AllTaken, IsFirstFree}
 use Rattle.request_pool.specs.declared.Request.{Request}
 use Rattle.process_queue.specs.Merge.{bios_at}
@@ -14,6 +14,8 @@ use Rattle.dispatch_core.proofs.Queues.{whole, no_tag_free, tag_free}
 use Rattle.dispatch_core.proofs.SentAgain.{CanSendAgain, again_found, again-list, again-well, again-meaning, again_full, again_late, again_made, again_accepts}
 use Rattle.dispatch_core.proofs.Decided.{Answers-err}
 use Rattle.dispatch_core.proofs.Recorded.{one_more}
+use Rattle.change_record.specs.declared.change.Change.{Change}
+use Rattle.change_record.specs.Trail.{IsTrail}
 use Rattle.dispatch_core.proofs.send.send_again.Goals as goal
 
 pub returns-in_default-clause-answers : goal.returns-in_default-clause-answers
@@ -86,13 +88,13 @@ returns-clause-answers c =
     let now : c.exchange-2.new.parts.tables ≡ sent_again_tables t n slot tag = search rules in
     let pool : c.pool-2.result.now.bios ≡ t.bios = c.pool-2.ensures.bios in
     let few : HasFewSectors c.pool-2.result.now.bios = subst HasFewSectors (sym pool) (few_sectors_of l n t c.requires.well) in
-    let range : c.range_of_request.result ≡ range_of (bios_at t.bios request.bios.items) =
-    range_read l n t slot request c.requires.well here c.range_of_request.result
-    (c.range_of_request.ensures.start ∙ ap (λ b. first_start b request.bios.items) pool)
-    (c.range_of_request.ensures.count few ∙ ap (λ b. total_count b request.bios.items) pool) in
+    let range : c.range_of_request-range.result ≡ range_of (bios_at t.bios request.bios.items) =
+    range_read l n t slot request c.requires.well here c.range_of_request-range.result
+    (c.range_of_request-range.ensures.start ∙ ap (λ b. first_start b request.bios.items) pool)
+    (c.range_of_request-range.ensures.count few ∙ ap (λ b. total_count b request.bios.items) pool) in
     let next = ap meaning now ∙ again-meaning l n t slot tag request c.requires.well can in
     again_made l (meaning t) n c.args.room (whole t request) (meaning (sent_again_tables t n slot tag)).requeued list tag lowest
-    (meaning c.exchange-2.new.parts.tables) c.range_of_request.result next range c.if-not-room.false
+    (meaning c.exchange-2.new.parts.tables) c.range_of_request-range.result next range c.if-not-room.false
 
 pub returns-clause-leaves : goal.returns-clause-leaves
 returns-clause-leaves c =
@@ -123,3 +125,11 @@ returns-clause-leaves c =
         ap length c.reserve.ensures.current,
       ),
     )
+
+pub returns-clause-trail : goal.returns-clause-trail
+returns-clause-trail c = λ origin h.
+    let P : List Change → Type 0 = λ changes. IsTrail changes c.args.parts.now.tables origin in
+    c.exchange-2.ensures.trail origin (c.exchange.ensures.trail origin (subst P (sym c.reserve.ensures.current) h))
+
+pub returns-clause-steps : goal.returns-clause-steps
+returns-clause-steps c = c.exchange-2.ensures.steps ∙ c.exchange.ensures.steps ∙ c.in_ok-reserve.ensures.steps

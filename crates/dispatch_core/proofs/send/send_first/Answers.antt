@@ -1,7 +1,9 @@
-use Rattle.std.proofs.Common.{◌≡◌, ◌+◌, length, Some, None, subst, sym, ap, ◌∙◌, arith, rules}
+use Rattle.std.proofs.Common.{◌≡◌, ◌+◌, List, length, Some, None, subst, sym, ap, ◌∙◌, arith, rules}
 use Rattle.request_pool.specs.declared.Request.{Request}
 use Rattle.process_queue.specs.Queue.{first_slot}
 use Rattle.change_record.specs.Tables.{Tables}
+use Rattle.change_record.specs.declared.change.Change.{Change}
+use Rattle.change_record.specs.Trail.{IsTrail}
 use Rattle.process_queue.specs.Merge.{bios_at}
 use Rattle.change_record.specs.Machine.{meaning}
 use Rattle.plain_machine.specs.Step.{of_sizes, sent, range_of}
@@ -94,13 +96,13 @@ returns-clause-answers c =
     let now : c.exchange-3.new.parts.tables ≡ sent_tables t n c.args.seat slot tag = search rules in
     let pool : c.pool-2.result.now.bios ≡ t.bios = c.pool-2.ensures.bios in
     let few : HasFewSectors c.pool-2.result.now.bios = subst HasFewSectors (sym pool) (few_sectors_of l n t c.requires.well) in
-    let start : c.range_of_request.result.start ≡ first_start t.bios request.bios.items = c.range_of_request.ensures.start ∙ ap (λ b. first_start b request.bios.items) pool in
-    let count : c.range_of_request.result.count ≡ total_count t.bios request.bios.items = c.range_of_request.ensures.count few ∙ ap (λ b. total_count b request.bios.items) pool in
-    let read : c.range_of_request.result ≡ record { start = first_start t.bios request.bios.items; count = total_count t.bios request.bios.items } = (λ i. record { start = start i; count = count i }) in
-    let range : c.range_of_request.result ≡ range_of (bios_at t.bios request.bios.items) = read ∙ sym (range_is t.bios request.bios.items (request_taken l n t slot request c.requires.well here)) in
+    let start : c.range_of_request-range.result.start ≡ first_start t.bios request.bios.items = c.range_of_request-range.ensures.start ∙ ap (λ b. first_start b request.bios.items) pool in
+    let count : c.range_of_request-range.result.count ≡ total_count t.bios request.bios.items = c.range_of_request-range.ensures.count few ∙ ap (λ b. total_count b request.bios.items) pool in
+    let read : c.range_of_request-range.result ≡ record { start = first_start t.bios request.bios.items; count = total_count t.bios request.bios.items } = (λ i. record { start = start i; count = count i }) in
+    let range : c.range_of_request-range.result ≡ range_of (bios_at t.bios request.bios.items) = read ∙ sym (range_is t.bios request.bios.items (request_taken l n t slot request c.requires.well here)) in
     let next = ap meaning now ∙ sent-meaning l n t c.args.seat slot tag request c.requires.well can in
     sent_made l (meaning t) n c.args.room c.args.seat tag (whole t request) ((meaning (sent_tables t n c.args.seat slot tag)).queue c.args.seat) was
-    (meaning c.exchange-3.new.parts.tables) c.range_of_request.result next range c.if-not-room.false
+    (meaning c.exchange-3.new.parts.tables) c.range_of_request-range.result next range c.if-not-room.false
 
 pub returns-clause-leaves : goal.returns-clause-leaves
 returns-clause-leaves c =
@@ -136,3 +138,11 @@ returns-clause-leaves c =
         ap length c.reserve.ensures.current,
       ),
     )
+
+pub returns-clause-trail : goal.returns-clause-trail
+returns-clause-trail c = λ origin h.
+    let P : List Change → Type 0 = λ changes. IsTrail changes c.args.parts.now.tables origin in
+    c.exchange-3.ensures.trail origin (c.exchange-2.ensures.trail origin (c.exchange.ensures.trail origin (subst P (sym c.reserve.ensures.current) h)))
+
+pub returns-clause-steps : goal.returns-clause-steps
+returns-clause-steps c = c.exchange-3.ensures.steps ∙ c.exchange-2.ensures.steps ∙ c.exchange.ensures.steps ∙ c.in_ok-reserve.ensures.steps

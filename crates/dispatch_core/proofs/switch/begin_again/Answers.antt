@@ -1,5 +1,9 @@
-use Rattle.std.proofs.Common.{ap, ◌∙◌}
+use Rattle.std.proofs.Common.{◌≡◌, ℕ, length, ap, ◌∙◌}
+use Rattle.std.specs.Prelude.{count_by, is_some}
 use Rattle.soft_queue.specs.Turn.{numbers}
+use Rattle.change_record.specs.Tables.{Tables}
+use Rattle.change_record.specs.Machine.{bfq_of}
+use Rattle.dispatch_core.proofs.Begun.{room_enough, room_left, room_thrice, count_thrice, trees_then_budgets}
 use Rattle.plain_machine.specs.Step.{with_first_budgets, with_first_times, for_each, of_sizes}
 use Rattle.dispatch_core.proofs.switch.begin_again.Goals as goal
 
@@ -11,3 +15,44 @@ returns-clause-made c =
 
 pub returns-clause-trail : goal.returns-clause-trail
 returns-clause-trail c = λ o h. c.begin_budgets.ensures.trail o (c.begin_times.ensures.trail o (c.begin_vtimes.ensures.trail o h))
+
+pub returns-clause-sized : goal.returns-clause-sized
+returns-clause-sized c = c.begin_budgets.ensures.sized
+
+pub returns-clause-bounded : goal.returns-clause-bounded
+returns-clause-bounded c = c.begin_budgets.ensures.bounded
+
+pub returns-clause-steps : goal.returns-clause-steps
+returns-clause-steps c = c.begin_budgets.ensures.steps ∙ c.begin_times.ensures.steps ∙ c.begin_vtimes.ensures.steps
+
+pub returns-clause-spare : goal.returns-clause-spare
+returns-clause-spare c = c.begin_budgets.ensures.spare ∙ c.begin_times.ensures.spare ∙ c.begin_vtimes.ensures.spare
+
+pub returns-clause-others : goal.returns-clause-others
+returns-clause-others c = trees_then_budgets c.args.parts.now.tables c.begin_vtimes.new.parts.tables c.begin_times.new.parts.tables c.begin_budgets.new.parts.tables c.begin_vtimes.ensures.others c.begin_times.ensures.others c.begin_budgets.ensures.others
+
+pub returns-clause-room : goal.returns-clause-room
+returns-clause-room c = room_thrice c.args.tape.now.room c.begin_vtimes.new.tape.room c.begin_times.new.tape.room c.begin_budgets.new.tape.room c.begin_vtimes.ensures.room c.begin_times.ensures.room c.begin_budgets.ensures.room
+
+pub returns-clause-count : goal.returns-clause-count
+returns-clause-count c =
+    let f : Tables → ℕ = λ x. count_by (λ entity. is_some ((bfq_of x).parent entity)) (numbers 0 48) in
+    count_thrice (length c.args.tape.now.current) (length c.begin_vtimes.new.tape.current) (length c.begin_times.new.tape.current) (length c.begin_budgets.new.tape.current) (f c.args.parts.now.tables) (f c.begin_vtimes.new.parts.tables) c.begin_vtimes.ensures.count c.begin_times.ensures.count c.begin_budgets.ensures.count (ap f c.begin_vtimes.ensures.others)
+
+pub begin_times-requires-clause-room : goal.begin_times-requires-clause-room
+begin_times-requires-clause-room c = room_enough c.args.tape.now.room c.begin_vtimes.new.tape.room c.requires.room c.begin_vtimes.ensures.room
+
+pub begin_times-requires-clause-sized : goal.begin_times-requires-clause-sized
+begin_times-requires-clause-sized c = c.begin_vtimes.ensures.sized
+
+pub begin_times-requires-clause-bounded : goal.begin_times-requires-clause-bounded
+begin_times-requires-clause-bounded c = c.begin_vtimes.ensures.bounded
+
+pub begin_budgets-requires-clause-room : goal.begin_budgets-requires-clause-room
+begin_budgets-requires-clause-room c = room_left c.begin_vtimes.new.tape.room c.begin_times.new.tape.room 48 16 (room_left c.args.tape.now.room c.begin_vtimes.new.tape.room 32 64 c.requires.room c.begin_vtimes.ensures.room) c.begin_times.ensures.room
+
+pub begin_budgets-requires-clause-sized : goal.begin_budgets-requires-clause-sized
+begin_budgets-requires-clause-sized c = c.begin_times.ensures.sized
+
+pub begin_budgets-requires-clause-bounded : goal.begin_budgets-requires-clause-bounded
+begin_budgets-requires-clause-bounded c = c.begin_times.ensures.bounded

@@ -3,7 +3,7 @@ use Rattle.std.specs.Prelude.{is_some}
 use Rattle.soft_queue.specs.Turn.{numbers}
 use Rattle.change_record.specs.Machine.{bfq_of}
 use Rattle.plain_machine.specs.Step.{with_first_times, for_each, of_sizes}
-use Rattle.dispatch_core.proofs.Begun.{numbers_more, numbers_none, count_more, count_none, trees_twice, grouped_same}
+use Rattle.dispatch_core.proofs.Begun.{numbers_more, numbers_none, count_more, count_none, trees_twice, grouped_same, room_at, room_within}
 use Rattle.dispatch_core.proofs.switch.begin_times.Goals as goal
 
 pub loop-entity-init : goal.loop-entity-init
@@ -49,3 +49,33 @@ returns-clause-count c =
     let f : ℕ → Bool = λ k. is_some ((bfq_of c.args.parts.now.tables).parent k) in
     let none = count_none f c.loop-entity.entity 48 (omega (arith, c.loop-entity-test.false)) in
     omega (arith, c.loop-entity.invariant.count, none)
+
+pub returns-clause-others : goal.returns-clause-others
+returns-clause-others c = c.loop-entity.invariant.others
+
+pub returns-clause-sized : goal.returns-clause-sized
+returns-clause-sized c = c.loop-entity.invariant.sized
+
+pub returns-clause-bounded : goal.returns-clause-bounded
+returns-clause-bounded c = c.loop-entity.invariant.bounded
+
+pub returns-clause-trail : goal.returns-clause-trail
+returns-clause-trail c = c.loop-entity.invariant.trail
+
+pub returns-clause-steps : goal.returns-clause-steps
+returns-clause-steps c = c.loop-entity.invariant.steps
+
+pub returns-clause-spare : goal.returns-clause-spare
+returns-clause-spare c = c.loop-entity.invariant.spare
+
+pub begin_entity-requires-clause-room : goal.begin_entity-requires-clause-room
+begin_entity-requires-clause-room c = room_at c.args.tape.now.room c.loop-entity.tape.room c.loop-entity.entity 48 c.requires.room c.loop-entity.invariant.room c.loop-entity-test.true
+
+pub begin_entity-requires-clause-sized : goal.begin_entity-requires-clause-sized
+begin_entity-requires-clause-sized c = c.loop-entity.invariant.sized
+
+pub begin_entity-requires-clause-bounded : goal.begin_entity-requires-clause-bounded
+begin_entity-requires-clause-bounded c = c.loop-entity.invariant.bounded
+
+pub returns-clause-room : goal.returns-clause-room
+returns-clause-room c = room_within c.args.tape.now.room c.loop-entity.tape.room c.loop-entity.entity 48 c.loop-entity.invariant.room c.loop-entity.auto.entity-end

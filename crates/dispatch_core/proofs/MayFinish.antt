@@ -1,0 +1,97 @@
+-- What follows from the tests of Finish.
+use Rattle.std.proofs.Common.{◌≡◌, ℕ, ◌+◌, ◌≤◌, List, Bool, true, cond, length, Option, Some, refl, subst, sym, ap, ◌∙◌, arith}
+use Rattle.std.specs.Prelude.{IfSome}
+use Rattle.sector_core.specs.declared.bio.Outcome.{Outcome}
+use Rattle.request_pool.specs.declared.Request.{Request}
+use Rattle.change_record.specs.declared.change.Seat.{Seat}
+use Rattle.change_record.specs.Tables.{Tables}
+use Rattle.change_record.specs.Machine.{Flight, meaning, outbox_at}
+use Rattle.process_queue.specs.Merge.{bios_at}
+use Rattle.plain_machine.specs.declared.answer.Answer.TheVariants.{Accepted}
+use Rattle.plain_machine.specs.declared.answer.Reply.TheVariants.{Finished}
+use Rattle.plain_machine.specs.Step.{Limits, finish, fits, size_of, MayGiveWay}
+use Rattle.dispatch_core.specs.WellFormed.{at, WellFormed}
+use Rattle.dispatch_core.specs.Changes.{ended_tables}
+use Rattle.dispatch_core.specs.Counts.{blocks_put, finish_exchanges, is_of_leaver}
+use Rattle.dispatch_core.specs.Ranges.{total_count}
+use Rattle.dispatch_core.specs.Ready.{IsReady, MayFinish}
+use Rattle.dispatch_core.proofs.Sides.{CanFinish}
+use Rattle.dispatch_core.proofs.FinishLaws as laws
+use Rattle.dispatch_core.proofs.Written.{length-bios_at}
+use Rattle.dispatch_core.proofs.Queues.{whole, flight_borne}
+use Rattle.dispatch_core.proofs.Sectors.{size_is, request_taken}
+use Rattle.dispatch_core.proofs.Finishing.{request_ready}
+use Rattle.dispatch_core.proofs.Decided.{finish_does, finish_accepts}
+
+same_request : (o : Option Request) (a b : Request) → o ≡ Some a → o ≡ Some b → a ≡ b
+same_request o a b e f = cc
+
+module _ (l : Limits) (n : ℕ) (t : Tables) (room : Bool) (tag issue : ℕ) (outcome : Outcome) (slot seat size : ℕ) (w : WellFormed l n t) (may : MayFinish l t room tag issue outcome slot seat size) where
+  can : CanFinish t tag issue slot seat may.entry may.request
+  can = record { borne = may.borne; here = may.here; within = may.seat_within; sits = may.sits; session = may.session }
+
+  flight : (meaning t).flight tag ≡ Some (let f : Flight = record { issue = issue; request = whole t may.request } in f)
+  flight = flight_borne t (at t.tags tag) (record { issue = issue; slot = slot }) may.request may.borne may.here
+
+  sectors : size_of (bios_at t.bios may.request.bios.items) ≡ total_count t.bios may.request.bios.items
+  sectors = size_is t.bios may.request.bios.items (request_taken l n t slot may.request w may.here)
+
+  good : fits may.request.op (size_of (bios_at t.bios may.request.bios.items)) outcome ≡ true
+  good = ap (λ k. fits may.request.op k outcome) (sectors ∙ sym may.size_is) ∙ may.good
+
+  pub may_give_way : MayGiveWay (finish l (meaning t) room tag issue outcome).1
+  may_give_way = finish_accepts l (meaning t) room tag issue outcome may.within _ flight refl good may.in_time
+
+  -- with the slots of the request's bios as they were read
+  module _ (slots : List ℕ) (request : Request) (here : at t.requests slot ≡ Some request) (read : slots ≡ request.bios.items) where
+    list : slots ≡ may.request.bios.items
+    list = read ∙ ap (λ (r : Request). r.bios.items) (same_request (at t.requests slot) request may.request here may.here)
+
+    pub may_ready : IsReady t.bios slots outcome
+    may_ready =
+        let P : List ℕ → Type 0 = λ s. IsReady t.bios s outcome in
+        subst P (sym list) (request_ready l n t tag issue slot seat may.entry may.request outcome w can (ap (λ k. fits may.request.op k outcome) (sym may.size_is) ∙ may.good))
+
+    pub may_fit : length (outbox_at t.outboxes seat) + length slots ≤ 32
+    may_fit = omega (arith, laws.outbox_room l n t tag issue slot seat may.entry may.request w can, ap length list)
+
+    pub may_size : size ≡ total_count t.bios slots
+    may_size = may.size_is ∙ ap (total_count t.bios) (sym list)
+
+    number : length (bios_at t.bios may.request.bios.items) ≡ length slots
+    number = length-bios_at t.bios may.request.bios.items (request_taken l n t slot may.request w may.here) ∙ sym (ap length list)
+
+    -- how many exchanges there are
+    pub may_make : finish_exchanges outcome ((meaning t).flight tag) ≡ length slots + blocks_put outcome (total_count t.bios slots) + 3
+    may_make =
+        ap (finish_exchanges outcome) flight
+        ∙ ap (λ k. k + blocks_put outcome (size_of (bios_at t.bios may.request.bios.items)) + 3) number
+        ∙ ap (λ k. length slots + blocks_put outcome k + 3) (sectors ∙ ap (total_count t.bios) (sym list))
+
+    pub may_make_most : (made least : ℕ) → IfSome (at t.seats seat) (λ entry. made ≤ least + (length slots + blocks_put outcome (total_count t.bios slots) + 3 + cond entry.leaving 2 0))
+        → made ≤ least + (finish_exchanges outcome ((meaning t).flight tag) + cond (is_of_leaver (meaning t) ((meaning t).flight tag)) 2 0)
+    may_make_most made least h =
+        let P : Option Seat → Type 0 = λ o. IfSome o (λ entry. made ≤ least + (length slots + blocks_put outcome (total_count t.bios slots) + 3 + cond entry.leaving 2 0)) in
+        let most = subst P may.sits h in
+        let two : Bool → ℕ = λ b. cond b 2 0 in
+        let more : two (is_of_leaver (meaning t) ((meaning t).flight tag)) ≡ two may.entry.leaving =
+        ap (λ o. two (is_of_leaver (meaning t) o)) flight ∙ ap two (laws.leaver_is l n t tag issue slot seat may.entry may.request outcome w can) in
+        omega (arith, may_make, more, most)
+
+    module _ (now : Tables) (ended : IfSome (at t.seats seat) (λ entry. now ≡ ended_tables t tag slot seat entry slots outcome)) where
+      tables : now ≡ ended_tables t tag slot seat may.entry may.request.bios.items outcome
+      tables =
+          let P : Option Seat → Type 0 = λ o. IfSome o (λ entry. now ≡ ended_tables t tag slot seat entry slots outcome) in
+          subst P may.sits ended ∙ ap (λ s. ended_tables t tag slot seat may.entry s outcome) list
+
+      pub ended-well : WellFormed l (n + 1) now
+      ended-well =
+          let P : Tables → Type 0 = λ u. WellFormed l (n + 1) u in
+          subst P (sym tables) (laws.ended-well l n t tag issue slot seat may.entry may.request outcome w can)
+
+      pub ended-answers : (meaning now, Accepted (Finished (length slots))) ≡ finish l (meaning t) room tag issue outcome
+      ended-answers =
+          let next = ap meaning tables ∙ laws.ended-meaning l n t tag issue slot seat may.entry may.request outcome w can in
+          sym (finish_does l (meaning t) room tag issue outcome may.within _ flight refl good may.in_time
+          ∙ ap (λ m. (m, Accepted (Finished (length (bios_at t.bios may.request.bios.items))))) (sym next)
+          ∙ ap (λ k. (meaning now, Accepted (Finished k))) number)
