@@ -79,43 +79,24 @@ AddsBlock t (Pending entity weight) = ⊥
 AddsBlock t (Budget entity budget) = ⊥
 AddsBlock t (Serving slot) = ⊥
 
--- the place is one where requests, their bios and sessions stand
-abbrev pub IsOfRequests : Change → Type 0
-IsOfRequests (Sector sector block) = ⊥
-IsOfRequests (RequestSlot slot request) = Unit {0}
-IsOfRequests (BioSlot slot bio) = Unit {0}
-IsOfRequests (Tag tag issue) = Unit {0}
-IsOfRequests (QueueLink slot link) = Unit {0}
-IsOfRequests (OutboxWhole seat outbox) = Unit {0}
-IsOfRequests (SeatEntry seat entry) = Unit {0}
-IsOfRequests (Requeued slot link) = Unit {0}
-IsOfRequests (Mode scheduler frozen served) = ⊥
-IsOfRequests (Head seat head) = ⊥
-IsOfRequests (TreeMember group entity member) = ⊥
-IsOfRequests (Vtime group vtime) = ⊥
-IsOfRequests (GroupEntry entity group) = ⊥
-IsOfRequests (Pending entity weight) = ⊥
-IsOfRequests (Budget entity budget) = ⊥
-IsOfRequests (Serving slot) = ⊥
-
--- the place is one of what the scheduler knows
-abbrev pub IsOfScheduler : Change → Type 0
-IsOfScheduler (Sector sector block) = ⊥
-IsOfScheduler (RequestSlot slot request) = ⊥
-IsOfScheduler (BioSlot slot bio) = ⊥
-IsOfScheduler (Tag tag issue) = ⊥
-IsOfScheduler (QueueLink slot link) = ⊥
-IsOfScheduler (OutboxWhole seat outbox) = ⊥
-IsOfScheduler (SeatEntry seat entry) = ⊥
-IsOfScheduler (Requeued slot link) = ⊥
-IsOfScheduler (Mode scheduler frozen served) = Unit {0}
-IsOfScheduler (Head seat head) = Unit {0}
-IsOfScheduler (TreeMember group entity member) = Unit {0}
-IsOfScheduler (Vtime group vtime) = Unit {0}
-IsOfScheduler (GroupEntry entity group) = Unit {0}
-IsOfScheduler (Pending entity weight) = Unit {0}
-IsOfScheduler (Budget entity budget) = Unit {0}
-IsOfScheduler (Serving slot) = Unit {0}
+-- the place is one of a table that is made whole with the machine: any but the overlay
+abbrev pub IsOfTables : Change → Type 0
+IsOfTables (Sector sector block) = ⊥
+IsOfTables (RequestSlot slot request) = Unit {0}
+IsOfTables (BioSlot slot bio) = Unit {0}
+IsOfTables (Tag tag issue) = Unit {0}
+IsOfTables (QueueLink slot link) = Unit {0}
+IsOfTables (OutboxWhole seat outbox) = Unit {0}
+IsOfTables (SeatEntry seat entry) = Unit {0}
+IsOfTables (Requeued slot link) = Unit {0}
+IsOfTables (Mode scheduler frozen served) = Unit {0}
+IsOfTables (Head seat head) = Unit {0}
+IsOfTables (TreeMember group entity member) = Unit {0}
+IsOfTables (Vtime group vtime) = Unit {0}
+IsOfTables (GroupEntry entity group) = Unit {0}
+IsOfTables (Pending entity weight) = Unit {0}
+IsOfTables (Budget entity budget) = Unit {0}
+IsOfTables (Serving slot) = Unit {0}
 
 -- at this sector there is a block already, or none is put there
 abbrev pub FitsAt : Blocks → ℕ → Option (List ℕ) → Type 0

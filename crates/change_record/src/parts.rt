@@ -4,15 +4,15 @@ ghost use Rattle.std.specs.Option.{option_copied};
 ghost use Rattle.change_record.specs.Tables.{empty_tables, empty_service};
 ghost use Rattle.std.specs.FinMap as map;
 ghost use Rattle.overlay.specs.Blocks.{exchanged};
-ghost use Rattle.change_record.specs.Exchange.{IsOfRequests, IsOfScheduler, after, left_by, AddsBlock, FitsAt, FitsIn, tree_of, with_member, with_vtime};
+ghost use Rattle.change_record.specs.Exchange.{IsOfTables, after, left_by, AddsBlock, FitsAt, FitsIn, tree_of, with_member, with_vtime};
 
 use crate::{Change, InService, Making, Outbox, Seat};
 use arrayvec::ArrayVec;
 use group_tree::GroupTree;
 use overlay::Overlay;
 use process_queue::{Link, ProcessQueue};
-use request_pool::RequestPool;
-use sector_core::{Block, Entity, OutOfMemory, Scheduler, Slot, empty_table};
+use request_pool::{Request, RequestPool};
+use sector_core::{Bio, Block, Entity, OutOfMemory, Scheduler, Slot, empty_table};
 use service_tree::{Member, ServiceTree};
 use std::alloc::Global;
 use std::marker::Model;
@@ -104,21 +104,24 @@ impl Parts {
     pub fn new(alloc: Global, making: Making) -> Result<Parts, OutOfMemory>
         ensures { IfOk result (λ parts. parts ≡ record { tables = empty_tables making; turns = 0 }) }
     {
+        let (pool, tags, queues, requeued) = empty_queues(alloc, making)?;
+        let (outboxes, seats, heads) = empty_seats(alloc)?;
+        let (trees, weights, budgets) = empty_entities(alloc, making)?;
         Ok(Parts {
             overlay: Overlay::new(alloc),
-            pool: RequestPool::new(alloc, making.requests)?,
-            tags: TagSet::new(alloc, making.tags)?,
-            queues: ProcessQueue::new(alloc, making.requests)?,
-            requeued: ProcessQueue::new(alloc, making.requests)?,
-            outboxes: empty_outboxes(alloc)?,
-            seats: empty_table(alloc, 16)?,
+            pool,
+            tags,
+            queues,
+            requeued,
+            outboxes,
+            seats,
             frozen: false,
             served: 15,
-            heads: table_of(alloc, 16, 0)?,
-            trees: empty_trees(alloc, making.first_vtime)?,
+            heads,
+            trees,
             groups: GroupTree::new(),
-            weights: table_of(alloc, 48, 1)?,
-            budgets: first_budgets(alloc, making.first_budget, making.max_budget)?,
+            weights,
+            budgets,
             slot: None,
             scheduler: making.scheduler,
             turns: 0,
@@ -273,67 +276,28 @@ impl Parts {
     {
         match change {
             Change::Sector { sector, block } => exchange_block(&mut self.overlay, *sector, block)?,
-            Change::RequestSlot { .. }
-            | Change::BioSlot { .. }
-            | Change::Tag { .. }
-            | Change::QueueLink { .. }
-            | Change::OutboxWhole { .. }
-            | Change::SeatEntry { .. }
-            | Change::Requeued { .. } => self.turn_of_requests(change),
-            Change::Mode { .. }
-            | Change::Head { .. }
-            | Change::TreeMember { .. }
-            | Change::Vtime { .. }
-            | Change::GroupEntry { .. }
-            | Change::Pending { .. }
-            | Change::Budget { .. }
-            | Change::Serving { .. } => self.turn_of_scheduler(change),
+            // `turn_table` names each of them, so a new place cannot be forgotten there.
+            _ => self.turn_table(change),
         }
         self.turns = self.turns.wrapping_add(1);
         Ok(())
     }
 
-    // Turns a change of where requests, their bios and sessions stand. It takes no memory.
-    fn turn_of_requests(&mut self, change: &mut Change)
-        requires { IsOfRequests change.old }
+    // Turns a change of any table but the overlay. It takes no memory.
+    fn turn_table(&mut self, change: &mut Change)
+        requires { IsOfTables change.old }
         ensures tables { self.new.tables ≡ after self.old.tables change.old }
         ensures left { change.new ≡ left_by self.old.tables change.old }
         ensures turns { self.new.turns ≡ self.old.turns }
     {
         match change {
-            Change::RequestSlot { slot, request } => {
-                let given = request.take();
-                *request = self.pool.exchange_request(*slot, given);
-            }
-            Change::BioSlot { slot, bio } => {
-                let given = bio.take();
-                *bio = self.pool.exchange_bio(*slot, given);
-            }
+            Change::RequestSlot { slot, request } => swap_request(&mut self.pool, *slot, request),
+            Change::BioSlot { slot, bio } => swap_bio(&mut self.pool, *slot, bio),
             Change::Tag { tag, issue } => *issue = self.tags.exchange(*tag, *issue),
             Change::QueueLink { slot, link } => exchange_link(&mut self.queues, *slot, link),
             Change::OutboxWhole { seat, outbox } => swap_at(&mut self.outboxes, *seat, outbox),
             Change::SeatEntry { seat, entry } => swap_at(&mut self.seats, *seat, entry),
             Change::Requeued { slot, link } => exchange_link(&mut self.requeued, *slot, link),
-            Change::Sector { .. }
-            | Change::Mode { .. }
-            | Change::Head { .. }
-            | Change::TreeMember { .. }
-            | Change::Vtime { .. }
-            | Change::GroupEntry { .. }
-            | Change::Pending { .. }
-            | Change::Budget { .. }
-            | Change::Serving { .. } => {}
-        }
-    }
-
-    // Turns a change of what the scheduler knows. It takes no memory.
-    fn turn_of_scheduler(&mut self, change: &mut Change)
-        requires { IsOfScheduler change.old }
-        ensures tables { self.new.tables ≡ after self.old.tables change.old }
-        ensures left { change.new ≡ left_by self.old.tables change.old }
-        ensures turns { self.new.turns ≡ self.old.turns }
-    {
-        match change {
             Change::Mode {
                 scheduler,
                 frozen,
@@ -356,14 +320,7 @@ impl Parts {
             Change::Pending { entity, weight } => swap_at(&mut self.weights, *entity, weight),
             Change::Budget { entity, budget } => swap_at(&mut self.budgets, *entity, budget),
             Change::Serving { slot } => mem::swap(&mut self.slot, slot),
-            Change::Sector { .. }
-            | Change::RequestSlot { .. }
-            | Change::BioSlot { .. }
-            | Change::Tag { .. }
-            | Change::QueueLink { .. }
-            | Change::OutboxWhole { .. }
-            | Change::SeatEntry { .. }
-            | Change::Requeued { .. } => {}
+            Change::Sector { .. } => {}
         }
     }
 }
@@ -391,6 +348,24 @@ fn exchange_block(
             Err(OutOfMemory)
         }
     }
+}
+
+// Puts a request, or none, at a slot, and what stood there into its stead.
+fn swap_request(pool: &mut RequestPool, slot: Slot, request: &mut Option<Request>)
+    ensures pool { pool.new ≡ record pool.old { requests = slice_set pool.old.requests slot request.old } }
+    ensures left { request.new ≡ slice_index_or pool.old.requests slot request.old }
+{
+    let given = request.take();
+    *request = pool.exchange_request(slot, given);
+}
+
+// Puts a bio, or none, at a slot, and what stood there into its stead.
+fn swap_bio(pool: &mut RequestPool, slot: Slot, bio: &mut Option<Bio>)
+    ensures pool { pool.new ≡ record pool.old { bios = slice_set pool.old.bios slot bio.old } }
+    ensures left { bio.new ≡ slice_index_or pool.old.bios slot bio.old }
+{
+    let given = bio.take();
+    *bio = pool.exchange_bio(slot, given);
 }
 
 // Links the slot or takes it out of its queue, and puts the link that it had in the stead of the new one.
@@ -437,6 +412,55 @@ fn exchange_vtime(trees: &mut Vec<ServiceTree>, group: u8, vtime: &mut u64)
     if let Some(tree) = trees.get_mut(usize::from(group)) {
         *vtime = tree.exchange_vtime(*vtime);
     }
+}
+
+// Three groups of empty tables, so that each function has few to give back where memory is short.
+
+// The pool, the tags, the queues and the dispatch list, without a request.
+fn empty_queues(
+    alloc: Global,
+    making: Making,
+) -> Result<(RequestPool, TagSet, ProcessQueue, ProcessQueue), OutOfMemory>
+    ensures pool { IfOk result (λ made. made.0 ≡ record { requests = replicate making.requests None; bios = replicate 512 None }) }
+    ensures tags { IfOk result (λ made. made.1 ≡ replicate making.tags None) }
+    ensures queues { IfOk result (λ made. made.2 ≡ replicate making.requests None) }
+    ensures requeued { IfOk result (λ made. made.3 ≡ replicate making.requests None) }
+{
+    Ok((
+        RequestPool::new(alloc, making.requests)?,
+        TagSet::new(alloc, making.tags)?,
+        ProcessQueue::new(alloc, making.requests)?,
+        ProcessQueue::new(alloc, making.requests)?,
+    ))
+}
+
+// The outboxes, the seats and the heads, with nobody at a seat.
+fn empty_seats(alloc: Global) -> Result<(Vec<Outbox>, Vec<Option<Seat>>, Vec<u64>), OutOfMemory>
+    ensures outboxes { IfOk result (λ made. made.0.items ≡ replicate 16 (record { items = [] })) }
+    ensures seats { IfOk result (λ made. made.1.items ≡ replicate 16 None) }
+    ensures heads { IfOk result (λ made. made.2.items ≡ replicate 16 0) }
+{
+    Ok((
+        empty_outboxes(alloc)?,
+        empty_table(alloc, 16)?,
+        table_of(alloc, 16, 0)?,
+    ))
+}
+
+// The trees, the pending weights and the budgets of a machine that has served nobody yet.
+fn empty_entities(
+    alloc: Global,
+    making: Making,
+) -> Result<(Vec<ServiceTree>, Vec<u32>, Vec<u32>), OutOfMemory>
+    ensures trees { IfOk result (λ made. made.0.items ≡ replicate 32 (empty_service making.first_vtime)) }
+    ensures weights { IfOk result (λ made. made.1.items ≡ replicate 48 1) }
+    ensures budgets { IfOk result (λ made. made.2.items ≡ replicate 16 making.first_budget ++ replicate 32 making.max_budget) }
+{
+    Ok((
+        empty_trees(alloc, making.first_vtime)?,
+        table_of(alloc, 48, 1)?,
+        first_budgets(alloc, making.first_budget, making.max_budget)?,
+    ))
 }
 
 // Sixteen empty outboxes.
