@@ -11,7 +11,6 @@
 //! | [`Book::view`] | the keeper is what comes of the entries' calls, one after the other |
 //! | [`Book::entry`] | the entry of a number, from 0 |
 //! | [`take_work`] | the least issue in flight that is not the last one that another device took, or none |
-//! | [`run_server`] | it ends once the operator has stopped the host; if a socket, a thread or memory is wanting, it says which |
 //!
 //! [`Core`] is that of `host_core` over the [`Book`]: a keeper, and for each entry of its journal the name of the seat whose call it
 //! was.
@@ -35,7 +34,8 @@
 //!
 //! # A host that serves
 //!
-//! No clause says what [`run_server`] does: none can name what a socket or a thread does. The calls that it puts together have theirs.
+//! [`run_server`] ends once the operator has stopped the host; if a socket, a thread or memory is wanting, it says which. No clause
+//! says that: none can name what a socket or a thread does. The calls that it puts together have theirs.
 //!
 //! The core has a thread, and so has each path and each device (`host_paths`). Between them stand the rings of the seats alone.
 //!
