@@ -79,24 +79,24 @@ AddsBlock t (Pending entity weight) = ⊥
 AddsBlock t (Budget entity budget) = ⊥
 AddsBlock t (Serving slot) = ⊥
 
--- the place is one of a table that is made whole with the machine: any but the overlay
-abbrev pub IsOfTables : Change → Type 0
-IsOfTables (Sector sector block) = ⊥
-IsOfTables (RequestSlot slot request) = Unit {0}
-IsOfTables (BioSlot slot bio) = Unit {0}
-IsOfTables (Tag tag issue) = Unit {0}
-IsOfTables (QueueLink slot link) = Unit {0}
-IsOfTables (OutboxWhole seat outbox) = Unit {0}
-IsOfTables (SeatEntry seat entry) = Unit {0}
-IsOfTables (Requeued slot link) = Unit {0}
-IsOfTables (Mode scheduler frozen served) = Unit {0}
-IsOfTables (Head seat head) = Unit {0}
-IsOfTables (TreeMember group entity member) = Unit {0}
-IsOfTables (Vtime group vtime) = Unit {0}
-IsOfTables (GroupEntry entity group) = Unit {0}
-IsOfTables (Pending entity weight) = Unit {0}
-IsOfTables (Budget entity budget) = Unit {0}
-IsOfTables (Serving slot) = Unit {0}
+-- the place is not in the overlay, so that its exchange takes no memory
+abbrev pub IsBesideOverlay : Change → Type 0
+IsBesideOverlay (Sector sector block) = ⊥
+IsBesideOverlay (RequestSlot slot request) = Unit {0}
+IsBesideOverlay (BioSlot slot bio) = Unit {0}
+IsBesideOverlay (Tag tag issue) = Unit {0}
+IsBesideOverlay (QueueLink slot link) = Unit {0}
+IsBesideOverlay (OutboxWhole seat outbox) = Unit {0}
+IsBesideOverlay (SeatEntry seat entry) = Unit {0}
+IsBesideOverlay (Requeued slot link) = Unit {0}
+IsBesideOverlay (Mode scheduler frozen served) = Unit {0}
+IsBesideOverlay (Head seat head) = Unit {0}
+IsBesideOverlay (TreeMember group entity member) = Unit {0}
+IsBesideOverlay (Vtime group vtime) = Unit {0}
+IsBesideOverlay (GroupEntry entity group) = Unit {0}
+IsBesideOverlay (Pending entity weight) = Unit {0}
+IsBesideOverlay (Budget entity budget) = Unit {0}
+IsBesideOverlay (Serving slot) = Unit {0}
 
 -- at this sector there is a block already, or none is put there
 abbrev pub FitsAt : Blocks → ℕ → Option (List ℕ) → Type 0

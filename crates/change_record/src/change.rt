@@ -33,7 +33,7 @@ pub struct InService {
     pub age: u64,
 }
 
-/// Why the queue in service leaves it.
+/// Why the queue in service leaves it. The rules of BFQ, which stand beside the tables, name it.
 #[derive(Clone, Copy, Debug, PartialEq, Eq)]
 pub enum Expiry {
     /// The next request is greater than what is left of the budget.

@@ -13,6 +13,8 @@
 //!
 //! The tables change by `turn` alone. An exchange turned twice leaves the tables as they were, at every point
 //! between two others. An exchange on a place that is not there does nothing.
+//!
+//! The plain machine, which the tables mean, is in `specs/Machine.antt`, and the rules of BFQ on it in `specs/Rules.antt`.
 
 mod change;
 mod laws;

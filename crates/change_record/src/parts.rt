@@ -4,7 +4,7 @@ ghost use Rattle.std.specs.Option.{option_copied};
 ghost use Rattle.change_record.specs.Tables.{empty_tables, empty_service};
 ghost use Rattle.std.specs.FinMap as map;
 ghost use Rattle.overlay.specs.Blocks.{exchanged};
-ghost use Rattle.change_record.specs.Exchange.{IsOfTables, after, left_by, AddsBlock, FitsAt, FitsIn, tree_of, with_member, with_vtime};
+ghost use Rattle.change_record.specs.Exchange.{IsBesideOverlay, after, left_by, AddsBlock, FitsAt, FitsIn, tree_of, with_member, with_vtime};
 
 use crate::{Change, InService, Making, Outbox, Seat};
 use arrayvec::ArrayVec;
@@ -285,7 +285,7 @@ impl Parts {
 
     // Turns a change of any table but the overlay. It takes no memory.
     fn turn_table(&mut self, change: &mut Change)
-        requires { IsOfTables change.old }
+        requires { IsBesideOverlay change.old }
         ensures tables { self.new.tables ≡ after self.old.tables change.old }
         ensures left { change.new ≡ left_by self.old.tables change.old }
         ensures turns { self.new.turns ≡ self.old.turns }
@@ -320,6 +320,7 @@ impl Parts {
             Change::Pending { entity, weight } => swap_at(&mut self.weights, *entity, weight),
             Change::Budget { entity, budget } => swap_at(&mut self.budgets, *entity, budget),
             Change::Serving { slot } => mem::swap(&mut self.slot, slot),
+            // `turn` puts blocks by itself.
             Change::Sector { .. } => {}
         }
     }
@@ -350,7 +351,7 @@ fn exchange_block(
     }
 }
 
-// Puts a request, or none, at a slot, and what stood there into its stead.
+// Puts a request, or none, at a slot, and what stood there into its stead. If there is no such slot nothing changes.
 fn swap_request(pool: &mut RequestPool, slot: Slot, request: &mut Option<Request>)
     ensures pool { pool.new ≡ record pool.old { requests = slice_set pool.old.requests slot request.old } }
     ensures left { request.new ≡ slice_index_or pool.old.requests slot request.old }
@@ -359,7 +360,7 @@ fn swap_request(pool: &mut RequestPool, slot: Slot, request: &mut Option<Request
     *request = pool.exchange_request(slot, given);
 }
 
-// Puts a bio, or none, at a slot, and what stood there into its stead.
+// Puts a bio, or none, at a slot, and what stood there into its stead. If there is no such slot nothing changes.
 fn swap_bio(pool: &mut RequestPool, slot: Slot, bio: &mut Option<Bio>)
     ensures pool { pool.new ≡ record pool.old { bios = slice_set pool.old.bios slot bio.old } }
     ensures left { bio.new ≡ slice_index_or pool.old.bios slot bio.old }
@@ -414,7 +415,7 @@ fn exchange_vtime(trees: &mut Vec<ServiceTree>, group: u8, vtime: &mut u64)
     }
 }
 
-// Three groups of empty tables, so that each function has few to give back where memory is short.
+// Three groups of empty tables, so that each function has few to give back if memory is short.
 
 // The pool, the tags, the queues and the dispatch list, without a request.
 fn empty_queues(

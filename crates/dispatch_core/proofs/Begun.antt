@@ -102,16 +102,13 @@ room_enough old left h g = omega arith
 pub room_thrice : (a b c d : ℕ) → a ≤ b + 32 → b ≤ c + 48 → c ≤ d + 16 → a ≤ d + 96
 room_thrice a b c d h g f = omega arith
 
-pub count_thrice : (a b c d k m : ℕ) → b ≡ a + 32 → c ≡ b + m → d ≡ c + 16 → m ≡ k → d ≡ a + (48 + k)
-count_thrice a b c d k m h g f e = omega arith
-
 pub room_at : (old left k n : ℕ) → n ≤ old → old ≤ left + k → k < n → 1 ≤ left
 room_at old left k n h g lt = omega arith
 
 pub room_within : (old left k n : ℕ) → old ≤ left + k → k ≤ n → old ≤ left + n
 room_within old left k n h le = omega arith
 
--- only trees are changed of, twice, and then budgets
+-- the tables change in trees alone, twice, and then in budgets alone
 pub trees_then_budgets : (t u v w : Tables) → u ≡ record t { trees = u.trees } → v ≡ record u { trees = v.trees } → w ≡ record v { budgets = w.budgets }
     → w ≡ record t { trees = w.trees; budgets = w.budgets }
 trees_then_budgets t u v w first second third =

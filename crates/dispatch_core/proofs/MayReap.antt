@@ -77,7 +77,7 @@ refused_late l n t room seat session entry place w within sits stays same owed f
     sym (reap_late (meaning t) room seat session entry within sits stays same owed done.bio (bios_at t.bios others)
     (reaped-outbox_was l n t seat entry place others done.bio w can) late)
 
--- the place is taken, and bios wait and are owed
+-- a bio is at the place
 pub place_taken : (l : Limits) (n : ℕ) (t : Tables) (room : Bool) (seat session : ℕ) (entry : Seat) (place : ℕ) → WellFormed l n t → MayReap t room seat session entry place
     → (bio : Bio) × (at t.bios place ≡ Some bio)
 place_taken l n t room seat session entry place w may =

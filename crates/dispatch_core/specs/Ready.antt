@@ -51,7 +51,8 @@ pub record MaySubmit (l : Limits) (t : Tables) (seat : ℕ) (entry : Seat) (plac
   pub place_of : IsSlotOf seat place
   pub place_free : at t.bios place ≡ None
 
--- what Finish's tests have shown before memory is sought: the tag bears a request of a session that sits, and the outcome is one of it
+-- what Finish's tests have shown before memory is sought: the tag bears this issue and a request of a session that sits, the size is the
+-- request's, the outcome fits it, and the history has room
 pub record MayFinish (l : Limits) (t : Tables) (room : Bool) (tag issue : ℕ) (outcome : Outcome) (slot seat size : ℕ) : Type 0 where
   pub within : tag < l.tags
   pub in_time : room ≡ true
@@ -65,7 +66,8 @@ pub record MayFinish (l : Limits) (t : Tables) (room : Bool) (tag issue : ℕ) (
   pub size_is : size ≡ total_count t.bios request.bios.items
   pub good : fits request.op size outcome ≡ true
 
--- what Reap's tests have shown: a session that stays sits at the seat, bios are owed to it, and one waits in its outbox
+-- what Reap's tests have shown: the session that asks sits at the seat and stays, bios are owed to it, the first of its outbox is this one,
+-- and the history has room
 pub record MayReap (t : Tables) (room : Bool) (seat session : ℕ) (entry : Seat) (place : ℕ) : Type 0 where
   pub within : seat < 16
   pub sits : at t.seats seat ≡ Some entry

@@ -1,9 +1,6 @@
-use Rattle.std.proofs.Common.{◌≡◌, ℕ, length, ap, ◌∙◌}
-use Rattle.std.specs.Prelude.{count_by, is_some}
+use Rattle.std.proofs.Common.{ap, ◌∙◌}
 use Rattle.soft_queue.specs.Turn.{numbers}
-use Rattle.change_record.specs.Tables.{Tables}
-use Rattle.change_record.specs.Machine.{bfq_of}
-use Rattle.dispatch_core.proofs.Begun.{room_enough, room_left, room_thrice, count_thrice, trees_then_budgets}
+use Rattle.dispatch_core.proofs.Begun.{room_enough, room_left, room_thrice, trees_then_budgets}
 use Rattle.plain_machine.specs.Step.{with_first_budgets, with_first_times, for_each, of_sizes}
 use Rattle.dispatch_core.proofs.switch.begin_again.Goals as goal
 
@@ -33,11 +30,6 @@ returns-clause-others c = trees_then_budgets c.args.parts.now.tables c.begin_vti
 
 pub returns-clause-room : goal.returns-clause-room
 returns-clause-room c = room_thrice c.args.tape.now.room c.begin_vtimes.new.tape.room c.begin_times.new.tape.room c.begin_budgets.new.tape.room c.begin_vtimes.ensures.room c.begin_times.ensures.room c.begin_budgets.ensures.room
-
-pub returns-clause-count : goal.returns-clause-count
-returns-clause-count c =
-    let f : Tables → ℕ = λ x. count_by (λ entity. is_some ((bfq_of x).parent entity)) (numbers 0 48) in
-    count_thrice (length c.args.tape.now.current) (length c.begin_vtimes.new.tape.current) (length c.begin_times.new.tape.current) (length c.begin_budgets.new.tape.current) (f c.args.parts.now.tables) (f c.begin_vtimes.new.parts.tables) c.begin_vtimes.ensures.count c.begin_times.ensures.count c.begin_budgets.ensures.count (ap f c.begin_vtimes.ensures.others)
 
 pub begin_times-requires-clause-room : goal.begin_times-requires-clause-room
 begin_times-requires-clause-room c = room_enough c.args.tape.now.room c.begin_vtimes.new.tape.room c.requires.room c.begin_vtimes.ensures.room

@@ -216,12 +216,5 @@ invariant_of-self-in-None c =
     subst P (sym c.copy_of-copy.ensures.items) (same-line i.line.items i.cursor i.last _ _ _ _ _ _ _ _ (e.sizes ∙ c.apply.ensures.sizes) tables tapes
     (c.drop_last.ensures.current ∙ sym c.self.invariant.idle) c.self.invariant)
 
-pub returns-in-None-clause-lengths : goal.returns-in-None-clause-lengths
-returns-in-None-clause-lengths c =
-    let steps = c.self.inside.tape.steps in
-    let r = c.in-Accepted.ensures.records in
-    let before = steps-before c.apply.new.tape.steps c.back.new.tape.steps steps r.0 _ c.len-at.result c.len-at.ensures r.1 c.back.ensures.steps in
-    ap (map length) (c.drop_last.ensures.steps ∙ before) ∙ ap (λ v. v.lengths) c.self.view_is
-
 pub returns-in-None-clause-ready : goal.returns-in-None-clause-ready
 returns-in-None-clause-ready c = λ h. absurd h
