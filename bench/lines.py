@@ -70,7 +70,7 @@ def taken(words, pairs):
 def main():
     argparse.ArgumentParser(description=__doc__, formatter_class=argparse.RawDescriptionHelpFormatter).parse_args()
     if not os.path.exists(PROGRAM):
-        sys.exit("bench: no program; ./bfqhost --help builds it")
+        sys.exit("bench: no program; tests/build.py --llvm builds it")
     cat = shutil.which("cat")
     if cat is None:
         sys.exit("bench: no cat")

@@ -465,7 +465,7 @@ def main():
     if not set(wanted) <= set(names):
         sys.exit(f"bench: the workloads are {', '.join(repr(name) for name in names)}")
     if not os.path.exists(PROGRAM):
-        sys.exit("bench: no program; ./bfqhost --help builds it")
+        sys.exit("bench: no program; tests/build.py --llvm builds it")
     against = given.against and os.path.abspath(given.against)
     if against and not os.access(against, os.X_OK):
         sys.exit(f"bench: no program {against}")

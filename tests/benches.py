@@ -27,7 +27,7 @@ FED = ("serve_bench", ["feed", "4096", "2"], "13106\n")
 
 
 def builds(name):
-    """The builds of a program, where rt ci leaves them, and what each is called. One by LLVM there must be."""
+    """The builds of a program, where rt ci leaves them, and what each is called. One by LLVM there must be, or what ./bfqhost has built."""
     made = os.path.join(TOP, "crates", name, "out", name)
     return [(made, "")] + [(it, " (built by Rattle's own compiler)") for it in [f"{made}.by-rattle"] if os.path.exists(it)]
 

@@ -13,7 +13,9 @@ import contextlib
 import fcntl
 import hashlib
 import os
+import re
 import shutil
+import signal
 import sys
 import tempfile
 import time
@@ -28,7 +30,7 @@ MINUTES_OF_ALL = 110
 # What a crate costs whatever its size, as so much code: a check reads what was proved below first, and its library holds much of that.
 CODE_OF_EACH = 4_000
 # Each job reads what is below anew: for one crate a second took 17 seconds of processor time, and two more 15 together, by which the clock
-# gained 8. With up to three each, ten crates took some 400 seconds more than with one, of 3,370 in all. So there are no more than two.
+# gained 8. By a rough sum, ten crates with up to three took 400 seconds more than with one, of 3,370 in all. So there are no more than two.
 CODE_OF_A_JOB = 2_500
 MOST_JOBS = 2
 # The longest chain of crates sets the time. A crate gets but one job if its chain is less than so much of the longest one; and the shorter
@@ -37,9 +39,10 @@ LONG = 0.5
 GIVES_WAY = 30
 
 # A check writes and reads thousands of small files, up to 0.3 GB of them. In memory that takes half of the system's time that it takes on
-# a disk. If there is less room than so many gigabytes for each check, they go where TMPDIR says, as they do on a system without it.
+# a disk. If there is no room for them, half a gigabyte for each check beside 3 of its own, they go where they would go else.
 MEMORY = Path("/dev/shm")
-ROOM = 1
+ROOM, OWN = 0.5, 3
+GIGABYTE = 1 << 30
 
 
 def tell(text):
@@ -65,7 +68,7 @@ def prove_all(left, lines):
         above = [behind[it] for it in behind if name in below(it, lines)]
         behind[name] = CODE_OF_EACH + code(name) / jobs_of(name) + max(above, default=0)
     # Crates begin until there are two jobs more than processors, since one leaves some idle while it reads and writes libraries.
-    number, most, running, jobs = len(left), lanes(2, 3), {}, {}
+    number, most, running, jobs = len(left), lanes(2, OWN), {}, {}
     with ThreadPoolExecutor(max(1, number)) as pool:
         while left or running:
             ready = [it for it in left if not {*below(it, lines)} & {*left, *jobs}]
@@ -86,20 +89,37 @@ def prove_all(left, lines):
 
 @contextlib.contextmanager
 def files_in_memory():
-    """While it lasts checks have their files in memory, if there is room for them. What a killed build of this checkout left there goes."""
-    mine = f"bfqhost-{hashlib.sha256(bytes(TOP)).hexdigest()[:16]}-"
+    """While it lasts checks have their files in memory, if there is room for them and TMPDIR names no other place. What an earlier build
+    of this checkout left there, as it was killed, goes."""
+    it = (TOP / "crates.txt").stat()
+    mine = f"bfqhost-{hashlib.sha256(f'{TOP} {it.st_dev} {it.st_ino}'.encode()).hexdigest()[:16]}-"
     for left in MEMORY.glob(f"{mine}*"):
         shutil.rmtree(left, ignore_errors=True)
-    if not os.access(MEMORY, os.W_OK) or shutil.disk_usage(MEMORY).free < (lanes(2, 3) * ROOM) << 30:
+    free = int(re.search(r"MemAvailable:\s+(\d+)", Path("/proc/meminfo").read_text())[1]) << 10
+    has_room = os.access(MEMORY, os.W_OK) and shutil.disk_usage(MEMORY).free >= lanes(2, OWN) * ROOM * GIGABYTE
+    has_room = has_room and free >= lanes(2, OWN) * (OWN + ROOM) * GIGABYTE
+    if "TMPDIR" in os.environ or not has_room:
         yield
         return
-    with tempfile.TemporaryDirectory(prefix=mine, dir=MEMORY) as folder:
-        os.environ["TMPDIR"] = folder
+    os.environ["TMPDIR"] = folder = tempfile.mkdtemp(prefix=mine, dir=MEMORY)
+
+    def end(number, _):
+        shutil.rmtree(folder, ignore_errors=True)
+        os._exit(128 + number)
+
+    for number in (signal.SIGTERM, signal.SIGHUP):
+        if signal.getsignal(number) == signal.SIG_DFL:
+            signal.signal(number, end)
+    try:
         yield
+    finally:
+        del os.environ["TMPDIR"]
+        shutil.rmtree(folder, ignore_errors=True)
 
 
 def build_by_rattle(name, lines, began):
-    """As build_program, with Rattle's own compiler, which takes 20 seconds where LLVM takes 50 to 70, on one processor."""
+    """As build_program, with Rattle's own compiler, which takes 21 seconds where LLVM takes 51, while one processor works. It stands here,
+    since after a change of libraries.py all wrong bodies have to be tried again."""
     program, made_of = CRATES / name / "out" / name, CRATES / name / "out" / f"{name}.o"
     program.parent.mkdir(exist_ok=True)
     words, tools = command("build", name, lines), ["--toolchain", kit() / "toolchain"]
@@ -132,6 +152,8 @@ def main():
     words.add_argument("--program", choices=PROGRAMS, default=PROGRAMS[0])
     words.add_argument("crates", nargs="*", metavar="CRATE")
     given = words.parse_args()
+    if given.llvm and given.crates:
+        words.error("with the names of crates no program is made")
     with open(TOP / "crates.txt", encoding="utf-8") as lock:
         # One build at a time.
         fcntl.flock(lock, fcntl.LOCK_EX)
