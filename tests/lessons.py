@@ -46,11 +46,11 @@ class Shell:
     """A shell that runs commands one by one, with its own folder in the place of that of the lessons."""
 
     def __init__(self, programs, folder):
-        # In the folder of this run the launchers' names are those of the programs.
+        # In the folder of this run the launchers' names are those of the programs, without what may stand behind a dot of how one was built.
         here = os.path.join(folder, "here")
         os.mkdir(here)
         for path in [*programs, *(os.path.join(TOP, name) for name in ("clients", "crates", "examples"))]:
-            os.symlink(path, os.path.join(here, os.path.basename(path)))
+            os.symlink(path, os.path.join(here, os.path.basename(path).partition(".")[0]))
         # A tool starts the program that stands beside its folder, wherever that really is.
         shutil.copytree(os.path.join(TOP, "tools"), os.path.join(here, "tools"), ignore=shutil.ignore_patterns("__pycache__"))
         self.process = subprocess.Popen(["bash"], cwd=here, stdin=subprocess.PIPE, stdout=subprocess.PIPE, stderr=subprocess.STDOUT,
