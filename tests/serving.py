@@ -229,6 +229,8 @@ def stopped_with_clients(host):
         waiting.asks((ATTACH, attached(1)), (fetch(1, 0, 1), queued(2)), (reap(1), read(2, sector_of(0))))
         host.operates((FREEZE, DONE))
         waiting.send(fetch(1, 1, 1))
+        # Its bytes are to be read before the host ends: if a socket is closed before that, its peer hears of a reset, and of no end.
+        waiting.waits()
         idle.asks((ATTACH, attached(7)))
         with host.operator() as operator:
             operator.asks((STOP, CLOSED))
