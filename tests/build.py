@@ -30,9 +30,9 @@ MINUTES_OF_ALL = 110
 # What a crate costs whatever its size, as so much code: a check reads what was proved below first, and its library holds much of that.
 CODE_OF_EACH = 4_000
 # Each job reads what is below anew: for one crate a second took 17 seconds of processor time, and two more 15 together, by which the clock
-# gained 8. By a rough sum, ten crates with up to three took 400 seconds more than with one, of 3,370 in all. So there are no more than two.
+# gained 8. So there are no more than three. With two at most a build on the same machine was no quicker.
 CODE_OF_A_JOB = 2_500
-MOST_JOBS = 2
+MOST_JOBS = 3
 # The longest chain of crates sets the time. A crate gets but one job if its chain is less than so much of the longest one; and the shorter
 # that is, the further the crate gives way to others.
 LONG = 0.5
