@@ -23,7 +23,7 @@ pub struct Seat {
 }
 
 /// The queue in service.
-#[derive(Clone, Copy, Debug, PartialEq, Eq)]
+#[derive(Clone, Copy)]
 pub struct InService {
     /// Its seat.
     pub seat: u8,
@@ -45,7 +45,7 @@ pub enum Expiry {
 }
 
 /// What the tables of a machine are made for.
-#[derive(Clone, Copy, Debug, PartialEq, Eq)]
+#[derive(Clone, Copy)]
 pub struct Making {
     /// How many requests may be queued, in the dispatch list or in flight.
     pub requests: u16,

@@ -215,7 +215,7 @@ const FORMS: [(&[u8], Line); 50] = [
 #[test]
 fn each_form_is_read(rt: HostRuntime) {
     for (text, want) in FORMS {
-        assert_eq!(rt; line_of(text), Some(want));
+        assert!(rt; line_of(text) == Some(want), "{text:?}");
     }
 }
 
@@ -223,7 +223,7 @@ fn each_form_is_read(rt: HostRuntime) {
 #[test]
 fn silent_lines_are_none(rt: HostRuntime) {
     for text in ["", "#"] {
-        assert_eq!(rt; line_of(text.as_bytes()), None);
+        assert!(rt; line_of(text.as_bytes()).is_none(), "{text}");
     }
 }
 

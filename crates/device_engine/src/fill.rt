@@ -5,7 +5,7 @@ ghost use Rattle.device_engine.specs.Fill.{Fills};
 use base_image::{Image, ImageFault};
 
 /// How a read of a whole range ended.
-#[derive(Clone, Copy, Debug, PartialEq, Eq)]
+#[derive(Clone, Copy)]
 pub enum Filled {
     /// The buffer is full.
     Whole,

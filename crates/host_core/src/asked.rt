@@ -11,7 +11,7 @@ use host_calls::{ClientCall, OperatorCall, SeatName};
 use plain_machine::{Call, DeviceCall, Step};
 
 /// What a seat asks of the core, with its number put in.
-#[derive(Debug, Drop)]
+#[derive(Drop)]
 pub enum Asked {
     /// A call of the keeper.
     Ask(Call),

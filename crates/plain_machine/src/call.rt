@@ -6,7 +6,7 @@ use crate::Step;
 use sector_core::Outcome;
 
 /// What a keeper is asked.
-#[derive(Clone, Debug, Drop)]
+#[derive(Drop)]
 pub enum Call {
     /// A step of the machine.
     Do(Step),
@@ -21,7 +21,7 @@ pub enum Call {
 }
 
 /// What a device asks for.
-#[derive(Clone, Debug, Drop)]
+#[derive(Drop)]
 pub enum DeviceCall {
     /// Work: of the requests in flight that no other device took last, the one that was issued first. It is no step.
     Take {
@@ -68,7 +68,7 @@ impl DeviceCall {
 }
 
 /// A step that was accepted, with its serial.
-#[derive(Debug, Drop)]
+#[derive(Drop)]
 pub struct Stamped {
     /// Its serial.
     pub serial: u64,

@@ -2,7 +2,7 @@
 use sector_core::Scheduler;
 
 /// The sizes of a machine, which no step changes.
-#[derive(Clone, Copy, Debug, PartialEq, Eq)]
+#[derive(Clone, Copy)]
 pub struct Sizes {
     /// The sectors of its image.
     pub sectors: u64,

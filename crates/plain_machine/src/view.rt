@@ -3,7 +3,7 @@ use sector_core::Range;
 use service_tree::State;
 
 /// What stands at a place of a seat's queue.
-#[derive(Clone, Copy, Debug, PartialEq, Eq)]
+#[derive(Clone, Copy)]
 pub enum RequestView {
     /// Nobody sits at the seat, or there is no such seat.
     Free,
@@ -14,7 +14,7 @@ pub enum RequestView {
 }
 
 /// What is known of an entity: a session's or a group's.
-#[derive(Clone, Copy, Debug, PartialEq, Eq)]
+#[derive(Clone, Copy)]
 pub struct EntityView {
     /// Whether it waits for service, is served, or neither.
     pub state: State,

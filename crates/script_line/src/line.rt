@@ -3,7 +3,7 @@ use super::look::Look;
 use sector_core::Scheduler;
 
 /// A line of a script that is not empty and no comment.
-#[derive(Clone, Copy, Debug, PartialEq, Eq)]
+#[derive(Clone, Copy, PartialEq, Eq)]
 pub enum Line {
     /// `attach SEAT GROUP PRIO`
     Attach {
@@ -114,7 +114,7 @@ pub enum Line {
 }
 
 /// How a request of a `finish` line ended.
-#[derive(Clone, Copy, Debug, PartialEq, Eq)]
+#[derive(Clone, Copy, PartialEq, Eq)]
 pub enum Ending {
     /// `stored`
     Stored,

@@ -1,7 +1,7 @@
 // What a query `show` can ask for.
 
 /// What a line `show` is to show.
-#[derive(Clone, Copy, Debug, PartialEq, Eq)]
+#[derive(Clone, Copy, PartialEq, Eq)]
 pub enum Look {
     /// `show seat SEAT`
     Seat { seat: u8 },

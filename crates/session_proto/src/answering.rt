@@ -14,7 +14,7 @@ use std::alloc::Global;
 use std::io::Write;
 
 /// How far a session is.
-#[derive(Clone, Copy, Debug, PartialEq, Eq)]
+#[derive(Clone, Copy)]
 pub struct Counts {
     /// How many calls were asked.
     pub calls: u32,

@@ -8,7 +8,7 @@ use super::side::Side;
 use std::alloc::{AllocError, Global};
 
 /// What bytes begin with.
-#[derive(Debug, Drop)]
+#[derive(Drop)]
 pub enum Next<S> {
     /// No byte, or a frame that is not whole.
     More,

@@ -8,7 +8,7 @@ use super::side::Side;
 use std::alloc::{AllocError, Global};
 
 /// The values of frames, how many bytes these take, and the fault that stands after them, if one does.
-#[derive(Debug, Drop)]
+#[derive(Drop)]
 pub struct Split<S> {
     pub values: Vec<S>,
     pub size: usize,
