@@ -1,7 +1,7 @@
 // A request as long as one can be: 32 stores of 8 sectors, merged, dispatched and finished, each step turned back and forth.
-use crate::host::Host;
+use crate::host::{Host, Place};
 use bytes::Bytes;
-use dispatch_core::{Reply, RequestView, SectorView, Step};
+use dispatch_core::{Reply, SectorView, Step};
 use sector_core::{Op, Outcome, Range};
 use std::alloc::Global;
 use std::process::Abort;
@@ -51,7 +51,7 @@ enum Told {
     // the image's while it was turned back.
     Step(Act, Came, [u64; 3], bool),
     // At a place of seat 0.
-    Request(usize, RequestView),
+    Request(usize, Place),
     IsStored(bool),
     // How many steps the line has, and how many exchanges were made.
     Made(u32, u64),
@@ -105,7 +105,7 @@ fn again(host: &mut Host, alloc: Global, told: Told) -> Result<Told, Fail> {
             let (reply, exchanges, is_base) = host.turned(alloc, step_of(act), LAST)?;
             Ok(Told::Step(act, reply_of(&reply), exchanges, is_base))
         }
-        Told::Request(place, _) => Ok(Told::Request(place, host.view().request(0, place))),
+        Told::Request(place, _) => Ok(Told::Request(place, host.place(0, place))),
         Told::IsStored(_) => Ok(Told::IsStored(is_stored(host))),
         Told::Made(..) => Ok(Told::Made(host.steps(), host.turns())),
     }
@@ -135,13 +135,9 @@ fn steps_of_a_full_store(rt: HostRuntime) -> Result<(), Fail> {
             [exchanges; 3],
             true,
         );
-        expect(
-            &rt,
-            &mut host,
-            &[store, Told::Request(1, RequestView::Past)],
-        )?;
+        expect(&rt, &mut host, &[store, Told::Request(1, Place::Past)])?;
     }
-    let full = RequestView::Queued {
+    let full = Place::Queued {
         range: WHOLE,
         bios: 32,
     };

@@ -1,7 +1,7 @@
 // A keeper whose steps the tests make, and turn back and forth.
-use dispatch_core::{Answer, Reply, SectorView, Step, View};
+use dispatch_core::{Answer, Reply, RequestView, SectorView, Step, View};
 use history::{Call, Keeper};
-use sector_core::{Config, ConfigDraft};
+use sector_core::{Config, ConfigDraft, Range};
 use std::alloc::Global;
 use std::test::Fail;
 
@@ -18,6 +18,14 @@ pub fn checked(draft: ConfigDraft) -> Result<Config, Fail> {
 fn opened(alloc: Global, sectors: u32) -> Result<Keeper, Fail> {
     let config = checked(ConfigDraft::default())?;
     Ok(Keeper::new(alloc, config, u64::from(sectors))?)
+}
+
+// What stands at a place of a seat's queue, as a `RequestView` tells it. That one cannot be compared, since only tests would do so.
+#[derive(Clone, Copy, Debug, PartialEq, Eq)]
+pub enum Place {
+    Free,
+    Past,
+    Queued { range: Range, bios: u32 },
 }
 
 #[derive(Drop)]
@@ -85,6 +93,15 @@ impl Host {
     // The machine.
     pub fn view(&self) -> View<'_> {
         self.keeper.view().machine()
+    }
+
+    // What stands at a place of a seat's queue.
+    pub fn place(&self, seat: u8, place: usize) -> Place {
+        match self.view().request(seat, place) {
+            RequestView::Free => Place::Free,
+            RequestView::Past => Place::Past,
+            RequestView::Queued { range, bios } => Place::Queued { range, bios },
+        }
     }
 
     // How many exchanges were made.

@@ -1,7 +1,7 @@
 // The machine in examples: its steps are proved, and these say what they mean, and that a call succeeds while memory is left.
-use crate::host::Host;
+use crate::host::{Host, Place};
 use bytes::Bytes;
-use dispatch_core::{Code, EntityView, RequestView, SectorView, Step};
+use dispatch_core::{Code, EntityView, SectorView, Step};
 use sector_core::{Op, Outcome, Range, Scheduler};
 use std::alloc::Global;
 use std::process::Abort;
@@ -87,7 +87,7 @@ enum Told {
     Group(Option<u64>, Option<(u32, u32, u32)>),
     Scheduler(Scheduler),
     // At a place of a seat.
-    Request(u8, usize, RequestView),
+    Request(u8, usize, Place),
 }
 
 // Does that again, and tells what came of it.
@@ -105,9 +105,7 @@ fn again(host: &mut Host, alloc: Global, told: Told) -> Told {
             Told::Group(host.view().vtime(1), entity)
         }
         Told::Scheduler(_) => Told::Scheduler(host.view().scheduler()),
-        Told::Request(seat, place, _) => {
-            Told::Request(seat, place, host.view().request(seat, place))
-        }
+        Told::Request(seat, place, _) => Told::Request(seat, place, host.place(seat, place)),
     }
 }
 
@@ -198,8 +196,8 @@ fn group_made_and_dropped(rt: HostRuntime) -> Result<(), Fail> {
 }
 
 // A request that is queued, of one bio.
-fn queued(range: Range) -> RequestView {
-    RequestView::Queued { range, bios: 1 }
+fn queued(range: Range) -> Place {
+    Place::Queued { range, bios: 1 }
 }
 
 // Two requests that do not touch stand in a queue, the one submitted first in front.
@@ -207,14 +205,14 @@ fn queued(range: Range) -> RequestView {
 fn places_of_a_queue(rt: HostRuntime) -> Result<(), Fail> {
     let start = Range { start: 0, count: 2 };
     let all = [
-        Told::Request(0, 0, RequestView::Free),
-        Told::Request(16, 0, RequestView::Free),
+        Told::Request(0, 0, Place::Free),
+        Told::Request(16, 0, Place::Free),
         Told::Step(Act::Attach, 1),
         Told::Step(Act::Fetch(ONE), 2),
         Told::Step(Act::Fetch(start), 3),
         Told::Request(0, 0, queued(ONE)),
         Told::Request(0, 1, queued(start)),
-        Told::Request(0, 2, RequestView::Past),
+        Told::Request(0, 2, Place::Past),
     ];
     expect(&rt, &all)
 }
