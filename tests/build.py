@@ -29,13 +29,13 @@ from libraries import PROGRAMS, build_program, lanes, prove, run, stale
 MINUTES_OF_ALL = 110
 # What a crate costs whatever its size, as so much code: a check reads what was proved below first, and its library holds much of that.
 CODE_OF_EACH = 4_000
-# Each job reads what is below anew: for one crate a second took 17 seconds of processor time, and two more 15 together, by which the clock
-# gained 8. So there are no more than three. With two at most a build on the same machine was no quicker.
-CODE_OF_A_JOB = 2_500
+# With more jobs than one each module is checked in a forked copy of the checker: a second job took a quarter more processor time for one
+# crate, and a third a tenth. So there are no more than three, and only where the clock gains by them.
+CODE_OF_A_JOB = 4_000
 MOST_JOBS = 3
 # The longest chain of crates sets the time. A crate gets but one job if its chain is less than so much of the longest one; and the shorter
 # that is, the further the crate gives way to others.
-LONG = 0.5
+LONG = 0.8
 GIVES_WAY = 30
 
 # A check writes and reads thousands of small files, up to 0.3 GB of them. In memory that takes half of the system's time that it takes on
