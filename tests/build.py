@@ -33,8 +33,8 @@ CODE_OF_EACH = 4_000
 # 156 with two and 167 with three. So there are no more than three, and only for crates whose chain is among the longest.
 CODE_OF_A_JOB = 4_000
 MOST_JOBS = 3
-# The longest chain of crates sets the time. A crate gets but one job if its chain is less than so much of the longest one; and the shorter
-# that is, the further the crate gives way to others. Chains are weighed roughly, as if each crate got all jobs that it is worth.
+# The longest chain of crates sets the time. If a crate's chain is less than so much of the longest one, it gets one job, or what would be
+# idle; and the shorter its chain is, the further it gives way to others. Chains are weighed as if each crate got all jobs it is worth.
 LONG = 0.8
 GIVES_WAY = 30
 
@@ -73,11 +73,13 @@ def prove_all(left, lines):
         while left or running:
             ready = [it for it in left if not {*below(it, lines)} & {*left, *jobs}]
             longest = max(behind[it] for it in [*left, *jobs])
-            for name in sorted(ready, key=lambda it: -behind[it]):
-                if sum(jobs.values()) < most:
+            for place, name in enumerate(sorted(ready, key=lambda it: -behind[it]), 1):
+                if (taken := sum(jobs.values())) < most:
                     tell(f"proving {name}; {number - len(left) - len(jobs)} of {number} are proved")
                     share = behind[name] / longest
-                    jobs[name] = jobs_of(name) if share >= LONG else 1
+                    # A crate of a shorter chain has what those behind it leave idle.
+                    idle = most - 1 - taken - (len(ready) - place)
+                    jobs[name] = jobs_of(name) if share >= LONG else max(1, min(jobs_of(name), idle))
                     running[pool.submit(prove, name, lines, jobs[name], min(19, round(GIVES_WAY * (1 - share))))] = name
                     left.remove(name)
             for ran in wait(running, return_when=FIRST_COMPLETED).done:
