@@ -30,7 +30,7 @@ MINUTES_OF_ALL = 110
 # What a crate costs whatever its size, as so much code: a check reads what was proved below first, and its library holds much of that.
 CODE_OF_EACH = 4_000
 # With more jobs than one each module is checked in a forked copy of the checker: `history` took 125 seconds of processor time with one job,
-# 156 with two and 167 with three. So there are no more than three, and only for crates whose chain is among the longest.
+# 156 with two and 167 with three. So there are no more than three, and only if the chain is among the longest or else processors were idle.
 CODE_OF_A_JOB = 4_000
 MOST_JOBS = 3
 # The longest chain of crates sets the time. If a crate's chain is less than so much of the longest one, it gets one job, or what would be
