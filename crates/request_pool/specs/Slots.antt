@@ -1,5 +1,5 @@
 -- The pool as two lists of slots, each with a value or none (blk-mq: requests are allocated once, by number).
-use Rattle.std.specs.Prelude.{ℕ, ◌+◌, ◌*◌, List, Option, take, drop}
+use Rattle.std.specs.Prelude.{ℕ, ◌*◌, List, Option, take, drop}
 use Rattle.sector_core.specs.declared.bio.Bio.{Bio}
 use Rattle.request_pool.specs.declared.Request.{Request}
 
