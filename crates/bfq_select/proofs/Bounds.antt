@@ -1,11 +1,13 @@
 -- The bounds of the numbers, after each exchange.
-use Rattle.std.proofs.Common.{◌≡◌, ℕ, zero, suc, ◌≤◌, ◌^◌, ◌==◌, List, [], ◌∷◌, Option, Some, None, true, false, if◌then◌else◌, slice_index_or, slice_set, sym, subst}
+use Rattle.std.proofs.Common.{arith, ◌≡◌, ℕ, zero, suc, ◌≤◌, ◌^◌, ◌==◌, List, [], ◌∷◌, Option, Some, None, true, false, if◌then◌else◌, slice_index_or, slice_set, sym, subst}
 use Rattle.service_tree.specs.declared.member.Member.{Member}
 use Rattle.service_tree.specs.Members.{Service}
 use Rattle.change_record.specs.declared.change.InService.{InService}
 use Rattle.change_record.specs.Exchange.{with_member}
 use Rattle.change_record.specs.Machine.{Bfq, put}
-use Rattle.change_record.specs.Rules.{put_member}
+use Rattle.change_record.specs.declared.change.Expiry.{Expiry}
+use Rattle.change_record.specs.declared.change.Expiry.TheVariants.{Exhaustion, Timeout, Emptying}
+use Rattle.change_record.specs.Rules.{put_member, budget_after}
 use Rattle.bfq_select.specs.Service.{IsBounded}
 
 -- what holds of each member and of the new one holds of each after it is put
@@ -59,3 +61,14 @@ bounded_slot b c slot e v fits =
       served = fits;
     } in
     subst IsBounded (sym e) put_in
+
+-- a new budget is within the bounds of budgets
+pub least_after : (cause : Expiry) (budget service most : ℕ) → 256 ≤ budget → 256 ≤ most → 256 ≤ budget_after cause budget service most
+least_after Exhaustion budget service most least fits = omega (arith, least, fits)
+least_after Timeout budget service most least fits = omega (arith, least, fits)
+least_after Emptying budget service most least fits = omega arith
+
+pub most_after : (cause : Expiry) (budget service most : ℕ) → most ≤ 65536 → service ≤ 65536 → budget_after cause budget service most ≤ 65536
+most_after Exhaustion budget service most fits served = omega (arith, fits)
+most_after Timeout budget service most fits served = omega (arith, fits)
+most_after Emptying budget service most fits served = omega (arith, served)
