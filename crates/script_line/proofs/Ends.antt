@@ -3,7 +3,7 @@ use Rattle.std.proofs.Common.{◌≡◌, ℕ, ◌+◌, ◌<◌, ◌≤◌, List,
 use Rattle.std.specs.Io.KnownBytes.{Appends, Consumes, Keeps, IsAtEnd}
 use Rattle.script_line.specs.declared.line.Line.{Line}
 use Rattle.script_line.specs.Script.{Known, IsLine, IsSilent, IsBad, IsWhole, IsNext, IsBadNext, Step, MayHaveRun, ended, bad_text, EndsBy, IsEnd, too_many, too_long, no_line}
-use Rattle.script_line.specs.Steps.{IsCut, IsBadEnd, IsReadEnd, SoFar, OneMore}
+use Rattle.script_line.specs.Steps.{IsCut, IsBadEnd, IsReadEnd, IsLineEnd, IsLastEnd, SoFar, OneMore}
 use Rattle.script_line.specs.declared.ending.ScriptEnd.{ScriptEnd}
 use Rattle.script_line.specs.declared.ending.ScriptEnd.TheVariants.{Done, BadLine, ReadFault, WriteFault, OutOfMemory}
 use Rattle.script_line.proofs.Bytes.{Appends-none, Appends-more, Consumes-none, Consumes-more, Consumes-kept, Appends-kept, All-push, ended-push, Runs-push}
@@ -130,6 +130,41 @@ pub stops_unread : {C : Type 0} (prints : C → Line → List ℕ → C → Type
 stops_unread prints r0 r1 w0 w1 w2 c0 c1 c2 count line after s room whole bad same =
     stops_bad prints r0 r1 w0 w1 w2 c0 c1 c2 count line after s
     (no_line line (is_next prints r0 r1 w0 w1 c0 c1 count line after s room whole) bad) same
+
+-- what the line prints is written
+pub one_more : {C : Type 0} (prints : C → Line → List ℕ → C → Type 0) (r0 r1 w0 w1 w2 : Known) (c0 c1 c2 : C) (count : ℕ) (line after text : List ℕ)
+    → SoFar prints r0 r1 w0 w1 c0 c1 count line after → count < 1048576 → Step prints c1 line text c2 → Appends w1 w2 text
+    → OneMore prints r0 r1 w0 w2 c0 c2 (count + 1) line after
+one_more prints r0 r1 w0 w1 w2 c0 c1 c2 count line after text s room step wrote = record {
+  lines = s.lines;
+  text = s.text;
+  printed = text;
+  last = c1;
+  read = s.read;
+  each = s.each;
+  counted = ap (λ n. n + 1) s.counted;
+  few = omega arith;
+  is_line = s.is_line;
+  runs = s.runs;
+  step = step;
+  wrote = Appends-more w0 w1 w2 s.text text s.wrote wrote;
+}
+
+-- a bad line ends a run as a line may
+pub bad_line_end : (w0 w1 : Known) (number : ℕ) (why : ScriptEnd) → IsBadEnd w0 w1 number why → IsLineEnd why
+bad_line_end w0 w1 number Done h = h
+bad_line_end w0 w1 number (BadLine n) h = tt
+bad_line_end w0 w1 number ReadFault h = h
+bad_line_end w0 w1 number WriteFault h = tt
+bad_line_end w0 w1 number OutOfMemory h = tt
+
+-- a line that ends a run may be the last
+pub last_end : (why : ScriptEnd) → IsLineEnd why → IsLastEnd why
+last_end Done h = tt
+last_end (BadLine n) h = tt
+last_end ReadFault h = h
+last_end WriteFault h = tt
+last_end OutOfMemory h = tt
 
 -- the line that was run is one of the lines that have run, once its 0A is taken
 pub next_line : {C : Type 0} (prints : C → Line → List ℕ → C → Type 0) (r0 r1 w0 w1 : Known) (c0 c1 : C) (count : ℕ) (line begun waiting : List ℕ)

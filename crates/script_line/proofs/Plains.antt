@@ -1,5 +1,5 @@
 -- Each line is a word and numbers, or begins with the word `finish`, `switch` or `show`.
-use Rattle.std.proofs.Common.{◌≡◌, ℕ, ◌≤◌, ◌⊎◌, inl, inr, List, [], ◌∷◌, ◌++◌, codes, length, refl, sym, ◌∙◌, arith, rules, lit≤}
+use Rattle.std.proofs.Common.{◌≡◌, ℕ, ◌≤◌, ◌<◌, ◌⊎◌, inl, inr, List, [], ◌∷◌, ◌++◌, codes, length, get_or, refl, sym, ap, ◌∙◌, arith, rules, lit≤}
 use Rattle.script_line.specs.Words.{IsTail, HasNoSpace, AreNumbers, numbers}
 use Rattle.script_line.specs.Line.{spelled, ended, named, Fits}
 use Rattle.script_line.specs.Look.{shown}
@@ -71,6 +71,41 @@ parts Cursor f = inl (codes "line", [], record { spelling = refl; space = search
 parts (Vtime g) f = inl (codes "vtime", g ∷ [], record { spelling = refl; space = search rules; fits = (omega arith, tt); few = lit≤ tt; is = λ w ns e d. (e, d) })
 parts (Entity n) f = inl (codes "entity", n ∷ [], record { spelling = refl; space = search rules; fits = (omega arith, tt); few = lit≤ tt; is = λ w ns e d. (e, d) })
 parts (Show look) f = inr (codes "show", shown look, record { spelling = refl; space = search rules; tail = IsTail-shown look; known = inr (inr refl); other = inr (inr (look, refl)) })
+
+-- what holds of the numbers one by one holds of the list, where it has so many
+pub of_none : (P : List ℕ → Type 0) (ns : List ℕ) → length ns < 1 → P [] → P ns
+of_none P [] few h = h
+of_none P (a ∷ ns) few h = absurd (omega arith)
+
+pub of_one : (P : List ℕ → Type 0) (ns : List ℕ) → 1 ≤ length ns → length ns < 2 → P (get_or ns 0 0 ∷ []) → P ns
+of_one P (a ∷ []) some few h = h
+of_one P [] some few h = absurd (omega arith)
+of_one P (a ∷ b ∷ ns) some few h = absurd (omega arith)
+
+pub of_two : (P : List ℕ → Type 0) (ns : List ℕ) → 2 ≤ length ns → length ns < 3 → P (get_or ns 0 0 ∷ get_or ns 1 0 ∷ []) → P ns
+of_two P (a ∷ ns) some few h = of_one (λ xs. P (a ∷ xs)) ns (omega arith) (omega arith) h
+of_two P [] some few h = absurd (omega arith)
+
+pub of_three : (P : List ℕ → Type 0) (ns : List ℕ) → 3 ≤ length ns → length ns < 4 → P (get_or ns 0 0 ∷ get_or ns 1 0 ∷ get_or ns 2 0 ∷ []) → P ns
+of_three P (a ∷ ns) some few h = of_two (λ xs. P (a ∷ xs)) ns (omega arith) (omega arith) h
+of_three P [] some few h = absurd (omega arith)
+
+pub of_four : (P : List ℕ → Type 0) (ns : List ℕ) → 4 ≤ length ns → length ns < 5
+    → P (get_or ns 0 0 ∷ get_or ns 1 0 ∷ get_or ns 2 0 ∷ get_or ns 3 0 ∷ []) → P ns
+of_four P (a ∷ ns) some few h = of_three (λ xs. P (a ∷ xs)) ns (omega arith) (omega arith) h
+of_four P [] some few h = absurd (omega arith)
+
+pub of_five : (P : List ℕ → Type 0) (ns : List ℕ) → 5 ≤ length ns → length ns < 6
+    → P (get_or ns 0 0 ∷ get_or ns 1 0 ∷ get_or ns 2 0 ∷ get_or ns 3 0 ∷ get_or ns 4 0 ∷ []) → P ns
+of_five P (a ∷ ns) some few h = of_four (λ xs. P (a ∷ xs)) ns (omega arith) (omega arith) h
+of_five P [] some few h = absurd (omega arith)
+
+-- no line is a word and six numbers or more
+pub too_many : (word given : List ℕ) → 6 ≤ length given → (l : Line) → Fits l → IsWordAndNumbers word given l → ⊥
+too_many word given many (Finish t i e) fits is = is
+too_many word given many (Switch s) fits is = is
+too_many word given many (Show look) fits is = is
+too_many word given many _ fits is = omega (arith, ap length is.1)
 
 -- a text cut into a word that is none of `finish`, `switch` and `show` and numbers is no line, where no line is that word and these numbers
 pub no_plain : (text word rest given : List ℕ) → text ≡ word ++ rest → HasNoSpace word → IsTail rest → (word ≡ codes "finish" → ⊥) → (word ≡ codes "switch" → ⊥) → (word ≡ codes "show" → ⊥)

@@ -3,7 +3,8 @@ use Rattle.std.proofs.Common.{◌≡◌, ℕ, List, [], ◌∷◌, ◌++◌, cod
 use Rattle.script_line.specs.Words.{numbers}
 use Rattle.script_line.specs.Line.{spelled, ended, Fits, EndingFits}
 use Rattle.script_line.specs.Look.{shown, LookFits}
-use Rattle.script_line.specs.Plain.{IsWordAndNumbers}
+use Rattle.std.specs.Prelude.{Option, None, Some}
+use Rattle.script_line.specs.Plain.{IsWordAndNumbers, Reads, FitsOrNone}
 use Rattle.script_line.specs.declared.line.Line.{Line}
 use Rattle.script_line.specs.declared.line.Line.TheVariants.{Attach, Read, Write, Reap, Leave, Dispatch, Finish, Work, Requeue, Hold, Release, Undo, Redo, Group, Drop, Weight, Freeze, Thaw, Switch, Tick, Sector, Queue, Cursor, Vtime, Entity, Show}
 use Rattle.script_line.specs.declared.look.Look.{Look}
@@ -110,6 +111,15 @@ one_plain w ns (Vtime g) m one two = absurd (omega (arith, ap mark (sym one.0 �
 one_plain w ns (Entity n) (Entity n') one two = let same : n ∷ [] ≡ n' ∷ [] = sym one.1 ∙ two.1 in cc
 one_plain w ns (Entity n) m one two = absurd (omega (arith, ap mark (sym one.0 ∙ word_is w ns m two)))
 one_plain w ns (Show look) m one two = absurd one
+
+-- the line that these words and numbers are, where its numbers fit, is what they are read to
+pub reads_fitted : (w ns : List ℕ) (line : Line) (found : Option Line) → IsWordAndNumbers w ns line → FitsOrNone line found → Reads w ns found
+reads_fitted w ns line None is h = λ l fits m.
+    let F : Line → Type 0 = λ x. Fits x in
+    h (subst F (one_plain w ns l line m is) fits)
+reads_fitted w ns line (Some l) is h =
+    let R : Line → Type 0 = λ x. Fits x × IsWordAndNumbers w ns x in
+    subst R (sym h.1) (h.0, is)
 
 one_ending : (d e : Ending) → EndingFits d → EndingFits e → ended d ≡ ended e → d ≡ e
 one_ending Stored Stored _ _ _ = refl
