@@ -1,6 +1,6 @@
 use Rattle.std.proofs.Common.{◌<◌, ◌∙◌, ◌++◌, [], sym, ap, refl, length, arith, is_some}
 use Rattle.session_proto.specs.Stream.{Held}
-use Rattle.session_proto.proofs.Steps.{begun, may_read, all_come, reads_on, reads_no_more, meets_fault, none_of, some_of}
+use Rattle.session_proto.proofs.Steps.{begun, may_read, all_come, reads_on, reads_no_more, meets_fault, meets_limit, none_of, some_of}
 use Rattle.session_proto.proofs.serving.serve_frames.Goals as goal
 
 pub pieces-init : goal.pieces-init
@@ -49,3 +49,17 @@ returns-then-is_bad-clause-served g c =
     let under : c.pieces.counts.calls < c.args.frame_limit = omega (arith, c.pieces.invariant.2, c.if-counts-frame_limit.false) in
     let bad = some_of c.pieces.feeder.fault (sym c.pieces.invariant.0 ∙ c.if-is_bad.true) in
     meets_fault g.A.Asks.asks _ _ _ c.pieces.feeder _ _ bad.0 bad.1 under past
+
+pub returns-then-counts-frame_limit-clause-served : goal.returns-then-counts-frame_limit-clause-served
+returns-then-counts-frame_limit-clause-served g c =
+    meets_limit g.A.Asks.asks _ _ _ c.pieces.feeder _ _ _ c.if-counts-frame_limit.true c.pieces.invariant.5
+
+pub read_calls-requires : goal.read_calls-requires
+read_calls-requires g c = record {
+  some = omega (arith, c.pieces.invariant.4);
+  few = omega (arith, c.pieces.invariant.4);
+  sound = none_of c.pieces.feeder.fault (sym c.pieces.invariant.0 ∙ c.if-is_bad.false);
+}
+
+pub answer_all-requires : goal.answer_all-requires
+answer_all-requires g c = record { within = c.pieces.invariant.2; small = c.pieces.invariant.3 }
