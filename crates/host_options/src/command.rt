@@ -1,56 +1,63 @@
 // The words that the command knows.
-use clap::{Arg, ArgAction, Command, Error};
-use std::alloc::Global;
+use clap::{Arg, ArgAction, Command};
+use std::alloc::{AllocError, Global};
 
-// An option that is given at most once, with exactly one value: without a number of values `Set` takes one.
-fn option<'a>(alloc: Global, name: &'a str) -> Arg<'a> {
-    Arg::new(alloc, name).long(name).action(ArgAction::Set)
-}
+// The options of a configuration, which each subcommand has.
+const CONFIGURATION: [&str; 9] = [
+    "scheduler",
+    "nr-requests",
+    "tags",
+    "first-budget",
+    "max-budget",
+    "timeout",
+    "history",
+    "first-vtime",
+    "image",
+];
 
-// A command with more options, of these names.
-fn with_options<'a>(
+// The subcommands, and the options that each has besides.
+const SUBCOMMANDS: [(&str, &[&str]); 2] = [
+    ("sim", &["sectors"]),
+    ("serve", &["dir", "clients", "workers"]),
+];
+
+// Adds options that are given at most once, with exactly one value: without a number of values `Set` takes one.
+fn add_options<'a>(
     alloc: Global,
-    command: Command<'a>,
+    options: &mut Vec<Arg<'a>>,
     names: &[&'a str],
-) -> Result<Command<'a>, Error> {
-    let mut command = command;
+) -> Result<(), AllocError> {
     for name in names {
-        command = command.arg(option(alloc, name))?;
+        options.push(Arg::new(alloc, name).long(name).action(ArgAction::Set))?;
     }
-    Ok(command)
+    Ok(())
 }
 
-// A subcommand with the options of a configuration.
-fn configured<'a>(alloc: Global, name: &'a str) -> Result<Command<'a>, Error> {
-    let names = [
-        "scheduler",
-        "nr-requests",
-        "tags",
-        "first-budget",
-        "max-budget",
-        "timeout",
-        "history",
-        "first-vtime",
-        "image",
-    ];
-    with_options(alloc, Command::new(alloc, name), &names)
+// A subcommand with the options of a configuration, and after them with options of its own.
+fn subcommand<'a>(
+    alloc: Global,
+    name: &'a str,
+    own: &'a [&'a str],
+) -> Result<Command<'a>, AllocError> {
+    let mut options = Vec::new(alloc);
+    add_options(alloc, &mut options, &CONFIGURATION)?;
+    add_options(alloc, &mut options, own)?;
+    Command::new(alloc, name).args(options)
 }
 
-fn sim<'a>(alloc: Global) -> Result<Command<'a>, Error> {
-    with_options(alloc, configured(alloc, "sim")?, &["sectors"])
+fn subcommands<'a>(alloc: Global) -> Result<Vec<Command<'a>>, AllocError> {
+    let mut subcommands = Vec::new(alloc);
+    for (name, own) in &SUBCOMMANDS {
+        subcommands.push(subcommand(alloc, name, own)?)?;
+    }
+    Ok(subcommands)
 }
 
-fn serve<'a>(alloc: Global) -> Result<Command<'a>, Error> {
-    let names = ["dir", "clients", "workers"];
-    with_options(alloc, configured(alloc, "serve")?, &names)
-}
-
-/// The command with its subcommands, `sim` and `serve`.
-pub fn bfqhost<'a>(alloc: Global) -> Result<Command<'a>, Error> {
-    let command = Command::new(alloc, "bfqhost")
+/// The command with its subcommands.
+pub fn bfqhost<'a>(alloc: Global) -> Result<Command<'a>, AllocError> {
+    let subcommands = subcommands(alloc)?;
+    Command::new(alloc, "bfqhost")
         .disable_help_subcommand(true)
         .subcommand_required(true)
-        .subcommand(sim(alloc)?)?
-        .subcommand(serve(alloc)?)?;
-    Ok(command)
+        .subcommands(subcommands)
 }

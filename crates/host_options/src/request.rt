@@ -46,15 +46,17 @@ pub enum WordFault {
 
 /// What the words ask for. The first is the name of the program.
 pub fn request_of(alloc: Global, words: &[String]) -> Result<Request, WordFault> {
-    let command = match bfqhost(alloc) {
-        Ok(command) => command,
-        Err(error) => return Err(fault(&error)),
+    let Ok(command) = bfqhost(alloc) else {
+        return Err(WordFault::OutOfMemory);
     };
-    let found = match command.try_get_matches_from(words) {
-        Ok(found) => found,
-        Err(error) if error.kind() == ErrorKind::DisplayHelp => return Ok(Request::Help),
-        Err(error) => return Err(fault(&error)),
-    };
+    match command.try_get_matches_from(words) {
+        Ok(found) => found_in(alloc, words, &found),
+        Err(error) => not_found(&error),
+    }
+}
+
+// What the options that were found ask for.
+fn found_in(alloc: Global, words: &[String], found: &ArgMatches<'_>) -> Result<Request, WordFault> {
     // Nothing may stand after the options, so no word ends them.
     if words.iter().any(|word| word.as_str() == "--") {
         return Err(WordFault::Usage);
@@ -68,12 +70,12 @@ pub fn request_of(alloc: Global, words: &[String]) -> Result<Request, WordFault>
     }
 }
 
-// Want of memory, and else words that are none of the command's.
-fn fault(error: &Error) -> WordFault {
-    if error.kind() == ErrorKind::OutOfMemory {
-        WordFault::OutOfMemory
-    } else {
-        WordFault::Usage
+// The help, want of memory, and else words that are none of the command's.
+fn not_found(error: &Error) -> Result<Request, WordFault> {
+    match error.kind() {
+        ErrorKind::DisplayHelp => Ok(Request::Help),
+        ErrorKind::OutOfMemory => Err(WordFault::OutOfMemory),
+        _ => Err(WordFault::Usage),
     }
 }
 
