@@ -13,6 +13,7 @@ pub mod Ranges
 pub mod Rows
 pub mod Rules
 pub mod Same
+pub mod SameSeats
 pub mod Seated
 pub mod Served
 pub mod SettledRows

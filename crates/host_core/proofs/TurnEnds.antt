@@ -10,7 +10,7 @@ use Rattle.host_core.specs.Visits.{AllReady}
 use Rattle.host_core.specs.declared.visit.Came.{Came}
 use Rattle.host_core.specs.declared.visit.Came.TheVariants.{Answered, Stopped}
 use Rattle.host_core.specs.Rounds.{Comes}
-use Rattle.host_core.specs.Rounds.{RoundOver}
+use Rattle.host_core.specs.Rounds.{Passes, RoundOver}
 use Rattle.host_core.specs.Turns.{is_starved, RoundBy, Dispatches, IsTurn, Ends, IsLastTurn}
 use Rattle.host_core.proofs.Took.{all-one, all-twice, changes-so, ready-changes}
 
@@ -50,6 +50,10 @@ open-ends place p q xs ys e h = λ i s at.
     let x = all.took i s at in
     x.2.closed ∙ (h i x.0 x.1).0
 
+pub open-stopped : (lasts : List (Option ℕ)) (place : ℕ) (came : Came) (p q : Pages) (xs ys : List Row) → came ≡ Stopped → Comes lasts place came p xs q ys → AllReady xs
+    → AllOpen ys
+open-stopped lasts place came p q xs ys e c = open-ends place p q xs ys (round-ends lasts place p q xs ys (subst (λ v. Comes lasts place v p xs q ys) e c))
+
 -- what came has a place among the seats
 pub place-within : (lasts : List (Option ℕ)) (place : ℕ) (came : Came) (p q : Pages) (xs ys : List Row) → Comes lasts place came p xs q ys → place < length ys
 place-within lasts place came p q xs ys c = slice_get_within ys place c.visits.after c.visits.stands
@@ -58,6 +62,17 @@ place-within lasts place came p q xs ys c = slice_get_within ys place c.visits.a
 pub round-none : (ls lasts : List (Option ℕ)) (came : Option (ℕ × Came)) (p q : Pages) (xs ys : List Row) → ls ≡ lasts → came ≡ None
     → RoundOver ls 0 (length xs) p xs q ys came → RoundBy lasts p xs q ys None
 round-none ls lasts came p q xs ys l e r = subst (λ k. RoundOver k 0 (length xs) p xs q ys None) l (subst (λ v. RoundOver ls 0 (length xs) p xs q ys v) e r)
+
+passes-none : (ls : List (Option ℕ)) (came : Option (ℕ × Came)) (n : ℕ) (p q : Pages) (xs ys : List Row) → came ≡ None → RoundOver ls 0 n p xs q ys came
+    → Passes ls 0 n p xs q ys
+passes-none ls came n p q xs ys e r = subst (λ v. RoundOver ls 0 n p xs q ys v) e r
+
+pub ready-none : (ls : List (Option ℕ)) (came : Option (ℕ × Came)) (n : ℕ) (p q : Pages) (xs ys : List Row) → came ≡ None → RoundOver ls 0 n p xs q ys came → AllReady ys
+ready-none ls came n p q xs ys e r = (passes-none ls came n p q xs ys e r).ready
+
+pub long-none : (ls : List (Option ℕ)) (came : Option (ℕ × Came)) (n : ℕ) (p q : Pages) (xs ys : List Row) → came ≡ None → RoundOver ls 0 n p xs q ys came
+    → length ys ≡ length xs
+long-none ls came n p q xs ys e r = (passes-none ls came n p q xs ys e r).took.long
 
 -- a turn is a round and a Dispatch
 pub turn-of : (lasts : List (Option ℕ)) (answered told : Option SeatName) (p between q : Pages) (xs ys : List Row) (dispatched starved : Bool) → told ≡ answered

@@ -6,7 +6,7 @@ use host_calls::RingReply;
 use rtrb::Protocol;
 
 /// The rule of a client's replies: Closed, or a final answer that has a frame. A device's replies have no rule (`AnyItems`).
-#[derive(Clone, Copy, Debug, PartialEq, Eq)]
+#[derive(Clone, Copy)]
 pub struct ClientReplies;
 
 impl Protocol<RingReply> for ClientReplies {
@@ -14,7 +14,7 @@ impl Protocol<RingReply> for ClientReplies {
 }
 
 /// The rule of the operator's replies: each has a frame.
-#[derive(Clone, Copy, Debug, PartialEq, Eq)]
+#[derive(Clone, Copy)]
 pub struct OperatorReplies;
 
 impl Protocol<RingReply> for OperatorReplies {

@@ -17,7 +17,7 @@ pub struct CoreEnd<B: Judges> {
 }
 
 /// What is left of a seat could not be told. It never comes, since both ends are at hand.
-#[derive(Clone, Copy, Debug, PartialEq, Eq, Error)]
+#[derive(Clone, Copy, Debug, Error)]
 #[error("what is left of the seat is not known")]
 pub struct NotSettled;
 

@@ -14,7 +14,7 @@ use plain_machine::{Answer, Call, Code, Step};
 use std::alloc::Global;
 
 /// What a turn did.
-#[derive(Clone, Copy, Debug, PartialEq, Eq)]
+#[derive(Clone, Copy)]
 pub struct TurnReport {
     /// Whose call was answered, if one was.
     pub answered: Option<SeatName>,
@@ -25,7 +25,7 @@ pub struct TurnReport {
 }
 
 /// What a turn did, and what who takes the next one has to know.
-#[derive(Clone, Copy, Debug, PartialEq, Eq)]
+#[derive(Clone, Copy)]
 pub struct Turned {
     /// What it did.
     pub report: TurnReport,

@@ -15,7 +15,7 @@ use rtrb::Protocol;
 use std::alloc::Global;
 
 /// What a visit came to.
-#[derive(Clone, Copy, Debug, PartialEq, Eq)]
+#[derive(Clone, Copy)]
 pub enum Came {
     /// The seat of this name was answered.
     Answered(SeatName),

@@ -29,7 +29,7 @@ pub enum WorkerEnd {
 }
 
 // How a round ended.
-#[derive(Clone, Copy, Debug, PartialEq, Eq)]
+#[derive(Clone, Copy)]
 pub enum Round {
     // Its work was told, and the next may be taken at once.
     Told,
