@@ -14,11 +14,11 @@ use std::net::Net;
 use std::os::unix::net::UnixStream;
 use std::rt::Files;
 use std::sync::Wait;
-use std::thread::Threads;
+use std::thread::{JoinHandle, Threads};
 use std::time::Clock;
 
 /// Where a host serves, and how many clients.
-#[derive(Clone, Copy, Debug, PartialEq, Eq)]
+#[derive(Clone, Copy)]
 pub struct ServeOptions<'a> {
     /// The folder of the sockets.
     pub dir: &'a str,
@@ -53,9 +53,9 @@ pub fn run_server<
     }
 }
 
-// Makes the host, starts its threads, and waits for the operator's. Gives the connection on which he is to be told that the host has ended.
+// Waits for the operator's thread of a host. Gives the connection on which he is to be told that the host has ended.
 fn serve_at<
-    R: Threads + Wait + Net + Files + Clock + Eprint + Copy + Drop + Send + 'static,
+    R: Threads + Wait + Clock + Eprint + Copy + Drop + Send + 'static,
     I: Image + Drop + Send + 'static,
 >(
     rt: R,
@@ -65,6 +65,26 @@ fn serve_at<
     doors: Doors,
     options: ServeOptions<'_>,
 ) -> Result<UnixStream, ServeEnd>
+    requires { length images.items ≤ 4 }
+{
+    let workers = images.len();
+    let serving = start_host(rt, alloc, config, images, doors)?;
+    let ServeOptions { dir, clients } = options;
+    let _ = eprintln!(rt; "serving {dir}, {clients} clients, {workers} workers");
+    Ok(serving.join(&rt))
+}
+
+// Makes the host, and starts its threads. Gives the operator's.
+fn start_host<
+    R: Threads + Wait + Clock + Eprint + Copy + Drop + Send + 'static,
+    I: Image + Drop + Send + 'static,
+>(
+    rt: R,
+    alloc: Global,
+    config: Config,
+    images: Vec<I>,
+    doors: Doors,
+) -> Result<JoinHandle<UnixStream>, ServeEnd>
     requires { length images.items ≤ 4 }
 {
     let sectors = match images.first() {
@@ -77,8 +97,5 @@ fn serve_at<
     };
     start_core(rt, alloc, core, config.history_max)?;
     start_workers(rt, alloc, devices, images)?;
-    let serving = start_paths(rt, alloc, doors, callers, operator)?;
-    let ServeOptions { dir, clients } = options;
-    let _ = eprintln!(rt; "serving {dir}, {clients} clients, {workers} workers");
-    Ok(serving.join(&rt))
+    start_paths(rt, alloc, doors, callers, operator)
 }
