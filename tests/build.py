@@ -28,20 +28,22 @@ from libraries import PROGRAMS, build_program, lanes, prove, run, stale
 # What all crates may take, in minutes by the clock times processors, of which the longest chain of crates leaves some idle.
 MINUTES_OF_ALL = 110
 # What a crate costs whatever its size, as so much code: a check reads what was proved below first, and its library holds much of that.
-CODE_OF_EACH = 4_000
+CODE_OF_EACH = 6_000
 # With more jobs than one each module is checked in a forked copy of the checker: `history` took 125 seconds of processor time with one job,
-# 156 with two and 167 with three. So there are no more than three, and only if the chain is among the longest or else processors were idle.
-CODE_OF_A_JOB = 4_000
-MOST_JOBS = 3
+# 156 with two and 167 with three. So there are no more than two, or half of many processors, and only if the chain is among the longest or
+# else processors were idle.
+CODE_OF_A_JOB = 3_000
 # The longest chain of crates sets the time. If a crate's chain is less than so much of the longest one, it gets one job, or what would be
 # idle; and the shorter its chain is, the further it gives way to others. Chains are weighed as if each crate got all jobs it is worth.
-LONG = 0.8
-GIVES_WAY = 30
+LONG = 0.9
+GIVES_WAY = 25
+# Crates begin until there are so many jobs more than processors, since one leaves some idle while it reads and writes libraries.
+MORE_JOBS = 3
 
 # A check writes and reads thousands of small files, up to 0.3 GB of them. In memory that takes half of the system's time that it takes on
-# a disk. If there is no room for them, half a gigabyte for each check beside 3 of its own, they go where they would go else.
+# a disk. If there is no room for them, half a gigabyte for each job beside 2 of its own, they go where they would go else.
 MEMORY = Path("/dev/shm")
-ROOM, OWN = 0.5, 3
+ROOM, OWN = 0.5, 2
 GIGABYTE = 1 << 30
 
 
@@ -58,7 +60,7 @@ def code(name):
 
 def jobs_of(name):
     """How many jobs a crate is worth."""
-    return min(MOST_JOBS, lanes(), 1 + code(name) // CODE_OF_A_JOB)
+    return min(max(2, lanes() // 2), lanes(), 1 + code(name) // CODE_OF_A_JOB)
 
 
 def prove_all(left, lines):
@@ -67,8 +69,7 @@ def prove_all(left, lines):
     for name in reversed(left):
         above = [behind[it] for it in behind if name in below(it, lines)]
         behind[name] = CODE_OF_EACH + code(name) / jobs_of(name) + max(above, default=0)
-    # Crates begin until there are two jobs more than processors, since one leaves some idle while it reads and writes libraries.
-    number, most, running, jobs = len(left), lanes(2, OWN), {}, {}
+    number, most, running, jobs = len(left), lanes(MORE_JOBS, OWN), {}, {}
     with ThreadPoolExecutor(max(1, number)) as pool:
         while left or running:
             ready = [it for it in left if not {*below(it, lines)} & {*left, *jobs}]
@@ -98,8 +99,8 @@ def files_in_memory():
     for left in MEMORY.glob(f"{mine}*"):
         shutil.rmtree(left, ignore_errors=True)
     free = int(re.search(r"MemAvailable:\s+(\d+)", Path("/proc/meminfo").read_text())[1]) << 10
-    has_room = os.access(MEMORY, os.W_OK) and shutil.disk_usage(MEMORY).free >= lanes(2, OWN) * ROOM * GIGABYTE
-    has_room = has_room and free >= lanes(2, OWN) * (OWN + ROOM) * GIGABYTE
+    has_room = os.access(MEMORY, os.W_OK) and shutil.disk_usage(MEMORY).free >= lanes(MORE_JOBS, OWN) * ROOM * GIGABYTE
+    has_room = has_room and free >= lanes(MORE_JOBS, OWN) * (OWN + ROOM) * GIGABYTE
     if "TMPDIR" in os.environ or not has_room:
         yield
         return
