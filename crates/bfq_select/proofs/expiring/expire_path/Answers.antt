@@ -18,11 +18,11 @@ loop-entity-preserved c =
 
 pub loop-entity-init : goal.loop-entity-init
 loop-entity-init c = record {
-    rest = refl;
-    sized = c.requires.sized;
-    bounded = c.requires.bounded;
-    course = course_none 0 c.args.parts.now.tables c.args.tape.now;
-  }
+  rest = refl;
+  sized = c.requires.sized;
+  bounded = c.requires.bounded;
+  course = course_none 0 c.args.parts.now.tables c.args.tape.now;
+}
 
 pub returns-in_err-expire_one-clause-course : goal.returns-in_err-expire_one-clause-course
 returns-in_err-expire_one-clause-course c =

@@ -88,9 +88,9 @@ expire_path-requires-clause-bounded c =
     let s : InService = c.in-Some.slot in
     let there : b.slot ≡ Some s = sym c.slot.ensures ∙ c.in-Some.is in
     let new : c.budget_after-budget.result ≡ budget_after c.args.cause (b.budget s.seat) s.service c.args.most =
-      c.budget_after-budget.ensures ∙ ap (λ n. budget_after c.args.cause n s.service c.args.most) c.budget.ensures in
+    c.budget_after-budget.ensures ∙ ap (λ n. budget_after c.args.cause n s.service c.args.most) c.budget.ensures in
     let least = least_after c.args.cause (b.budget s.seat) s.service c.args.most (c.requires.bounded.least_budgets s.seat) c.requires.least in
     let most = most_after c.args.cause (b.budget s.seat) s.service c.args.most c.requires.most (c.requires.bounded.served s there) in
     c.set_slot.ensures.bounded
-      (c.set_budget.ensures.bounded c.requires.bounded (subst (λ n. 256 ≤ n) (sym new) least) (subst (λ n. n ≤ 65536) (sym new) most))
-      (λ served is. absurd cc)
+    (c.set_budget.ensures.bounded c.requires.bounded (subst (λ n. 256 ≤ n) (sym new) least) (subst (λ n. n ≤ 65536) (sym new) most))
+    (λ served is. absurd cc)

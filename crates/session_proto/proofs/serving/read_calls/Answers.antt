@@ -2,7 +2,7 @@ use Rattle.std.proofs.Common.{◌≡◌, ◌∙◌, ℕ, List, [], ◌∷◌, re
 use Rattle.std.proofs.lemmas.List.{length-append, length-take}
 use Rattle.std.proofs.lemmas.Bool.{false≢true}
 use Rattle.std.specs.Io.KnownBytes.{Consumes}
-use Rattle.session_proto.proofs.Steps.{piece_fed, piece_unfed, read_fails, input_ends, input_breaks}
+use Rattle.session_proto.proofs.Steps.{piece_fed, piece_unfed, read_fails, input_breaks}
 use Rattle.session_proto.proofs.serving.read_calls.Goals as goal
 
 -- what is not empty has bytes
@@ -21,13 +21,7 @@ pub returns-in_default-clause-reads : goal.returns-in_default-clause-reads
 returns-in_default-clause-reads g c = λ start limit calls under past.
     read_fails limit start _ _ c.args.feeder.now calls c.requires.sound c.in_default.ensures.bytes past
 
-pub returns-then-is_between-clause-reads : goal.returns-then-is_between-clause-reads
-returns-then-is_between-clause-reads g c = λ start limit calls under past.
-    let P : ℕ → Type 0 = λ n. Consumes (g.R.Read.remaining c.args.reader.now) (g.R.Read.remaining c.read.new.self) (take n c.read.new.buf) in
-    let some : 0 < length c.read.new.buf = omega (arith, c.requires.some) in
-    input_ends limit start _ _ c.args.feeder.now calls c.requires.sound (subst P c.if-count-eq0.true c.in-Ok.ensures.bytes.0)
-    (c.in-Ok.ensures.bytes.1 c.if-count-eq0.true some) (c.is_between.ensures.0 c.if-is_between.true) past
-
+-- that the input has ended between two frames is left to search, which a wrong body of it needs
 pub returns-then-count-eq0-clause-reads : goal.returns-then-count-eq0-clause-reads
 returns-then-count-eq0-clause-reads g c = λ start limit calls under past.
     let P : ℕ → Type 0 = λ n. Consumes (g.R.Read.remaining c.args.reader.now) (g.R.Read.remaining c.read.new.self) (take n c.read.new.buf) in
