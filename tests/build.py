@@ -22,8 +22,8 @@ import time
 from concurrent.futures import FIRST_COMPLETED, ThreadPoolExecutor, wait
 from pathlib import Path
 
-from checkout import CRATES, TOP, below, command, crate_lines, kit, sources
-from libraries import PROGRAMS, build_program, lanes, prove, run, stale
+from checkout import TOP, below, crate_lines, sources
+from libraries import PROGRAMS, build_program, lanes, prove, stale
 
 # What all crates may take, in minutes by the clock times processors, of which the longest chain of crates leaves some idle.
 MINUTES_OF_ALL = 110
@@ -120,22 +120,6 @@ def files_in_memory():
         shutil.rmtree(folder, ignore_errors=True)
 
 
-def build_by_rattle(name, lines, began):
-    """As build_program, with Rattle's own compiler, which takes 21 seconds where LLVM takes 51, while one processor works. It stands here,
-    since after a change of libraries.py all wrong bodies have to be tried again."""
-    program, made_of = CRATES / name / "out" / name, CRATES / name / "out" / f"{name}.o"
-    program.parent.mkdir(exist_ok=True)
-    words, tools = command("build", name, lines), ["--toolchain", kit() / "toolchain"]
-    status, said = run([*words, *tools, "--backend", "rattle", "--jobs", str(lanes()), "-o", made_of], CRATES / name)
-    if not status:
-        words = ["--target", "x86_64-unknown-linux-gnu", *tools, "-o", program, made_of, kit() / "c/libos_c.a", kit() / "c/liblibc_c.a"]
-        status, said = run([kit() / "bin/rattle-link", *words], CRATES / name)
-    if status:
-        return f"{said}bfqhost: no program was built"
-    os.utime(program, (began, began))
-    return None
-
-
 def build(given):
     """Proves and builds what is asked for. Gives what was said if it is not proved, or not built."""
     lines, began = crate_lines(), time.time()
@@ -146,7 +130,8 @@ def build(given):
     if (said := prove_all(left, lines)) or given.crates:
         return said
     tell(f"proving and building the program {given.program}")
-    return (build_program if given.llvm else build_by_rattle)(given.program, lines, began)
+    # Rattle's own compiler takes 21 seconds if LLVM takes 51, while one processor works.
+    return build_program(given.program, lines, began, "llvm" if given.llvm else "rattle")
 
 
 def main():

@@ -18,9 +18,14 @@ def lanes(more=0, gigabytes=4):
     return max(1, min(len(os.sched_getaffinity(0)) + more, free // (gigabytes << 20)))
 
 
+def writer(rlib):
+    """The build of the toolchain that wrote a library, which stands in the second line of its file `format`, or nothing if there is none."""
+    return (rlib / "format").read_text().splitlines()[1] if (rlib / "format").exists() else ""
+
+
 def made(name):
-    """When the library of a crate was made, or 0."""
-    return library(name).stat().st_mtime if library(name).exists() else 0
+    """When the library of a crate was made, or 0 if there is none that the toolchain, as it is now, has written."""
+    return library(name).stat().st_mtime if writer(library(name)) == writer(kit() / "rlibs" / "std.rlib") else 0
 
 
 def stale(names, lines):
@@ -64,12 +69,13 @@ def prove(name, lines, jobs, gives_way):
     return None
 
 
-def build_program(name, lines, began):
-    """Proves and builds a program over its libraries, which began at this time. Gives what was said where none results."""
+def build_program(name, lines, began, backend):
+    """Proves and builds a program over its libraries, which began at this time. Gives what was said if none results."""
     program, made_of = CRATES / name / "out" / name, CRATES / name / "out" / f"{name}.o"
     program.parent.mkdir(exist_ok=True)
     tools = ["--toolchain", kit() / "toolchain"]
-    status, said = run([*command("build", name, lines), *tools, "--jobs", str(lanes()), "-o", made_of], CRATES / name)
+    words = [*command("build", name, lines), *tools, "--backend", backend, "--jobs", str(lanes()), "-o", made_of]
+    status, said = run(words, CRATES / name)
     if not status:
         words = ["--target", "x86_64-unknown-linux-gnu", *tools, "-o", program, made_of, kit() / "c/libos_c.a", kit() / "c/liblibc_c.a"]
         status, said = run([kit() / "bin/rattle-link", *words], CRATES / name)
