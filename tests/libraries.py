@@ -7,7 +7,7 @@ import subprocess
 import time
 from pathlib import Path
 
-from checkout import CRATES, below, command, kit, library, sources
+from checkout import CRATES, below, command, kit, library
 
 PROGRAMS = ["bfqhost", "bfqctl"]
 
@@ -19,20 +19,28 @@ def lanes(more=0, gigabytes=4):
 
 
 def writer(rlib):
-    """The build of the toolchain that wrote a library, which stands in the second line of its file `format`, or nothing if there is none."""
-    return (rlib / "format").read_text().splitlines()[1] if (rlib / "format").exists() else ""
+    """The build of the toolchain that wrote a library, by a line of its file `format`, or none."""
+    lines = (rlib / "format").read_text().splitlines() if (rlib / "format").exists() else []
+    return next((it for it in lines if it.startswith("rattle-build ")), None)
 
 
 def made(name):
     """When the library of a crate was made, or 0 if there is none that the toolchain, as it is now, has written."""
-    return library(name).stat().st_mtime if writer(library(name)) == writer(kit() / "rlibs" / "std.rlib") else 0
+    by = writer(library(name))
+    return library(name).stat().st_mtime if by is not None and by == writer(kit() / "rlibs" / "std.rlib") else 0
+
+
+def changed(name):
+    """When a crate was last changed: the time of the latest of its files and folders, as a folder changes when a file comes or goes."""
+    parts = [CRATES / name / part for part in ("src", "specs", "proofs")]
+    return max(it.stat().st_mtime for part in parts if part.exists() for it in [part, *part.rglob("*")])
 
 
 def stale(names, lines):
     """The libraries of these crates and below them that are missing, or older than their sources or than one below, lowest first."""
     found = []
     for name in dict.fromkeys(it for name in names for it in [*below(name, lines), name] if it not in PROGRAMS):
-        newest = max([it.stat().st_mtime for it in sources(name)] + [made(it) for it in below(name, lines)])
+        newest = max([changed(name), *map(made, below(name, lines))])
         if made(name) < newest or any(it in found for it in below(name, lines)):
             found.append(name)
     return found
@@ -41,9 +49,9 @@ def stale(names, lines):
 def is_proved(name, lines):
     """Whether a crate is proved as it stands: its library, or its program, is there, and is newer than what it is made of."""
     if name not in PROGRAMS:
-        return made(name) > 0 and not stale([name], lines)
+        return not stale([name], lines)
     program = CRATES / name / "out" / name
-    newest = max(it.stat().st_mtime for it in [*sources(name), *map(library, below(name, lines))] if it.exists())
+    newest = max([changed(name), *map(made, below(name, lines))])
     return program.exists() and program.stat().st_mtime > newest and not stale([name], lines)
 
 

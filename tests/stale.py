@@ -10,70 +10,78 @@ import checkout
 import libraries
 
 LINES = {"low": "low: bytes", "high": "high: low", "bfqhost": "bfqhost: high"}
-LIBRARY = "{0}/out/rlib/{0}.rlib"
+SOURCES = ["low/src/lib.rt", "low/wrong/low.edit", "high/src/lib.rt", "high/specs/High.antt", "high/proofs/high/Proof.antt", "bfqhost/src/main.rt"]
+LOW, HIGH, PROGRAM = "low/out/rlib/low.rlib", "high/out/rlib/high.rlib", "bfqhost/out/bfqhost"
 FORMAT = "rattle rlib\nrattle-build this\n"
-# What changes, which file or folder it is, its new time (None: it goes) or first lines, and what is stale then.
+# Sources were written first, and then each crate was made over those below.
+TIMES = {LOW: 2000, HIGH: 2500, PROGRAM: 3000}
+# What changes: which file or folder has another time, has gone (None), or has another text. And what is stale then.
 CHANGES = [
-    ("nothing has changed", "low/src/lib.rt", 1000, []),
-    ("a library is missing", LIBRARY.format("low"), None, ["low", "high"]),
-    ("a library has no format", f"{LIBRARY.format('high')}/format", None, ["high"]),
-    ("a library of another toolchain", f"{LIBRARY.format('high')}/format", "rattle rlib\nrattle-build another\n", ["high"]),
+    ("nothing", "low/src/lib.rt", 1000, []),
+    ("a library is missing", LOW, None, ["low", "high"]),
+    ("a library has no format", f"{HIGH}/format", None, ["high"]),
+    ("a library's format is cut short", f"{HIGH}/format", "rattle rlib\n", ["high"]),
+    ("a library is by another toolchain", f"{LOW}/format", FORMAT.replace("this", "another"), ["low", "high"]),
     ("a source is newer", "low/src/lib.rt", 4000, ["low", "high"]),
     ("a definition is newer", "high/specs/High.antt", 4000, ["high"]),
     ("a proof is newer", "high/proofs/high/Proof.antt", 4000, ["high"]),
-    ("the library below is newer", LIBRARY.format("low"), 4000, ["high"]),
+    ("a proof is gone", "high/proofs/high/Proof.antt", None, ["high"]),
+    ("the library below is newer", LOW, 4000, ["high"]),
     ("a wrong body is newer", "low/wrong/low.edit", 4000, []),
 ]
-# The program counts as proved if it is newer than its sources and all below it.
-PROGRAMS = [
-    ("nothing has changed", "low/src/lib.rt", 1000, True),
-    ("the program is missing", "bfqhost/out/bfqhost", None, False),
-    ("its source is newer", "bfqhost/src/main.rt", 4000, False),
-    ("a library below is newer", LIBRARY.format("low"), 3500, False),
+# The same, and whether a crate counts as proved then.
+PROVED = [
+    ("nothing", "low/src/lib.rt", 1000, "high", True),
+    ("its library is missing", HIGH, None, "high", False),
+    ("a source below is newer", "low/src/lib.rt", 4000, "high", False),
+    ("nothing, and it is a program", "low/src/lib.rt", 1000, "bfqhost", True),
+    ("the program is missing", PROGRAM, None, "bfqhost", False),
+    ("the program's source is newer", "bfqhost/src/main.rt", 4000, "bfqhost", False),
+    ("the library below the program is newer", HIGH, 3500, "bfqhost", False),
+    ("a source below the program's libraries is newer", "low/src/lib.rt", 2200, "bfqhost", False),
 ]
 
 
 def laid_out(crates):
-    """Makes crates of stand-ins, in which all is proved as it stands: first the sources were written, and then each crate made over those below."""
-    files = {"low/src/lib.rt": 1000, "low/wrong/low.edit": 1000, "high/src/lib.rt": 1000, "high/specs/High.antt": 1000,
-             "high/proofs/high/Proof.antt": 1000, "bfqhost/src/main.rt": 1000, "bfqhost/out/bfqhost": 3000,
-             f"{LIBRARY.format('low')}/format": 2000, f"{LIBRARY.format('high')}/format": 2500}
+    """Makes crates of stand-ins, in which all is proved as it stands."""
     shutil.rmtree(crates, ignore_errors=True)
-    for name, time in files.items():
-        path = Path(crates, name)
+    for name in [*SOURCES, f"{LOW}/format", f"{HIGH}/format", PROGRAM]:
+        path = crates / name
         path.parent.mkdir(parents=True, exist_ok=True)
         path.write_text(FORMAT)
-        for it in (path, path.parent):
-            os.utime(it, (time, time))
+    for path in crates.rglob("*"):
+        time = TIMES.get(str(path.relative_to(crates)), 1000)
+        os.utime(path, (time, time))
 
 
 def change(path, to):
-    if isinstance(to, str):
-        time = path.parent.stat().st_mtime
-        path.write_text(to)
-        os.utime(path.parent, (time, time))
-    elif to:
+    """Gives a file or a folder this time or this text, or takes it away. A library is as old as it was if its text changes."""
+    if isinstance(to, int):
         os.utime(path, (to, to))
+        return
+    time = path.parent.stat().st_mtime
+    if to:
+        path.write_text(to)
     elif path.is_dir():
         shutil.rmtree(path)
     else:
         path.unlink()
+    if path.name == "format":
+        os.utime(path.parent, (time, time))
 
 
 def stale_runs():
     """The name of each run, and what it did in another way than wanted."""
-    with tempfile.TemporaryDirectory() as folder, mock.patch.object(checkout, "CRATES", Path(folder, "crates")), \
-            mock.patch.object(libraries, "CRATES", Path(folder, "crates")), mock.patch.object(libraries, "kit", lambda: Path(folder, "kit")):
-        theirs = Path(folder, "kit", "rlibs", "std.rlib", "format")
+    runs = [(f"stale libraries: {what}", name, to, wanted, lambda: libraries.stale(["bfqhost"], LINES)) for what, name, to, wanted in CHANGES]
+    runs += [(f"proved: {what}", name, to, wanted, lambda crate=crate: libraries.is_proved(crate, LINES)) for what, name, to, crate, wanted in PROVED]
+    with tempfile.TemporaryDirectory() as folder:
+        crates, kit = Path(folder, "crates"), Path(folder, "kit")
+        theirs = kit / "rlibs" / "std.rlib" / "format"
         theirs.parent.mkdir(parents=True)
         theirs.write_text(FORMAT)
-        for what, name, to, wanted in CHANGES:
-            laid_out(checkout.CRATES)
-            change(checkout.CRATES / name, to)
-            found = libraries.stale(["bfqhost"], LINES)
-            yield f"stale libraries: {what}", [] if found == wanted else [f"{found} and not {wanted}"]
-        for what, name, to, wanted in PROGRAMS:
-            laid_out(checkout.CRATES)
-            change(checkout.CRATES / name, to)
-            found = libraries.is_proved("bfqhost", LINES)
-            yield f"a proved program: {what}", [] if found == wanted else [f"{found} and not {wanted}"]
+        with mock.patch.object(checkout, "CRATES", crates), mock.patch.multiple(libraries, CRATES=crates, kit=lambda: kit):
+            for what, name, to, wanted, found in runs:
+                laid_out(crates)
+                change(crates / name, to)
+                got = found()
+                yield what, [] if got == wanted else [f"{got} and not {wanted}"]
