@@ -1,116 +1,363 @@
 #!/usr/bin/env python3
-"""A client of a host that serves (`bfqhost serve`): a library, and a command.
+"""A client of a host that serves (`bfqhost serve`): reads and writes its sectors over a socket.
 
-    bfqclient.py PATH read START COUNT           the sectors, to standard output
-    bfqclient.py PATH write START                standard input, whole sectors of 512 bytes, from sector START on
-    bfqclient.py PATH load --sectors N ..        reads or writes at random for some seconds, and tells how many and how long they took
-    bfqclient.py PATH check --image FILE ..      reads and writes at random, and compares what is read with a copy of its own
+    from bfqclient import Io, Session
 
-PATH is the socket of a client, DIR/client0 and so on. Each run attaches, does its work and leaves. `--group` and `--prio` choose the
-group and the priority of its session. It needs Python 3 alone. The frames are those of docs/FORMATS.md, written and read anew here.
+    with Session("/run/bfq/client0") as session:
+        session.write(5, bytes(512))
+        data = session.read(5, 1)
+        for bio, io, data in session.run([Io.read(0, 8), Io.read(8, 8)]):
+            print(bio, io.start, data[:4])
 
-Exit statuses: 0 done; 1 the host refused a call, a read failed, or what was read is wrong; 2 bad words, or no image; 3 no connection, or it ended.
+A sector has 512 bytes, and is named by its number, from 0 on. All exceptions have the base ClientError. It needs Python 3.9 or later, and
+nothing else. docs/CLIENT.md is its page. The frames are those of docs/FORMATS.md, written and read anew here. The command stands in
+bfqclient_command.py; this file with words behind it runs that.
 """
 
-import argparse
+from __future__ import annotations
+
 import collections
-import random
+import contextlib
+import math
+import operator
+import os
 import select
 import socket
 import struct
 import sys
 import time
+from typing import Any, Callable, Deque, Dict, Generator, Iterable, Iterator, List, NamedTuple, Optional, Set, Tuple, TypeVar, Union
 
+__version__ = "0.1.0"
+__all__ = ["MOST_BIOS", "MOST_SECTORS", "REFUSALS", "SECTOR", "ClientError", "Ended", "Failed", "Io", "Lost", "Misuse", "Refused",
+           "Session", "TimedOut", "Undone"]
+
+# The bytes of a sector.
 SECTOR = 512
 # A read or a write has at most so many sectors, and a session at most so many of them that are not reaped.
 MOST_SECTORS = 64
 MOST_BIOS = 32
+# Groups are numbered 0 to 31, priorities 0 to 7, and sectors below 2^64.
+MOST_GROUP, MOST_PRIO, MOST_SECTOR = 31, 7, 2**64 - 1
 # The longest frame that a host sends: a read of 64 sectors.
 LONGEST = 9 + MOST_SECTORS * SECTOR
-FAILURES = {1: "the device ended before the range", 2: "the device reported a fault"}
+# How long to wait before another try to connect, where as many wait already as the system lets wait: seconds.
+AGAIN = 0.01
+FAILURES = {1: ("short", "the device ended before the range"), 2: ("fault", "the device reported a fault")}
+NOTHING_OWED = 16
+
+# The refusals and causes of docs/FORMATS.md: the name of each, and what it says.
+REFUSALS: Dict[int, Tuple[str, str]] = {
+    1: ("BadSeat", "seats are numbered 0 to 15"),
+    2: ("SeatTaken", "a session sits at this seat, or has left it with a request that is not finished"),
+    3: ("NoSession", "nobody sits at this seat, or whoever did has left"),
+    4: ("StaleSession", "another session sits at this seat"),
+    5: ("NoGroup", "there is no such group; perhaps it was dropped, or its making undone"),
+    6: ("RootGroup", "group 0 is the root, which is neither dropped nor given a weight"),
+    7: ("BadWeight", "a weight is 1 to 1000"),
+    8: ("BadPrio", "a priority is 0 to 7"),
+    9: ("TooDeep", "groups stand at most four levels under the root"),
+    10: ("GroupsFull", "there are 32 groups, the root among them, and there can be no more"),
+    11: ("GroupInUse", "another group is in this group, or a session, even one that has left with a request that is not finished"),
+    12: ("BadCount", "a read or a write has 1 to 64 sectors"),
+    13: ("BadLength", "a write brings 512 bytes for each sector, and a read none; no line of a script breaks this"),
+    14: ("OutOfRange", "the last of these sectors is past the end of the device"),
+    15: ("TooManyBios", "the session has 32 reads and writes that are not reaped; reap one first"),
+    16: ("NothingOwed", "the session has no result to come: it has reaped one for each read and write, if it made any"),
+    17: ("NothingQueued", "no request waits to be sent"),
+    18: ("NoTag", "every tag bears a request in flight; one must be finished or given back first"),
+    19: ("BadTag", "tags are numbered from 0, and are as many as --tags says"),
+    20: ("NotInFlight", "no request is in flight under this tag and issue; perhaps it was undone or has been finished"),
+    21: ("BadOutcome", "a write is finished by stored alone, and a read by fill, short or fault"),
+    22: ("AlreadyFrozen", "the host is frozen already"),
+    23: ("NotFrozen", "the host is not frozen; thaw and switch want a frozen host"),
+    24: ("NotDrained", "a request is still queued, in flight or given back by the device"),
+    25: ("SameScheduler", "the host has this scheduler already"),
+    26: ("NoneInService", "no queue is in service that could grow older; under the scheduler none there never is one"),
+    27: ("VtimeFull", "a virtual time would pass 2^62"),
+    28: ("NotHeld", "the host is not held; release, undo and redo want a held host"),
+    29: ("AlreadyHeld", "the host is held already"),
+    30: ("ZeroCount", "undo and redo take at least one step"),
+    31: ("NothingToUndo", "fewer steps stand than are to be undone"),
+    32: ("NothingToRedo", "fewer undone steps are left than are to be redone; a new step drops all that are left"),
+    33: ("HistoryFull", "the journal has as many accepted calls as --history allows; going back makes no room"),
+    34: ("OutOfMemory", "there was no memory for this call"),
+    41: ("Held", "the host is held; it takes no step, a completion neither, until it is released"),
+    42: ("Frozen", "the host is frozen; it takes no new read or write until it is thawed"),
+    43: ("RequestsFull", "there are as many requests as --nr-requests allows, and this read or write joins none of them"),
+    44: ("NotCompleted", "of the reads and writes that the session has not reaped, none is finished yet"),
+}
+
+Path = Union[str, bytes, "os.PathLike[str]", "os.PathLike[bytes]"]
+Data = Union[bytes, bytearray, memoryview]
+Found = TypeVar("Found", bound="ClientError")
 
 
-class Lost(Exception):
-    """The connection could not be made, or it ended, or what came is no frame of a host."""
+class ClientError(Exception):
+    """Each exception of this module is one of these.
+
+    text      what happened, in one line
+    name      its name: of a refusal that of docs/FORMATS.md, of a failed read `short` or `fault`, else that of the class
+    sentence  what the name says
+    kind      what was asked: `connect`, `attach`, `read`, `write`, `reap`, `leave` or `run`; None if that is not known
+    sectors   the sectors that it is about, as a `range`; None if there are none
+    bios      the numbers of the reads and writes that it is about, as the host counts them
+    also      what was refused or failed besides, in the same call
+    """
+
+    kind: Optional[str] = None
+    sectors: Optional[range] = None
+    bios: Tuple[int, ...] = ()
+    also: Tuple[ClientError, ...] = ()
+
+    @property
+    def text(self) -> str:
+        return str(self.args[0])
+
+    @property
+    def name(self) -> str:
+        return type(self).__name__
+
+    @property
+    def sentence(self) -> str:
+        return self.text
+
+    def about(self: Found, kind: Optional[str], sectors: Optional[range] = None, bios: Iterable[int] = ()) -> Found:
+        """Notes what it is about, where nothing is noted yet."""
+        if self.kind is None:
+            self.kind, self.sectors, self.bios = kind, sectors, tuple(bios)
+        return self
+
+    def __str__(self) -> str:
+        if self.sectors:
+            last = f" to {self.sectors[-1]}" if self.sectors[0] != self.sectors[-1] else ""
+            return f"{self.text} ({self.kind} of sector{'s' if last else ''} {self.sectors[0]}{last})"
+        return f"{self.text} ({self.kind})" if self.kind else self.text
 
 
-class Refused(Exception):
-    """A call was refused; its code is that of docs/FORMATS.md."""
+class Misuse(ClientError, ValueError):
+    """A value is out of range, or a call comes at a time when none may. Nothing was sent for it, and the session goes on."""
 
-    def __init__(self, code):
-        super().__init__(f"refused {code}")
+
+class Refused(ClientError):
+    """The host refused a call. `code` is the number, and `name` and `sentence` are those of docs/FORMATS.md. The session goes on."""
+
+    def __init__(self, code: int) -> None:
+        super().__init__(code)
         self.code = code
 
+    @property
+    def text(self) -> str:
+        return f"refused {self.code}"
 
-class Failed(Exception):
-    """A read failed at the device."""
+    @property
+    def name(self) -> str:
+        return REFUSALS.get(self.code, ("Unknown", ""))[0]
+
+    @property
+    def sentence(self) -> str:
+        return REFUSALS.get(self.code, ("", "this client does not know the number"))[1]
+
+    def __str__(self) -> str:
+        return f"{super().__str__()}: {self.name}: {self.sentence}"
 
 
-class Undone(Exception):
-    """The host told of what this client does not wait for: steps were undone, and not redone."""
+class Failed(ClientError):
+    """A read failed at the device. `name` is `short` or `fault`, and `bios` has its number. The session goes on."""
+
+    def __init__(self, how: int) -> None:
+        super().__init__(how)
+        self.how = how
+
+    @property
+    def text(self) -> str:
+        return self.sentence
+
+    @property
+    def name(self) -> str:
+        return FAILURES.get(self.how, ("unknown", ""))[0]
+
+    @property
+    def sentence(self) -> str:
+        return FAILURES.get(self.how, ("", "the device failed"))[1]
 
 
-Reply = collections.namedtuple("Reply", "kind fields")
-# What is asked of a session: sectors to be read, or bytes to be written.
-Io = collections.namedtuple("Io", "start count data")
+class Lost(ClientError):
+    """The connection could not be made, or it ended, or what came is not what a host answers. The session has ended."""
+
+
+class Ended(Lost):
+    """The session was used again after it had ended. The text says why it had."""
+
+
+class TimedOut(ClientError, TimeoutError):
+    """A time limit has passed. Whether the host does what was asked is not known. The session has ended."""
+
+
+class Undone(ClientError):
+    """The host told of what this client does not wait for: steps were undone, and not redone. The session has ended."""
+
+
+class Reply(NamedTuple):
+    """A frame of the host: its kind, and its fields."""
+
+    kind: int
+    fields: Tuple[Any, ...]
+
+
+class Io(NamedTuple):
+    """A read or a write: its first sector, how many sectors it has (1 to 64), and the bytes of a write, 512 for each; None for a read."""
+
+    start: int
+    # A tuple has a method of this name, which nobody calls here.
+    count: int  # type: ignore[assignment]
+    data: Optional[bytes]
+
+    @classmethod
+    def read(cls, start: int, count: int) -> Io:
+        """A read of so many sectors. Raises Misuse if it is none that a host can take."""
+        return checked(cls(start, count, None))
+
+    @classmethod
+    def write(cls, start: int, data: Data) -> Io:
+        """A write of these bytes, 1 to 64 whole sectors. Raises Misuse if it is none that a host can take."""
+        given = bytes(data)
+        return checked(cls(start, whole_sectors(given), given))
+
+    @property
+    def kind(self) -> str:
+        """`read` or `write`."""
+        return "read" if self.data is None else "write"
+
+    @property
+    def sectors(self) -> range:
+        """The numbers of its sectors."""
+        return range(self.start, self.start + self.count)
+
+
 END = object()
+Result = Tuple[int, Io, Optional[bytes]]
+Results = Generator[Result, None, None]
 
 
-def framed(kind, form="", *fields, rest=b""):
+def in_range(what: str, value: int, least: int, most: int) -> None:
+    """Raises Misuse, a ValueError, if a number is out of its range, and TypeError if it is no whole number."""
+    if not least <= operator.index(value) <= most:
+        raise Misuse(f"{what} is {least} to {most}, and not {value}")
+
+
+def whole_sectors(data: Data) -> int:
+    """How many sectors these bytes are. Raises Misuse if they are not whole ones."""
+    size = memoryview(data).nbytes
+    if size % SECTOR:
+        raise Misuse(f"a write has whole sectors of {SECTOR} bytes")
+    return size // SECTOR
+
+
+def checked(io: Io) -> Io:
+    """A read or a write as it is. Raises Misuse if it is none that a host can take."""
+    in_range("the first sector of a read or a write", io.start, 0, MOST_SECTOR)
+    in_range("the number of sectors of a read or a write", io.count, 1, MOST_SECTORS)
+    in_range("the last sector of a read or a write", io.start + io.count - 1, 0, MOST_SECTOR)
+    if io.data is not None and whole_sectors(io.data) != io.count:
+        raise Misuse(f"a write of {io.count} sectors has {io.count * SECTOR} bytes, and not {len(io.data)}")
+    return io
+
+
+def deadline(timeout: Optional[float]) -> Optional[float]:
+    """When so many seconds will have passed; None where there is no limit. Raises Misuse if that is no time."""
+    if timeout is None:
+        return None
+    if not timeout > 0:
+        raise Misuse(f"a time limit is more than 0 seconds, and not {timeout}")
+    return time.monotonic() + timeout
+
+
+def framed(kind: int, form: str = "", *fields: int, rest: bytes = b"") -> bytes:
     """A frame: the length of what follows, the kind, the fields, and the rest."""
     body = struct.pack(">B" + form, kind, *fields) + rest
     return struct.pack(">I", len(body)) + body
 
 
-def attach(group, prio):
+def attach(group: int, prio: int) -> bytes:
+    """The frame of an Attach."""
     return framed(0x01, "BB", group, prio)
 
 
-def submit(session, io):
-    """The Submit of a read, or of a write where there are bytes to be written."""
+def submit(session: int, io: Io) -> bytes:
+    """The frame of a Submit of a read, or of a write where there are bytes to be written."""
     if io.data is None:
         return framed(0x02, "QQH", session, io.start, io.count)
     return framed(0x03, "QQH", session, io.start, io.count, rest=io.data)
 
 
-def reap(session):
+def reap(session: int) -> bytes:
+    """The frame of a Reap."""
     return framed(0x04, "Q", session)
 
 
 LEAVE = framed(0x05)
+ATTACHED, QUEUED, READ, WRITTEN, FAILED, LEFT, REFUSED = 0x81, 0x82, 0x83, 0x84, 0x85, 0x86, 0xE0
+FORMS = {ATTACHED: "Q", QUEUED: "Q", WRITTEN: "Q", FAILED: "QB", LEFT: "", REFUSED: "B", 0xE1: "B"}
 
 
-def reply_of(body):
-    """What a frame of the host says."""
+def reply_of(body: bytes) -> Reply:
+    """What a frame of the host says, without its length. Raises Lost if a host says no such thing to a client."""
     kind, rest = body[0], bytes(body[1:])
-    forms = {0x81: "Q", 0x82: "Q", 0x84: "Q", 0x85: "QB", 0x86: "", 0xE0: "B", 0xE1: "B"}
-    if kind == 0x83 and len(rest) >= 8:
+    if kind == READ and len(rest) >= 8:
         return Reply(kind, (struct.unpack(">Q", rest[:8])[0], rest[8:]))
-    if kind not in forms or len(rest) != struct.calcsize(">" + forms[kind]):
+    if kind not in FORMS or len(rest) != struct.calcsize(">" + FORMS[kind]):
         raise Lost(f"no frame for a client: {body[:16].hex()}")
-    return Reply(kind, struct.unpack(">" + forms[kind], rest))
+    return Reply(kind, struct.unpack(">" + FORMS[kind], rest))
+
+
+def result_of(reply: Reply, io: Optional[Io]) -> Optional[bytes]:
+    """What was read, or None for a write; `io` is what the reply is about, if that is known.
+
+    Raises Failed if the read failed, and Lost if the reply does not answer this read or write."""
+    kinds = (READ, WRITTEN, FAILED) if io is None else (READ, FAILED) if io.data is None else (WRITTEN,)
+    if reply.kind not in kinds or (io and reply.kind == READ and len(reply.fields[1]) != io.count * SECTOR):
+        raise Lost(f"another reply than was waited for: {reply.kind:02x}")
+    if reply.kind == FAILED:
+        raise Failed(reply.fields[1]).about("read", io.sectors if io else None, reply.fields[:1])
+    return reply.fields[1] if reply.kind == READ else None
 
 
 class Wire:
-    """A connection: frames go out and replies come in. It reads while it sends, so that two full sockets never wait for each other."""
+    """A connection: frames go out and replies come in. It reads while it sends, so that two full sockets never wait for each other.
 
-    def __init__(self, path):
+    A time, where one is given, is one of `time.monotonic`: a wait that is not over by then ends by TimedOut."""
+
+    def __init__(self, path: Path, until: Optional[float] = None) -> None:
         self.socket = socket.socket(socket.AF_UNIX)
         try:
-            self.socket.connect(path)
-        except OSError as error:
+            self.connect(os.fspath(path), until)
+        except BaseException as error:
             self.socket.close()
-            raise Lost(str(error)) from error
+            # A TimedOut is an OSError too, by Python's own names.
+            if isinstance(error, OSError) and not isinstance(error, ClientError):
+                # Of a path that is too long the system is not asked.
+                raise Lost(f"{os.fsdecode(path)}: {error.strerror or error}") from error
+            raise
         self.socket.setblocking(False)
         self.unsent = bytearray()
         self.unread = bytearray()
 
-    def send(self, frame):
+    def connect(self, path: Union[str, bytes], until: Optional[float]) -> None:
+        """Connects, and waits where as many wait there already as the system lets wait."""
+        self.socket.setblocking(until is None)
+        while True:
+            try:
+                return self.socket.connect(path)
+            except BlockingIOError:
+                time.sleep(min(AGAIN, left(until) or AGAIN))
+
+    def send(self, frame: bytes) -> None:
         """Sends what the socket takes now; the rest goes with the next reply that is waited for."""
         self.unsent += frame
         self.push()
 
-    def push(self):
+    def push(self) -> None:
         try:
             while self.unsent:
                 del self.unsent[:self.socket.send(self.unsent)]
@@ -119,7 +366,7 @@ class Wire:
         except OSError as error:
             raise Lost(str(error)) from error
 
-    def pull(self):
+    def pull(self) -> None:
         try:
             piece = self.socket.recv(1 << 16)
         except BlockingIOError:
@@ -130,7 +377,7 @@ class Wire:
             raise Lost("the host closed the connection")
         self.unread += piece
 
-    def reply(self):
+    def reply(self, until: Optional[float] = None) -> Reply:
         """The next reply, which is waited for."""
         while True:
             if len(self.unread) >= 4:
@@ -138,262 +385,380 @@ class Wire:
                 if not 1 <= length <= LONGEST:
                     raise Lost(f"no frame: its length is {length}")
                 if len(self.unread) >= 4 + length:
-                    body = self.unread[4:4 + length]
+                    body = bytes(self.unread[4:4 + length])
                     del self.unread[:4 + length]
                     return reply_of(body)
-            read, write, _ = select.select([self.socket], [self.socket] if self.unsent else [], [])
-            if write:
-                self.push()
-            if read:
-                self.pull()
+            self.wait(until)
 
-    def close(self):
+    def wait(self, until: Optional[float]) -> None:
+        """Waits till the socket takes or gives something, and moves it. What it gives comes first: it may be the last that came."""
+        if self.socket.fileno() < 0:
+            raise Lost("the connection is closed")
+        # A number of files above 1,023 is nothing to `poll`, as it is to `select`.
+        poll = select.poll()
+        poll.register(self.socket, select.POLLIN | (select.POLLOUT if self.unsent else 0))
+        seconds = left(until)
+        # In milliseconds, and no more than an hour, as `poll` takes no number that is too large; whoever waits asks again.
+        for _, event in poll.poll(None if seconds is None else math.ceil(min(seconds, 3600) * 1000)):
+            if event & ~select.POLLOUT:
+                self.pull()
+            if event & select.POLLOUT:
+                self.push()
+
+    def close(self) -> None:
         self.socket.close()
 
 
-class Session:
-    """A session at the seat of a path, from its Attach on. Use it in a `with`: at the end it leaves."""
+def left(until: Optional[float]) -> Optional[float]:
+    """The seconds up to a time; None where there is no limit. Raises TimedOut if it has passed."""
+    if until is None:
+        return None
+    seconds = until - time.monotonic()
+    if seconds <= 0:
+        raise TimedOut("the time limit has passed")
+    return seconds
 
-    def __init__(self, path, group=0, prio=4):
-        self.wire = Wire(path)
+
+class Flight:
+    """The reads and writes of one run that are under way, up to `depth` of them.
+
+    `sent` has those whose Submit is not answered yet, in their order, and `going` those that the host has queued, by their bios."""
+
+    def __init__(self, wire: Wire, session: int, dropped: Set[int], ios: Iterator[Optional[Io]], depth: int) -> None:
+        self.wire, self.session, self.dropped, self.ios, self.depth = wire, session, dropped, ios, depth
+        self.is_open = True
+        self.sent: Deque[Io] = collections.deque()
+        self.going: Dict[int, Io] = {}
+        # Whether a Reap is sent that is not answered yet.
+        self.is_asked = False
+        # An exception after which it is certain which replies are still to come.
+        self.certain: Optional[BaseException] = None
+
+    def next_io(self) -> Optional[Io]:
+        """The next that is to be sent; None if one that is under way is to end first, or there is no more.
+
+        If the caller's own iterator raises an exception, or gives what is no read or write, nothing was sent for it."""
         try:
-            self.number = self.ask(attach(group, prio), 0x81)[0]
+            io: Any = next(self.ios, END)
+            self.is_open = io is not END
+            return checked(io) if self.is_open and io is not None else None
+        except Exception as fault:
+            self.certain = fault
+            raise
+
+    def fill(self) -> bool:
+        """Sends as many as may be under way. Gives whether there is one to wait for; if there is none, none is left."""
+        while True:
+            while self.is_open and len(self.going) + len(self.sent) < self.depth:
+                io = self.next_io()
+                if io is None:
+                    break
+                self.wire.send(submit(self.session, io))
+                self.sent.append(io)
+            if self.going or self.sent or not self.is_open:
+                return bool(self.going or self.sent)
+
+    def ask(self) -> None:
+        self.wire.send(reap(self.session))
+        self.is_asked = True
+
+    def next_result(self, until: Optional[float]) -> Result:
+        """Waits for the next that ends."""
+        while True:
+            # The Reap is asked behind all Submits, so that the host need not wait for this client in between.
+            self.ask()
+            while self.sent:
+                self.take_queued(until)
+            if (result := self.take_reaped(until)) is not None:
+                return result
+
+    def refused(self, code: int, kind: str, sectors: Optional[range], bios: Iterable[int]) -> Refused:
+        fault = Refused(code).about(kind, sectors, bios)
+        self.certain = fault
+        return fault
+
+    def take_queued(self, until: Optional[float]) -> None:
+        """The answer to the first Submit that waits for one."""
+        reply = self.wire.reply(until)
+        io = self.sent.popleft()
+        if reply.kind == REFUSED:
+            raise self.refused(reply.fields[0], io.kind, io.sectors, ())
+        if reply.kind != QUEUED:
+            raise Lost(f"another reply than was waited for: {reply.kind:02x}")
+        self.going[reply.fields[0]] = io
+
+    def take_reaped(self, until: Optional[float]) -> Optional[Result]:
+        """The answer to the Reap; None if it tells of what an earlier call was to take, and could not."""
+        reply = self.wire.reply(until)
+        self.is_asked = False
+        if reply.kind == REFUSED:
+            raise self.refused(reply.fields[0], "reap", None, self.going)
+        if reply.kind not in (READ, WRITTEN, FAILED):
+            raise Lost(f"another reply than was waited for: {reply.kind:02x}")
+        bio: int = reply.fields[0]
+        if bio in self.dropped:
+            self.dropped.remove(bio)
+            return None
+        if bio not in self.going:
+            raise Undone(f"the host told of read or write {bio}, which is not waited for: were steps undone?").about("reap", None, [bio])
+        io = self.going[bio]
+        try:
+            data = result_of(reply, io)
+        except Failed as fault:
+            del self.going[bio]
+            self.certain = fault
+            raise
+        del self.going[bio]
+        return bio, io, data
+
+    def drain(self, until: Optional[float]) -> List[ClientError]:
+        """Takes all that is still to come, so that the next call hears its own replies. Gives what was refused or failed among it."""
+        faults: List[ClientError] = []
+        while self.sent or self.is_asked or self.going:
+            if not (self.sent or self.is_asked):
+                self.ask()
+            try:
+                if self.sent:
+                    self.take_queued(until)
+                else:
+                    self.take_reaped(until)
+            except Refused as fault:
+                if fault.kind != "reap":
+                    faults.append(fault)
+                else:
+                    # They were undone, or the host has no memory or no history for a Reap. If they come later they are nobody's.
+                    self.dropped.update(self.going)
+                    self.going.clear()
+            except Failed as fault:
+                faults.append(fault)
+        return faults
+
+
+class Session:
+    """A session at the seat of a path, from its Attach on. Use it in a `with`: at the end it leaves.
+
+    After Refused, Failed, Misuse, or what the iterator of a `run` raises, the session goes on: all that was on its way has been taken.
+    After anything else (Lost, TimedOut, Undone, KeyboardInterrupt, a `run` that is left before its end) it has ended, and each later use
+    raises Ended. It is for one thread at a time.
+
+    A `timeout` is in seconds, above 0. If it is None a call waits as long as the host lets it wait: for ever, if the host stays held."""
+
+    def __init__(self, path: Path, group: int = 0, prio: int = 4, timeout: Optional[float] = None) -> None:
+        """Connects to the socket of a client and attaches, to a group (0 to 31) with a priority (0 to 7; 0 has the greatest weight).
+
+        The time limit is for both, and for the Leave at the end of a `with`. Raises Misuse, Lost, Refused and TimedOut."""
+        in_range("a group", group, 0, MOST_GROUP)
+        in_range("a priority", prio, 0, MOST_PRIO)
+        until = deadline(timeout)
+        self._timeout = timeout
+        # Why it has ended; empty while it stands.
+        self._why = ""
+        self._is_running = False
+        # What `submit` has queued and `reap` has not taken yet, by its bio.
+        self._owed: Dict[int, Io] = {}
+        # Reads and writes of earlier calls that could not be reaped then.
+        self._dropped: Set[int] = set()
+        try:
+            self.wire = Wire(path, until)
+        except ClientError as fault:
+            raise fault.about("connect")
+        try:
+            self.number: int = self._ask("attach", attach(group, prio), until, ATTACHED)[0]
         except BaseException:
             self.wire.close()
             raise
 
-    def __enter__(self):
+    def __enter__(self) -> Session:
         return self
 
-    def __exit__(self, kind, *_):
-        # After a fault nobody knows which reply comes next. The host leaves for a connection that ends.
+    def __exit__(self, kind: object, *_: object) -> None:
+        # An exception must not wait for the host, which may be held. It leaves for a connection that ends.
         if kind is None:
-            self.close()
+            self.close(self._timeout)
         else:
-            self.wire.close()
+            self._end("an exception ended its block")
 
-    def close(self):
-        """Leaves, if the connection still stands."""
-        try:
-            self.ask(LEAVE, 0x86)
-        except (Lost, Refused):
-            pass
+    def close(self, timeout: Optional[float] = None) -> None:
+        """Leaves, if the session still stands, and closes the connection. If the time limit passes the host leaves for it later."""
+        until = deadline(timeout)
+        if not self._why:
+            if not self._is_running:
+                with contextlib.suppress(ClientError):
+                    self._ask("leave", LEAVE, until, LEFT)
+            self._why = "it was closed"
         self.wire.close()
 
-    def expect(self, *kinds):
+    def _end(self, why: object) -> None:
+        """Ends it for this reason; an earlier reason stays."""
+        self._why = self._why or str(why)
+        self.wire.close()
+
+    def _end_for(self, fault: BaseException, kind: str, sectors: Optional[range] = None, bios: Iterable[int] = ()) -> None:
+        """Ends it as this was raised, in a call of this kind."""
+        if isinstance(fault, ClientError):
+            self._end(fault.about(kind, sectors, bios).text)
+        elif isinstance(fault, GeneratorExit):
+            self._end("a run was left before its end")
+        else:
+            self._end(f"{type(fault).__name__} came while the host was to answer")
+
+    def _stands(self) -> None:
+        """Raises Ended if it has ended."""
+        if self._why:
+            raise Ended(f"the session has ended: {self._why}")
+
+    def _is_free(self) -> None:
+        """Raises Ended if it has ended, and Misuse while a run is under way."""
+        self._stands()
+        if self._is_running:
+            raise Misuse("a run is under way in this session: take its results to the end first")
+
+    @contextlib.contextmanager
+    def _one_call(self, kind: str, sectors: Optional[range] = None) -> Iterator[None]:
+        """What is done to ask one call and hear its answer. A refusal and a failed read are answers too; anything else ends the session."""
+        self._is_free()
+        try:
+            yield
+        except (Refused, Failed) as fault:
+            raise fault.about(kind, sectors)
+        except BaseException as fault:
+            self._end_for(fault, kind, sectors)
+            raise
+
+    def _expect(self, until: Optional[float], *kinds: int) -> Reply:
         """The next reply, which is of one of these kinds, or a refusal."""
-        reply = self.wire.reply()
-        if reply.kind == 0xE0:
+        reply = self.wire.reply(until)
+        if reply.kind == REFUSED:
             raise Refused(reply.fields[0])
         if reply.kind not in kinds:
             raise Lost(f"another reply than was waited for: {reply.kind:02x}")
         return reply
 
-    def ask(self, frame, *kinds):
+    def _ask(self, kind: str, frame: bytes, until: Optional[float], *kinds: int) -> Tuple[Any, ...]:
         """One call, and the fields of its answer."""
-        self.wire.send(frame)
-        return self.expect(*kinds).fields
+        with self._one_call(kind):
+            self.wire.send(frame)
+            return self._expect(until, *kinds).fields
 
-    def submit(self, io):
-        """Queues a read or a write, and gives the number of its bio."""
-        return self.ask(submit(self.number, io), 0x82)[0]
+    def submit(self, io: Io, timeout: Optional[float] = None) -> int:
+        """Queues a read or a write, and gives its number at the host, the bio. Its result is taken by `reap`.
 
-    def reap(self):
-        """Waits for a bio that is done. Gives its number and what was read, or None for a write."""
-        self.wire.send(reap(self.number))
-        return self.completed(self.expect(0x83, 0x84, 0x85))
+        Raises Misuse, Refused, Lost and TimedOut."""
+        checked(io)
+        until = deadline(timeout)
+        with self._one_call(io.kind, io.sectors):
+            self.wire.send(submit(self.number, io))
+            bio: int = self._expect(until, QUEUED).fields[0]
+        self._owed[bio] = io
+        return bio
 
-    @staticmethod
-    def completed(reply):
-        if reply.kind == 0x85:
-            raise Failed(FAILURES.get(reply.fields[1], "the device failed"))
-        return reply.fields[0], reply.fields[1] if reply.kind == 0x83 else None
+    def reap(self, timeout: Optional[float] = None) -> Tuple[int, Optional[bytes]]:
+        """Waits for a read or write of `submit` that is done. Gives its bio, and the bytes that were read, or None for a write.
 
-    def run(self, ios, depth=MOST_BIOS):
-        """Does reads and writes, so many at a time. Gives the bio of each, the read or write itself, and what was read (None for a write),
-        in the order in which they end. Where the next of `ios` is None, one that is under way is to end first."""
-        ios = iter(ios)
-        going = {}
-        sent = collections.deque()
-        is_open = True
-        while True:
-            while is_open and len(going) + len(sent) < min(depth, MOST_BIOS):
-                io = next(ios, END)
-                is_open = io is not END
-                if not is_open or io is None:
-                    break
-                self.wire.send(submit(self.number, io))
-                sent.append(io)
-            if not going and not sent:
-                if is_open:
+        After steps were undone it may be one that was reaped before. Raises Refused (16 if none is to come), Failed, Lost and TimedOut."""
+        until = deadline(timeout)
+        with self._one_call("reap"):
+            while True:
+                self.wire.send(reap(self.number))
+                reply = self._reaped(until)
+                bio: int = reply.fields[0]
+                if bio in self._dropped:
+                    self._dropped.remove(bio)
                     continue
-                return
-            # The Reap is asked behind all Submits, so that the host need not wait for this client in between.
-            self.wire.send(reap(self.number))
-            while sent:
-                going[self.expect(0x82).fields[0]] = sent.popleft()
-            bio, data = self.completed(self.expect(0x83, 0x84, 0x85))
-            if bio not in going:
-                raise Undone(f"the host told of read or write {bio}, which is not waited for: were steps undone?")
-            yield bio, going.pop(bio), data
+                return bio, result_of(reply, self._owed.pop(bio, None))
 
-    def read(self, start, count):
-        """So many sectors, as bytes."""
-        found = {io.start: data for _, io, data in self.run(pieces(start, count))}
+    def _reaped(self, until: Optional[float]) -> Reply:
+        """The answer to a Reap."""
+        try:
+            return self._expect(until, READ, WRITTEN, FAILED)
+        except Refused as fault:
+            if fault.code == NOTHING_OWED:
+                self._owed.clear()
+            raise
+
+    def run(self, ios: Iterable[Optional[Io]], depth: int = MOST_BIOS, timeout: Optional[float] = None) -> Results:
+        """Does reads and writes, up to `depth` at a time (1 to 32). Gives three values for each, in the order in which they end: its bio,
+        the read or write itself, and the bytes that were read, or None for a write.
+
+        If the next of `ios` is None, one that is under way is to end first. Each result must come within the time limit. If the run is left
+        before its end the session has ended. Raises Misuse, Refused, Failed, Lost, Undone and TimedOut, and what `ios` raises."""
+        self._is_free()
+        in_range("a depth", depth, 1, MOST_BIOS)
+        deadline(timeout)
+        return self._results(iter(ios), depth, lambda: deadline(timeout), "run")
+
+    def _results(self, ios: Iterator[Optional[Io]], depth: int, until: Callable[[], Optional[float]], kind: str,
+                sectors: Optional[range] = None) -> Results:
+        """The results of a run; `kind` and `sectors` tell what it is about if it ends the session."""
+        self._is_free()
+        if self._owed:
+            raise Misuse(f"{len(self._owed)} reads and writes of `submit` are not reaped: reap them first")
+        self._is_running = True
+        flight = Flight(self.wire, self.number, self._dropped, ios, depth)
+        try:
+            while flight.fill():
+                yield flight.next_result(until())
+                # Whoever took that result may have closed the session.
+                self._stands()
+        except BaseException as fault:
+            self._after(fault, flight, until, (kind, sectors))
+            raise
+        finally:
+            self._is_running = False
+
+    def _after(self, fault: BaseException, flight: Flight, until: Callable[[], Optional[float]],
+               what: Tuple[str, Optional[range]]) -> None:
+        """Takes what is still to come of a run that has raised this. Ends the session where that is not certain, or does not come."""
+        if fault is not flight.certain:
+            self._end_for(fault, *what, flight.going)
+            return
+        try:
+            others = flight.drain(until())
+        except BaseException as ending:
+            self._end_for(ending, *what, flight.going)
+            raise
+        if isinstance(fault, ClientError):
+            fault.also = tuple(others)
+
+    def read(self, start: int, count: int, timeout: Optional[float] = None) -> bytes:
+        """The bytes of `count` sectors from the sector `start` on, 512 for each.
+
+        They are read by 64, up to 32 of these reads at a time, so another client may write in between. For 0 sectors nothing is asked.
+        Raises Misuse, Refused, Failed, Lost, Undone and TimedOut."""
+        sectors = span(start, count)
+        until = deadline(timeout)
+        found: Dict[int, bytes] = {}
+        with contextlib.closing(self._results(pieces(sectors), MOST_BIOS, lambda: until, "read", sectors)) as results:
+            for _, io, data in results:
+                found[io.start] = data or b""
         return b"".join(found[at] for at in sorted(found))
 
-    def write(self, start, data):
-        """Writes whole sectors."""
-        if len(data) % SECTOR:
-            raise ValueError("a write has whole sectors of 512 bytes")
-        for _ in self.run(Io(io.start, io.count, data[(io.start - start) * SECTOR:(io.start - start + io.count) * SECTOR])
-                          for io in pieces(start, len(data) // SECTOR)):
-            pass
+    def write(self, start: int, data: Data, timeout: Optional[float] = None) -> None:
+        """Writes whole sectors, of 512 bytes each, from the sector `start` on.
+
+        They are written by 64, up to 32 of these writes at a time. If it raises an exception some of them may be done. For no bytes nothing
+        is asked. Raises Misuse, Refused, Lost, Undone and TimedOut."""
+        view = memoryview(data).cast("B")
+        sectors = span(start, whole_sectors(view))
+        until = deadline(timeout)
+        ios = (io._replace(data=bytes(view[(io.start - start) * SECTOR:][:io.count * SECTOR])) for io in pieces(sectors))
+        with contextlib.closing(self._results(ios, MOST_BIOS, lambda: until, "write", sectors)) as results:
+            collections.deque(results, 0)
 
 
-def pieces(start, count):
-    """Reads of so many sectors, each as long as a read may be."""
-    return [Io(at, min(MOST_SECTORS, start + count - at), None) for at in range(start, start + count, MOST_SECTORS)]
+def span(start: int, count: int) -> range:
+    """The numbers of so many sectors. Raises Misuse if there are no such sectors on any device."""
+    in_range("the first sector", start, 0, MOST_SECTOR)
+    in_range("the number of sectors", count, 0, MOST_SECTOR + 1 - start)
+    return range(start, start + count)
 
 
-def chosen(sectors, size, writes, until, dice):
-    """Reads and writes of `size` sectors at random, till a time; so many of a hundred are writes."""
-    while time.monotonic() < until:
-        start = dice.randrange(sectors - size + 1)
-        yield Io(start, size, dice.randbytes(size * SECTOR) if dice.randrange(100) < writes else None)
-
-
-def load(session, given):
-    """Loads the host, and tells what came of it."""
-    began = {}
-    took = []
-
-    def timed(ios):
-        for io in ios:
-            began[id(io)] = time.perf_counter()
-            yield io
-
-    start = time.monotonic()
-    ios = timed(chosen(given.sectors, given.size, given.writes, start + given.seconds, random.Random(given.seed)))
-    for _, io, _ in session.run(ios, given.depth):
-        took.append(time.perf_counter() - began.pop(id(io)))
-    seconds = time.monotonic() - start
-    took.sort()
-    at = [took[min(len(took) - 1, len(took) * part // 100)] * 1e6 for part in (50, 99)] if took else [0, 0]
-    print(f"{len(took)} done in {seconds:.1f} s: {len(took) / seconds:.0f} a second, half within {at[0]:.0f} us, 99 of 100 within {at[1]:.0f} us")
-    return 0
-
-
-class Copy:
-    """What the sectors should be, and which of them a write or a read is under way for."""
-
-    def __init__(self, data):
-        self.data = bytearray(data)
-        self.busy = set()
-
-    def clear(self, ios):
-        """Of these, those that meet nothing that is under way, so that what they read is certain; None in place of another."""
-        for io in ios:
-            span = set(range(io.start, io.start + io.count))
-            if span & self.busy:
-                yield None
-            else:
-                self.busy |= span
-                yield io
-
-    def ended(self, io, data):
-        """Notes a write; of a read, whether it was right."""
-        self.busy -= set(range(io.start, io.start + io.count))
-        part = slice(io.start * SECTOR, (io.start + io.count) * SECTOR)
-        if io.data is not None:
-            self.data[part] = io.data
-            return True
-        return data == bytes(self.data[part])
-
-
-def check(session, given):
-    """Reads and writes at random, and compares. Nobody else may write meanwhile."""
-    with open(given.image, "rb") as image:
-        copy = Copy(image.read())
-    sectors = len(copy.data) // SECTOR
-    if sectors == 0:
-        raise ValueError("the image has no sector")
-    # What was written before stands in the host's overlay, so the copy begins with what the host has.
-    copy.data[:sectors * SECTOR] = session.read(0, sectors)
-    count = 0
-    ios = copy.clear(chosen(sectors, min(given.size, sectors), 50, time.monotonic() + given.seconds, random.Random(given.seed)))
-    for _, io, data in session.run(ios, given.depth):
-        count += 1
-        if not copy.ended(io, data):
-            print(f"wrong: sectors {io.start} to {io.start + io.count - 1}")
-            return 1
-    print(f"{count} done, all as they should be")
-    return 0
-
-
-def count(text):
-    """A number that is not negative."""
-    if not text.isdecimal():
-        raise argparse.ArgumentTypeError(f"no number: {text!r}")
-    return int(text)
-
-
-def words():
-    """What the words ask for."""
-    parser = argparse.ArgumentParser(description=__doc__, formatter_class=argparse.RawDescriptionHelpFormatter)
-    parser.add_argument("path", metavar="PATH")
-    parser.add_argument("--group", type=count, default=0)
-    parser.add_argument("--prio", type=count, default=4)
-    commands = parser.add_subparsers(dest="command", required=True)
-    reading = commands.add_parser("read")
-    reading.add_argument("start", type=count)
-    reading.add_argument("count", type=count)
-    commands.add_parser("write").add_argument("start", type=count)
-    for name in ("load", "check"):
-        command = commands.add_parser(name)
-        command.add_argument("--depth", type=int, default=1, choices=range(1, MOST_BIOS + 1), metavar="N",
-                             help="reads and writes at a time, 1 to 32 (1)")
-        command.add_argument("--seconds", type=float, default=5)
-        command.add_argument("--size", type=int, default=8, choices=range(1, MOST_SECTORS + 1), metavar="N",
-                             help="sectors of each, 1 to 64 (8)")
-        command.add_argument("--seed", type=int, default=None)
-        if name == "load":
-            command.add_argument("--sectors", type=count, required=True, help="of the device, from 0 on, those that are used")
-            command.add_argument("--writes", type=int, default=0, metavar="PERCENT")
-        else:
-            command.add_argument("--image", required=True)
-    given = parser.parse_args()
-    if given.command == "load" and given.sectors < given.size:
-        parser.error(f"--sectors {given.sectors} is less than --size {given.size}")
-    return given
-
-
-def main():
-    given = words()
-    try:
-        with Session(given.path, given.group, given.prio) as session:
-            if given.command == "read":
-                sys.stdout.buffer.write(session.read(given.start, given.count))
-                return 0
-            if given.command == "write":
-                session.write(given.start, sys.stdin.buffer.read())
-                return 0
-            return load(session, given) if given.command == "load" else check(session, given)
-    except (Refused, Failed, Undone, ValueError) as fault:
-        print(f"bfqclient: {fault}", file=sys.stderr)
-        return 1
-    except struct.error:
-        print("bfqclient: a number does not fit its field", file=sys.stderr)
-        return 2
-    except Lost as fault:
-        print(f"bfqclient: {fault}", file=sys.stderr)
-        return 3
-    except OSError as fault:
-        print(f"bfqclient: {fault}", file=sys.stderr)
-        return 2
-    except KeyboardInterrupt:
-        return 130
+def pieces(sectors: range) -> Iterator[Io]:
+    """Reads of these sectors, each as long as a read may be."""
+    return (Io(at, min(MOST_SECTORS, sectors.stop - at), None) for at in range(sectors.start, sectors.stop, MOST_SECTORS))
 
 
 if __name__ == "__main__":
+    # The command stands in a file of its own beside this one, and uses this one as any program does.
+    from bfqclient_command import main
     sys.exit(main())

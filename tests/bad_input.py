@@ -6,7 +6,11 @@ limits, and not from the program's own output.
 """
 
 from dataclasses import dataclass
+from pathlib import Path
 from typing import Optional
+
+# The version of this checkout, with its line end.
+VERSION = Path(__file__).resolve().parents[1].joinpath("VERSION").read_bytes()
 
 SIM = ["sim", "--scheduler", "none"]
 # Under bfq a request in an empty queue activates its session: 1,024 sectors at weight 40 take 1,024 * 2^22 / 40.
@@ -310,7 +314,7 @@ BAD_WORDS_CASES = [
 
 # Words that are nearly good, joined by single spaces; two spaces, or one at the end, have the empty word beside them.
 BAD_WORDS_CASES += [refused(repr(line)[1:-1], line.split(" ")) for line in [
-    "", "help", "--scheduler none sim", "--version", "sim --scheduler ", "sim --scheduler Bfq",
+    "", "help", "--scheduler none sim", "--version sim", "--version --version", "--version=1", "-V", "--versio", "sim --scheduler ", "sim --scheduler Bfq",
     "sim --scheduler bfq2", "sim --scheduler plain", "sim --scheduler mq-deadline", "sim --tags 4 --scheduler=x",
     "sim bfq", "sim --scheduler None", "sim --scheduler none none", "sim --scheduler none sim",
     "sim --scheduler none help", "sim --scheduler bfq --scheduler none", "sim --scheduler none --tags=4 --tags=5",
@@ -381,10 +385,11 @@ GOOD_WORDS = [
          b"refused 20\nrefused 19\n"),
     Case("good words: the number of requests holds", SIM + ["--nr-requests=1"], b"attach 0 0 4\nread 0 1 0 8\nread 0 1 100 8\n",
          b"attached 1\nqueued 2\nnotyet 43\n"),
+    Case("version", ["--version"], stdout=b"bfqhost " + VERSION),
     Case("help", ["--help"], has=[b"bfqhost sim [OPTION]", b"bfq or none (bfq)"]),
     Case("help names each option", ["--help"], has=[
         b"--scheduler", b"--nr-requests", b"--tags", b"--first-budget", b"--max-budget", b"--timeout", b"--history",
-        b"--first-vtime", b"--sectors", b"--image", b"--help", b"the scheduler: bfq or none (bfq)",
+        b"--first-vtime", b"--sectors", b"--image", b"--help", b"--version", b"the scheduler: bfq or none (bfq)",
     ]),
     Case("help names each step", ["--help"], has=[
         b"attach SEAT", b"read SEAT", b"write SEAT", b"reap SEAT", b"leave SEAT", b"dispatch", b"finish TAG", b"work TAG",
@@ -411,6 +416,7 @@ FAULTS = [
         ("at a bad line after good ones", SIM, b"line\nline\nlines\n"),
         ("before a bad line, where the buffer is full", SIM, LONG_PIECE + b"lines\n"),
         ("at the help", ["--help"], b""),
+        ("at the version", ["--version"], b""),
     ]
 ]
 

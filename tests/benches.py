@@ -7,9 +7,11 @@ which was written apart from this host. rt ci builds each program with two compi
 
 import os
 import subprocess
+import sys
 import tempfile
 import time
 
+from libraries import PROGRAMS
 from served import ATTACH, LEAVE, LEFT, SECTOR, Talk, Wrong, attached, fetch, queued, read, reap, same, store, written
 
 TOP = os.path.dirname(os.path.dirname(os.path.abspath(__file__)))
@@ -27,8 +29,16 @@ FED = ("serve_bench", ["feed", "4096", "2"], "13106\n")
 
 
 def builds(name):
-    """The builds of a program, where rt ci leaves them, and what each is called. One by LLVM there must be, or what ./bfqhost has built."""
+    """The builds of a program, where rt ci leaves them, and what each is called. If there is none by LLVM it is the one that ./bfqhost would
+    run, which may be that of release/."""
     made = os.path.join(TOP, "crates", name, "out", name)
+    if not os.path.exists(made) and name in PROGRAMS:
+        words = [os.path.join(TOP, "tests", "launch"), "--which", name]
+        ran = subprocess.run(words, stdin=subprocess.DEVNULL, stdout=subprocess.PIPE, text=True, check=False)
+        if ran.returncode:
+            # It has said why.
+            sys.exit(ran.returncode)
+        made = ran.stdout.rstrip("\n")
     return [(made, "")] + [(it, " (built by Rattle's own compiler)") for it in [f"{made}.by-rattle"] if os.path.exists(it)]
 
 

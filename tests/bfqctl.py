@@ -16,7 +16,7 @@ import time
 from dataclasses import dataclass, field
 from typing import Optional
 
-from bad_input import DONE, REFUSED, WRITE_FAULT
+from bad_input import DONE, REFUSED, VERSION, WRITE_FAULT
 
 SECONDS = 20
 
@@ -156,7 +156,10 @@ WORDS = [
     refused("the option with one dash", "-socket", "PATH", "undo", "2"),
     refused("two dashes before the command", "--socket", "PATH", "--", "undo", "2"),
     refused("two dashes behind the command", "--socket", "PATH", "undo", "2", "--"),
-    refused("version", "--version"),
+    refused("a word behind the version", "--version", "hold"),
+    refused("the version twice", "--version", "--version"),
+    refused("the version behind the option", "--socket", "PATH", "--version"),
+    refused("short version", "-V"),
     refused("a word that is no text", "--socket", "PATH", "undo", "\udcff"),
 ] + [no_call(*line.split(" ")) for line in [
     "", "undo", "undo x", "undo 2 3", "undo ", "undo +2", "undo -2", "undo 02", "undo 2 ", "undo 4294967296", "undo 0x2", "undo 1_0",
@@ -173,6 +176,8 @@ OTHERS = [
     Run("the path behind an equals sign", ["--socket=PATH", "undo", "2"], UNDO, [MOVED], b"moved 3 5\n"),
     Run("help", ["--help"], stdout=b"NAME\n    bfqctl", begins=True),
     Run("short help", ["-h"], stdout=b"NAME\n    bfqctl", begins=True),
+    Run("version", ["--version"], stdout=b"bfqctl " + VERSION),
+    Run("version with a full output", ["--version"], status=WRITE_FAULT, writes_to_full=True),
     Run("help with a full output", ["--help"], status=WRITE_FAULT, writes_to_full=True),
     Run("a full output", ["--socket", "PATH", "undo", "2"], UNDO, [MOVED], status=WRITE_FAULT, writes_to_full=True),
     Run("a full output and a refusal", ["--socket", "PATH", "undo", "2"], UNDO, [bytes.fromhex("00000002 e0 1f")], status=WRITE_FAULT,

@@ -134,6 +134,18 @@ def build(given):
     return build_program(given.program, lines, began, "llvm" if given.llvm else "rattle")
 
 
+def take(lock):
+    """Waits for a build of this checkout that is under way. If that takes more than a second, it says so."""
+    until = time.monotonic() + 1
+    while time.monotonic() < until:
+        with contextlib.suppress(BlockingIOError):
+            fcntl.flock(lock, fcntl.LOCK_EX | fcntl.LOCK_NB)
+            return
+        time.sleep(0.05)
+    tell("another build of this checkout is under way; this one goes on when that has ended")
+    fcntl.flock(lock, fcntl.LOCK_EX)
+
+
 def main():
     words = argparse.ArgumentParser(description=__doc__, formatter_class=argparse.RawDescriptionHelpFormatter)
     words.add_argument("--llvm", action="store_true", help="LLVM makes the program, and not Rattle's own compiler")
@@ -144,7 +156,7 @@ def main():
         words.error("with the names of crates no program is made")
     with open(TOP / "crates.txt", encoding="utf-8") as lock:
         # One build at a time.
-        fcntl.flock(lock, fcntl.LOCK_EX)
+        take(lock)
         with files_in_memory():
             return build(given)
 

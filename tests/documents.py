@@ -1,4 +1,5 @@
-"""What the documents show is what the program does: the refusals and causes, the sessions, and the program of the guide."""
+"""What the documents show is what the program does: the refusals and causes, the sessions, and the program of the guide. What they name is
+there: functions, definitions, pages, parts of ./test, and command lines (tests/commands.py)."""
 
 import os
 import re
@@ -7,12 +8,23 @@ import signal
 import subprocess
 import sys
 import tempfile
+from pathlib import Path
+
+import figures
+from commands import command_faults
 
 TOP = os.path.dirname(os.path.dirname(os.path.abspath(__file__)))
+TOP_PATH = Path(TOP)
+CRATES = TOP_PATH / "crates"
 SECONDS = 20
 MOST_FAULTS = 6
 # What examples/drive.py prints: the work of the device reads two sectors of zeros.
 DRIVEN = "finished 1 completed 2 read 00 00\n"
+# Pages whose links, names and command lines are looked at.
+PAGES = ["README.md", "docs/TESTING.md", "docs/PROOF.md"]
+FOLDERS = "bench|clients|crates|docs|examples|man|release|tests|tools"
+# A crate whose functions have no contracts of their own.
+WITHOUT_CONTRACTS = {"host_options"}
 # These are answered to a worker thread, and the program has none.
 OF_WORKERS = {("35", "BadWorker"), ("45", "NothingToTake")}
 # A command that gives a script to the program.
@@ -116,22 +128,65 @@ def served():
             yield f"docs/GUIDE.md has other bytes than {name} of the test"
 
 
-def stepped(program):
-    """The README's look at everything is what the stepper prints."""
-    with open(os.path.join(TOP, "README.md"), encoding="utf-8") as file:
-        lines, _, shown = re.search(r"    printf '(.*)' \| tools/step\n()((?:    .*\n|\n)*)", file.read()).groups()
-    ended = subprocess.run([os.path.join(TOP, "tools", "step"), "--program", program], input=lines.replace("\\n", "\n"), capture_output=True,
-                           text=True, timeout=SECONDS, check=False, env={**os.environ, "PYTHONDONTWRITEBYTECODE": "1"})
-    wanted = [line.removeprefix("    ") for line in shown.rstrip("\n").split("\n")]
-    got = ended.stdout.rstrip("\n").split("\n")
-    if ended.stderr or got != wanted:
-        yield f"`tools/step` prints {got}, {ended.stderr!r}, and not {wanted}"
+def proved():
+    """Each function, clause and file of definitions that docs/PROOF.md names for a crate is there, and no crate is left out."""
+    told, crate, source = set(), None, ""
+    for row in read("docs", "PROOF.md").splitlines():
+        if heading := re.match(r"##+ (?:`(\w+)`)?", row):
+            crate = heading[1]
+            told.add(crate)
+            source = "".join(path.read_text() for path in sorted(CRATES.glob(f"{crate}/src/**/*.rt")))
+        elif crate and row.startswith("| ") and "what is proved" not in row:
+            _, contracts, definitions = row[1:row.rindex("|")].split("|")
+            for name in re.findall(r"`(?:\w+::)?(\w+)`", contracts):
+                if not re.search(rf"\b(fn|mod|struct|trait|enum|impl|ensures) {name}\b", source):
+                    yield f"docs/PROOF.md: {crate} has no {name}"
+            for name, other in re.findall(r"`(\w+)`(?: of `(\w+)`)?", definitions):
+                if not (CRATES / (other or crate) / "specs" / f"{name}.antt").is_file():
+                    yield f"docs/PROOF.md: {other or crate} has no definitions {name}"
+    for name in sorted({path.name for path in CRATES.iterdir() if not figures.OF_TESTS.fullmatch(path.name)} - told - WITHOUT_CONTRACTS):
+        yield f"docs/PROOF.md has no table of {name}"
+
+
+def slugs(path):
+    """What a link may name of a page behind `#`: its headings in small letters, with hyphens for spaces, without other marks."""
+    headings = re.findall(r"(?m)^#+ (.*)$", (TOP_PATH / path).read_text(encoding="utf-8"))
+    return {re.sub(r"[^\w\- ]", "", heading.lower()).replace(" ", "-") for heading in headings}
+
+
+def links():
+    """Each link of the pages leads to a page, and to a heading of it if it names one; each file that they name is there."""
+    for page in PAGES:
+        text = read(*page.split("/"))
+        for path, _, anchor in (link.partition("#") for link in re.findall(r"\]\(([^):]+)\)", text)):
+            # A link is read from the folder of its page.
+            path = os.path.normpath(os.path.join(os.path.dirname(page), path)) if path else page
+            if not (TOP_PATH / path).exists():
+                yield f"{page} links {path}, which is not there"
+            elif anchor and anchor not in slugs(path):
+                yield f"{page} links {path}#{anchor}, and there is no such heading"
+        for path in re.findall(rf"`((?:{FOLDERS})/[\w./*-]*)`", text):
+            if not [*TOP_PATH.glob(path.rstrip("/"))]:
+                yield f"{page} names {path}, which is not there"
+    for path in sorted(TOP_PATH.glob("docs/*.md")):
+        if f"](docs/{path.name})" not in read("README.md"):
+            yield f"README.md does not link docs/{path.name}"
+
+
+def tried():
+    """The parts that docs/TESTING.md has are those of ./test."""
+    rows = re.findall(r"(?m)^\| ((?:`[\w-]+`(?:, )?)+) \|", read("docs", "TESTING.md").partition("\n| part |")[2].partition("\n\n")[0])
+    told = {name for row in rows for name in re.findall("[\\w-]+", row)}
+    for name in sorted(told ^ {*output([os.path.join(TOP, "test"), "--list"]).split()}):
+        yield f"{'docs/TESTING.md' if name in told else './test --list'} alone has the part {name}"
 
 
 def documents(program):
     """The name of each look, and what was wrong with the documents."""
-    looks = {"refusals and causes": refusals(program), "README.md": sessions(program, "README.md"), "README.md, the stepper": stepped(program),
-             "docs/GUIDE.md": sessions(program, "docs", "GUIDE.md"), "examples/drive.py": driven(program), "a client's bytes": served()}
+    looks = {"refusals and causes": refusals(program),
+             "README.md": sessions(program, "README.md"), "README.md, its figures": figures.faults(),
+             "docs/GUIDE.md": sessions(program, "docs", "GUIDE.md"), "examples/drive.py": driven(program), "a client's bytes": served(),
+             "docs/PROOF.md": proved(), "links": links(), "parts of ./test": tried(), "command lines": command_faults(program)}
     for name, look in looks.items():
         faults = []
         try:

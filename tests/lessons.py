@@ -1,8 +1,9 @@
 """The parts of README.md and docs/GUIDE.md with commands for a shell: each is given to one, and must print what stands below it.
 
-A command is a row that begins with four spaces, a dollar sign and a space; the rows below it, up to the next command, are what is
-printed from then on, also by what runs beside it. Empty rows count for nothing. Where a lesson says that its numbers differ from run to
-run, each number may be another. A lesson that needs a tool for file systems which is not there is left out, and that is told.
+A command is a row that begins with four spaces, a dollar sign and a space; the rows below it, up to the next command or a text, are what
+is printed from then on, also by what runs beside it. Empty rows count for nothing. A folder that `mktemp -d` has made may have another
+name. Where a lesson says that its numbers differ from run to run, each number may be another. A lesson that needs a tool for file
+systems which is not there is left out, and that is told.
 """
 
 import contextlib
@@ -17,50 +18,72 @@ import time
 
 TOP = os.path.dirname(os.path.dirname(os.path.abspath(__file__)))
 SECONDS = 30
-# The folder that the lessons work in.
-FOLDER = "/tmp/bfq"
+# What `mktemp -d` makes in a folder: ten letters or digits behind these.
+MADE = r"/tmp\.\w{10}"
+# How the folder of a run is told, and that of a document.
+SHOWN = "FOLDER"
+PAGES = ("README.md", "docs/GUIDE.md")
 DIFFERS = "The numbers differ from run to run."
 # What not every machine has; some of it stands where only root looks.
 OF_FILE_SYSTEMS = ("mkfs.ext4", "e2fsck")
+# A row that calls a program of this repository; and what tests/documents.py runs of such rows.
+CALL = re.compile(r"(?:^|[\s|;])(?:\./bfq(?:host|ctl)|(?:clients|tests|tools)/\w[\w.]*)\s")
+WITH_SCRIPT = re.compile(r"\./bfqhost .* < \S+")
 PATH = f"{os.environ.get('PATH', os.defpath)}:/usr/sbin:/sbin"
+
+
+def parts_of(path):
+    """The parts of a document: each with its commands, what they print, and the other rows of its blocks."""
+    with open(os.path.join(TOP, path), encoding="utf-8") as file:
+        for part in re.split(r"(?m)^## ", file.read()):
+            commands, others, in_session = [], [], False
+            for row in part.splitlines():
+                if row.startswith("    $ "):
+                    commands.append((row[6:], []))
+                    in_session = True
+                elif row.startswith("    ") and in_session:
+                    commands[-1][1].append(row[4:])
+                elif row.startswith("    "):
+                    others.append(row[4:])
+                elif row:
+                    in_session = False
+            yield part, commands, others
 
 
 def lessons():
     """The head of each part with such commands, these with what they print, and whether the numbers differ."""
-    parts = []
-    for path in ("README.md", "docs/GUIDE.md"):
-        with open(os.path.join(TOP, path), encoding="utf-8") as file:
-            parts += re.split(r"(?m)^## ", file.read())
-    for part in parts:
-        commands = []
-        for row in part.splitlines():
-            if row.startswith("    $ "):
-                commands.append((row[6:], []))
-            elif row.startswith("    ") and commands:
-                commands[-1][1].append(row[4:])
-        if commands:
-            yield part.splitlines()[0], commands, DIFFERS in part
+    for path in PAGES:
+        for part, commands, _ in parts_of(path):
+            if commands:
+                yield part.splitlines()[0], commands, DIFFERS in part
+
+
+def not_run(path):
+    """The rows of a document that call a program of this repository and that no test runs."""
+    for _, _, others in parts_of(path):
+        yield from (f"no test runs {row!r}" for row in others if CALL.search(f"{row} ") and not WITH_SCRIPT.fullmatch(row))
 
 
 class Shell:
-    """A shell that runs commands one by one, with its own folder in the place of that of the lessons."""
+    """A shell that runs commands one by one. What they make for a time goes into a folder of this run."""
 
-    def __init__(self, programs, folder):
-        # In the folder of this run the launchers' names are those of the programs, without what may stand behind a dot of how one was built.
+    def __init__(self, programs, folder, path):
+        # In the folder of this run a launcher has the name of its program, without what may stand behind a dot of how it was built.
         here = os.path.join(folder, "here")
         os.mkdir(here)
-        for path in [*programs, *(os.path.join(TOP, name) for name in ("clients", "crates", "examples"))]:
-            os.symlink(path, os.path.join(here, os.path.basename(path).partition(".")[0]))
+        for linked in [*programs, *(os.path.join(TOP, name) for name in ("clients", "crates", "examples", "release"))]:
+            os.symlink(linked, os.path.join(here, os.path.basename(linked).partition(".")[0]))
         # A tool starts the program that stands beside its folder, wherever that really is.
         shutil.copytree(os.path.join(TOP, "tools"), os.path.join(here, "tools"), ignore=shutil.ignore_patterns("__pycache__"))
         self.process = subprocess.Popen(["bash"], cwd=here, stdin=subprocess.PIPE, stdout=subprocess.PIPE, stderr=subprocess.STDOUT,
-                                        start_new_session=True, env={**os.environ, "PATH": PATH, "PYTHONDONTWRITEBYTECODE": "1"})
+                                        start_new_session=True,
+                                        env={**os.environ, "PATH": path, "TMPDIR": folder, "PYTHONDONTWRITEBYTECODE": "1"})
         self.folder = folder
         self.text = ""
 
     def run(self, command, rows):
         """What a command and what runs beside it print, up to its end and to as many rows as are wanted."""
-        self.process.stdin.write((command.replace(FOLDER, self.folder) + "\necho @@\n").encode())
+        self.process.stdin.write(f"{command}\necho @@\n".encode())
         self.process.stdin.flush()
         until = time.monotonic() + SECONDS
         # The last row may have no end of its own.
@@ -68,7 +91,7 @@ class Shell:
             if select.select([self.process.stdout], [], [], 0.1)[0]:
                 self.text += os.read(self.process.stdout.fileno(), 4096).decode()
         text, self.text = self.text.replace("@@\n", "", 1), ""
-        return text.replace(self.folder, FOLDER).splitlines()
+        return re.sub(re.escape(self.folder) + MADE, SHOWN, text).splitlines()
 
     def rows_so_far(self):
         return len([row for row in self.text.replace("@@\n", "\n").splitlines() if row])
@@ -82,16 +105,19 @@ class Shell:
         self.process.stdout.close()
 
 
-def faults_of(programs, commands, differs):
-    """What a lesson prints in another way than the guide has it."""
-    def plain(rows):
-        return [re.sub(r"\d+", "N", row) if differs else row for row in rows if row]
+def plain(rows, differs):
+    """Rows as they are compared: a folder of a document has the name of none, and if numbers differ each is the same one."""
+    told = [re.sub("/tmp" + MADE, SHOWN, row) for row in rows if row]
+    return [re.sub(r"\d+", "N", row) if differs else row for row in told]
 
+
+def faults_of(programs, commands, differs, path=PATH):
+    """What commands print in another way than their document has it."""
     with tempfile.TemporaryDirectory(prefix="bfq-") as folder:
-        shell = Shell(programs, folder)
+        shell = Shell(programs, folder, path)
         try:
             for command, rows in commands:
-                if plain(found := shell.run(command, len(rows))) != plain(rows):
+                if plain(found := shell.run(command, len(rows)), differs) != plain(rows, differs):
                     return [f"{command}: {found} and not {rows}"]
         finally:
             shell.end()
@@ -103,6 +129,8 @@ def served_lessons(*programs):
     found = list(lessons())
     if len(found) < 5:
         yield "documents: parts with commands for a shell", [f"there are {len(found)}"]
+    for path in PAGES:
+        yield f"documents: the command lines of {path}", [*not_run(path)]
     for head, commands, differs in found:
         text = " ".join(command for command, _ in commands)
         if lacking := [it for it in OF_FILE_SYSTEMS if it in text and not shutil.which(it, path=PATH)]:

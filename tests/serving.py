@@ -326,8 +326,8 @@ DONE_WITH = [two_clients, stepped, bad_frames, peer_that_never_reads, peer_that_
 
 
 def history_nearly_full(program, image, folder):
-    """Nine tenths of 20 calls are 18. It says so once, and goes on till the history is full; then even Hold is refused, and Stop is not. One
-    worker is enough for a client that waits for each read."""
+    """Nine tenths of 20 calls are 18. It says so once, and goes on till the history is full, which it says once, too; then even Hold is
+    refused, and Stop is not. One worker is enough for a client that waits for each read."""
     with Served(program, image, folder, "--history", "20", workers=1) as host, host.talk(0) as client:
         client.asks((ATTACH, attached(1)))
         for serial in (2, 6, 10, 14):
@@ -336,6 +336,7 @@ def history_nearly_full(program, image, folder):
         same("standard error", host.line(), "history: 18 of 20 calls")
         # The read is dispatched, and its Finish is the last call: the Reap waits for it.
         client.asks((reap(1), FULL))
+        same("standard error", host.line(), "history: full, 20 calls")
         host.operates((HOLD, FULL))
         host.stop()
 
@@ -492,6 +493,7 @@ def idle(program, image, folder):
         client.asks((fetch(1, 0, 1), queued(18)))
         same("standard error", host.line(), "history: 17 of 19 calls")
         # The last call was its Dispatch.
+        same("standard error", host.line(), "history: full, 19 calls")
         host.operates((HOLD, FULL))
         rests(host, "with a full history and a request in flight")
         host.stop()

@@ -919,15 +919,18 @@ def like_queries(program, folder):
 
 
 def no_matplotlib(program, folder):
-    """With no matplotlib this is told in one line, and nothing is written. A CSV needs none."""
+    """With no matplotlib this is told in one line that names the Python, and no picture is written. A CSV needs none."""
     written(folder, "script", PLOTTED)
     os.mkdir(os.path.join(folder, "library"))
     written(os.path.join(folder, "library"), "matplotlib.py", "raise ImportError('nothing of the kind\\nand more of it')\n")
     lacking = {"PYTHONPATH": os.path.join(folder, "library"), "PYTHONDONTWRITEBYTECODE": "1"}
-    yield from compared(ran(["plot", "script", "--svg", "svg", "--csv", "csv"], folder, program, environment=lacking), "",
-                        "--svg needs matplotlib, which python3-matplotlib has: nothing of the kind\n", NO_PROGRAM)
-    for name in ("svg", "csv"):
-        yield from of_image(name, contents(folder, name), None)
+    python = subprocess.run(["python3", "-c", "import sys; print(sys.executable)"], capture_output=True, text=True, check=True).stdout.strip()
+    told = f"--svg needs matplotlib, which {python} does not have (python3-matplotlib has it): nothing of the kind\n"
+    yield from compared(ran(["plot", "script", "--svg", "svg", "--csv", "csv"], folder, program, environment=lacking), "", told, NO_PROGRAM)
+    yield from differences("the CSV", (contents(folder, "csv") or b"").decode(), lines(ROWS))
+    # The library is asked for before the script is read, if there is nothing else to write.
+    yield from compared(ran(["plot", "none", "--svg", "svg"], folder, program, environment=lacking), "", told, NO_PROGRAM)
+    yield from of_image("svg", contents(folder, "svg"), None)
     yield from compared(ran(["plot", "script"], folder, program, environment=lacking), lines(ROWS))
 
 
@@ -996,7 +999,7 @@ def not_built(program, folder):
     written(folder, "image", IMAGE)
     for tool, asking in ASKING.items():
         with started([os.path.join("tools", tool), *asking], folder) as ran_tool:
-            yield from ends(ran_tool, "", f"the program is not built: {folder}/bfqhost --help builds it, which takes minutes\n", NO_PROGRAM)
+            yield from ends(ran_tool, "", f"there is no program: {folder}/bfqhost --help builds it, which takes minutes\n", NO_PROGRAM)
 
 
 def helps(program, folder):

@@ -447,16 +447,18 @@ def program_not_there(program, folder):
 
 
 def program_beside_the_tools(program, folder):
-    """With no word of a program it is the launcher above the tools' folder, where the program is built."""
+    """With no word of a program it is the launcher above the tools' folder, where a program is built or released."""
     shutil.copytree(TOOLS, os.path.join(folder, "tools"))
     written(folder, "script", "line -> line 0 0 0\n")
     os.symlink(program, os.path.join(folder, "bfqhost"))
     with started(["tools/expect", "script"], folder) as ran:
-        yield from ends(ran, "", f"the program is not built: {folder}/bfqhost --help builds it, which takes minutes\n", NO_PROGRAM)
-    os.makedirs(os.path.join(folder, "crates", "bfqhost", "out"))
-    os.symlink(program, os.path.join(folder, "crates", "bfqhost", "out", "bfqhost"))
-    with started(["tools/expect", "script"], folder) as ran:
-        yield from ends(ran, "1 lines asked, 1 answers as wanted\n", "", DONE)
+        yield from ends(ran, "", f"there is no program: {folder}/bfqhost --help builds it, which takes minutes\n", NO_PROGRAM)
+    for path in ("crates/bfqhost/out", "release/x86_64-linux"):
+        os.makedirs(os.path.join(folder, path))
+        os.symlink(program, os.path.join(folder, path, "bfqhost"))
+        with started(["tools/expect", "script"], folder) as ran:
+            yield from ends(ran, "1 lines asked, 1 answers as wanted\n", "", DONE)
+        os.unlink(os.path.join(folder, path, "bfqhost"))
 
 
 def stops_before_the_end(program, folder):

@@ -3,7 +3,10 @@
 The program itself judges its lines. What stands here is for people: a bad line gets a reason.
 """
 
+from __future__ import annotations
+
 import re
+from typing import Optional, Sequence
 
 # A line has at most so many bytes, and a script so many lines.
 MOST_BYTES = 256
@@ -36,27 +39,27 @@ NAMES = {
 }
 
 
-def is_silent(line):
+def is_silent(line: str) -> bool:
     """An empty line and a comment print nothing."""
     return not line or line.startswith("#")
 
 
-def is_refusal(answer):
+def is_refusal(answer: str) -> bool:
     """The call was not done, as things stand or not yet."""
     return answer.startswith(("refused ", "notyet "))
 
 
-def named(answer):
+def named(answer: str) -> str:
     """A refusal with its name beside its number."""
     return f"{answer} ({NAMES.get(int(answer.split()[1]), 'a number with no name here')})"
 
 
-def is_step(line):
+def is_step(line: str) -> bool:
     """A good line that asks for a step, which takes a serial if it is accepted."""
     return not is_silent(line) and line.split(" ")[0] not in NO_STEPS
 
 
-def why_bad(line, forms=FORMS):
+def why_bad(line: str, forms: Sequence[Sequence[str]] = FORMS) -> Optional[str]:
     """Why a line is a bad one, of a script or of other forms; None if it is good. Bytes that are no text stand in it as `surrogateescape`
     has them."""
     if len(line.encode(errors="surrogateescape")) > MOST_BYTES:
@@ -66,7 +69,7 @@ def why_bad(line, forms=FORMS):
     return why_not_joined(line) or why_other_words(line.split(" "), forms)
 
 
-def why_not_joined(text):
+def why_not_joined(text: str) -> Optional[str]:
     """Why a text is not words of plain letters, digits and signs, joined by one space; None if it is."""
     for fault, reason in [("\r", "a carriage return"), ("\t", "a tab"), ("  ", "a space too many: two in a row")]:
         if fault in text:
@@ -81,7 +84,7 @@ def why_not_joined(text):
     return None
 
 
-def why_other_words(words, forms):
+def why_other_words(words: Sequence[str], forms: Sequence[Sequence[str]]) -> Optional[str]:
     """Why words have none of these forms; None if they have one."""
     for at, word in enumerate(words):
         forms = [form for form in forms if len(form) > at]
@@ -99,7 +102,7 @@ def why_other_words(words, forms):
     return f"too few words: after {words[-1]!r} comes {' or '.join(sorted({form[len(words)] for form in forms}))}"
 
 
-def why_no_number(name, word):
+def why_no_number(name: str, word: str) -> Optional[str]:
     """Why a word is no number for this place; None if it is one."""
     most = 2**(BITS | BITS_OF_TOOLS)[name] - 1
     if not re.fullmatch("[0-9]+", word):

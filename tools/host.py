@@ -9,26 +9,33 @@ A tool ends with one of these statuses. It never shows a trace of Python.
     4   standard output takes no more
 """
 
+from __future__ import annotations
+
 import argparse
 import contextlib
+import io
 import os
 import signal
 import subprocess
 import sys
 import threading
+from typing import Any, Callable, Dict, Iterable, Iterator, List, Optional, Sequence, Tuple, Union
 
 import grammar
 
 NOT_WANTED, BAD_INPUT, NO_PROGRAM, WRITE_FAULT = 1, 2, 3, 4
 
 TOP = os.path.dirname(os.path.dirname(os.path.realpath(__file__)))
-# Starts the program, and builds it first where that is needed, which takes minutes.
+# Starts a program that is there, and builds one first where that is needed, which takes minutes.
 LAUNCHER = os.path.join(TOP, "bfqhost")
-BUILT = os.path.join(TOP, "crates", "bfqhost", "out", "bfqhost")
+# One that was built here, and the released one.
+PROGRAMS = [os.path.join(TOP, *path, "bfqhost") for path in (("crates", "bfqhost", "out"), ("release", "x86_64-linux"))]
 # What a line begins with that a build says of itself on standard error.
 BUILDING = "bfqhost: "
 # Lines that are written together have at most so many bytes. A pipe takes them at once, so the two sides never wait for each other.
 TOGETHER = 4_096
+# What stands before the name of a tool where it is installed.
+INSTALLED = "bfq-"
 # How long a program may take to end when its input has ended.
 SECONDS = 5
 
@@ -54,30 +61,30 @@ class Ended(Stop):
 class BadLine(Ended):
     """The program takes no such line, and has ended for it."""
 
-    def __init__(self, line):
+    def __init__(self, line: str) -> None:
         self.why = grammar.why_bad(line) or "the program does not know it"
         super().__init__(f"the program takes no line {line!r}: {self.why}")
 
 
-def tell(text):
+def tell(text: object) -> None:
     """Says a line on standard error, where it takes one."""
     with contextlib.suppress(OSError):
         print(text, file=sys.stderr, flush=True)
 
 
-def program_of(given):
-    """The path of the program: the given one, or else the launcher of this repository, where the program is built."""
+def program_of(given: Optional[str]) -> str:
+    """The path of the program: the given one, or else the launcher of this repository, where a program is there."""
     if given is not None:
         return os.path.abspath(given)
-    if not os.path.exists(BUILT):
-        raise Ended(f"the program is not built: {LAUNCHER} --help builds it, which takes minutes")
+    if not any(map(os.path.exists, PROGRAMS)):
+        raise Ended(f"there is no program: {LAUNCHER} --help builds it, which takes minutes")
     return LAUNCHER
 
 
 class Host:
     """A run of `bfqhost sim`, which answers lines one at a time."""
 
-    def __init__(self, given, options):
+    def __init__(self, given: Optional[str], options: Sequence[str]) -> None:
         self.program = program_of(given)
         # The last line that the program said on standard error.
         self.said = ""
@@ -86,36 +93,40 @@ class Host:
                                             stderr=subprocess.PIPE)
         except OSError as fault:
             raise Ended(f"{self.program} does not start: {fault.strerror}") from None
+        # Of pipes that were asked for none is lacking.
+        assert self.process.stdin and self.process.stdout and self.process.stderr
+        self.stdin, self.stdout, self.stderr = self.process.stdin, self.process.stdout, self.process.stderr
         self.listener = threading.Thread(target=self.listen, daemon=True)
         self.listener.start()
 
-    def listen(self):
+    def listen(self) -> None:
         """Passes on what a build says while it goes on, and keeps what else the program says, which tells why it ends."""
-        for line in self.process.stderr:
+        for line in self.stderr:
             text = line.decode(errors="replace").rstrip()
             if text.startswith(BUILDING):
                 tell(text)
             elif text:
                 self.said = text
 
-    def ask(self, line):
+    def ask(self, line: str) -> str:
         """The answer to a line, which must not be a silent one."""
         return self.ask_all([line])[0]
 
-    def ask_all(self, lines):
+    def ask_all(self, lines: Sequence[str]) -> List[str]:
         """The answers to lines that are written together, of at most 4,096 bytes."""
         text = "".join(f"{line}\n" for line in lines).encode(errors="surrogateescape")
         assert len(lines) == 1 or len(text) <= TOGETHER
         try:
-            os.write(self.process.stdin.fileno(), text)
+            os.write(self.stdin.fileno(), text)
         except BrokenPipeError:
             # The program has ended. What it answered before can still be read, and tells why.
             pass
         return [self.answer(line) for line in lines]
 
-    def ask_each(self, lines):
+    def ask_each(self, lines: Iterable[str]) -> Iterator[str]:
         """The answers to any number of lines, of which each time as many are written together as may be."""
-        together, size = [], 0
+        together: List[str] = []
+        size = 0
         for line in lines:
             if together and size + len(line) + 1 > TOGETHER:
                 yield from self.ask_all(together)
@@ -124,9 +135,9 @@ class Host:
             size += len(line) + 1
         yield from self.ask_all(together)
 
-    def answer(self, line):
+    def answer(self, line: str) -> str:
         """Reads the answer to a line that was written."""
-        text = self.process.stdout.readline()
+        text = self.stdout.readline()
         if not text.endswith(b"\n"):
             raise self.ended(f" before it answered {line!r}")
         answer = text[:-1].decode(errors="replace")
@@ -134,7 +145,7 @@ class Host:
             raise BadLine(line)
         return answer
 
-    def ended(self, when=""):
+    def ended(self, when: str = "") -> Ended:
         """That the program has ended, how, and what it said."""
         try:
             status = self.process.wait(timeout=SECONDS)
@@ -144,14 +155,14 @@ class Host:
         how = f"with status {status}" if status >= 0 else f"by signal {-status}"
         return Ended(f"{self.program} has ended {how}{when}" + (f": {self.said}" if self.said else ""))
 
-    def __enter__(self):
+    def __enter__(self) -> Host:
         return self
 
-    def __exit__(self, kind, fault, _):
+    def __exit__(self, kind: object, fault: Optional[BaseException], _: object) -> None:
         """Ends the program's input, so that it ends too, and well if all went well so far. An answer that a tool could not take apart is
         told."""
-        self.process.stdin.close()
-        self.process.stdout.close()
+        self.stdin.close()
+        self.stdout.close()
         try:
             status = self.process.wait(timeout=SECONDS)
         except subprocess.TimeoutExpired:
@@ -164,7 +175,7 @@ class Host:
             raise self.ended()
 
 
-def read_lines(path):
+def read_lines(path: str) -> Iterator[Tuple[int, str]]:
     """The lines of a file with their numbers, without their ends, as they come; of standard input where the path is `-`."""
     try:
         if path == "-" and sys.stdin is None:
@@ -176,12 +187,12 @@ def read_lines(path):
         raise BadInput(f"{path}: {fault.strerror}") from None
 
 
-def bad_line(path, number, why):
+def bad_line(path: str, number: int, why: str) -> BadInput:
     """The fault of a file that has a bad line."""
     return BadInput(f"{path}: bad line {number}: {why}")
 
 
-def answers_to(path, host):
+def answers_to(path: str, host: Host) -> Iterator[Tuple[str, str]]:
     """Asks the lines of a script, one after the other. Gives each that is not silent, with its answer."""
     for number, line in read_lines(path):
         why = grammar.why_bad(line)
@@ -198,13 +209,13 @@ def answers_to(path, host):
         yield line, answer
 
 
-def on_line(host):
+def on_line(host: Host) -> Tuple[int, int]:
     """How many steps stand, and how many the line has."""
     _, cursor, length, _ = host.ask("line").split(" ")
     return int(cursor), int(length)
 
 
-def place_of(host, serial, length):
+def place_of(host: Host, serial: int, length: int) -> Optional[int]:
     """The place of the step with this serial in a line of this length, counted from 1; None where there is none. Serials rise along it."""
     first, last = 1, length
     while first <= last:
@@ -216,7 +227,7 @@ def place_of(host, serial, length):
     return None
 
 
-def way_to(host, serial):
+def way_to(host: Host, serial: int) -> Optional[str]:
     """The line that brings a host to where the step with this serial is the last that stands. It is empty where the host is there, and
     None where there is no such step."""
     cursor, length = on_line(host)
@@ -228,7 +239,7 @@ def way_to(host, serial):
     return f"undo {cursor - place}" if place < cursor else f"redo {place - cursor}"
 
 
-def moved(host, move):
+def moved(host: Host, move: str) -> Tuple[bool, List[Tuple[str, str]]]:
     """Asks an `undo K` or a `redo K`, for which a host that is free is held, and released again. Gives whether it was done, and all lines
     that were asked, each with its answer."""
     asked = []
@@ -239,9 +250,9 @@ def moved(host, move):
     return any(line == move and not grammar.is_refusal(answer) for line, answer in asked), asked
 
 
-def number_for(name):
+def number_for(name: str) -> Callable[[str], int]:
     """What reads a word that stands for a number, as argparse wants it."""
-    def number_of(word):
+    def number_of(word: str) -> int:
         if why := grammar.why_no_number(name, word):
             raise argparse.ArgumentTypeError(why)
         return int(word)
@@ -249,7 +260,7 @@ def number_for(name):
 
 
 @contextlib.contextmanager
-def told_with(path):
+def told_with(path: str) -> Iterator[None]:
     """What the system refuses is told with the path of the file."""
     try:
         yield
@@ -257,9 +268,12 @@ def told_with(path):
         raise BadInput(f"{path}: {fault.strerror}") from None
 
 
-def words_of(description, usage, *places):
+def words_of(description: Optional[str], usage: str, *places: Tuple[str, Dict[str, Any]]) -> Tuple[argparse.Namespace, List[str]]:
     """The words of a tool: its own, with these places beside `--program`, and after `--` the options of sim."""
     words = sys.argv[1:]
+    own = os.path.basename(sys.argv[0])
+    if own.startswith(INSTALLED):
+        description = (description or "").replace(f"tools/{own[len(INSTALLED):]}", own)
     at = words.index("--") if "--" in words else len(words)
     parser = argparse.ArgumentParser(description=description, usage=f"%(prog)s {usage} [-- OPTION-OF-SIM ...]", allow_abbrev=False,
                                      formatter_class=argparse.RawDescriptionHelpFormatter)
@@ -269,13 +283,15 @@ def words_of(description, usage, *places):
     return parser.parse_intermixed_args(words[:at]), words[at + 1:]
 
 
-def run(main):
+def run(main: Callable[[], int]) -> None:
     """Runs a tool, and ends with its status. An interrupt ends it at once, as it ends any program."""
     if signal.getsignal(signal.SIGINT) is signal.default_int_handler:
         signal.signal(signal.SIGINT, signal.SIG_DFL)
     if sys.stdout is None:
         sys.exit(WRITE_FAULT)
-    sys.stdout.reconfigure(errors="backslashreplace")
+    if isinstance(sys.stdout, io.TextIOWrapper):
+        sys.stdout.reconfigure(errors="backslashreplace")
+    status: Union[str, int, None] = NOT_WANTED
     try:
         try:
             status = main()

@@ -1,5 +1,5 @@
 -- A group's entity waits or is served where one of its members does; and how activating and expiring keep that.
-use Rattle.std.proofs.Common.{true, false, ◌≡◌, ◌≢◌, inl, inr, ℕ, ◌+◌, ◌<◌, ◌≤◌, nat_le, List, [], ◌∷◌, Option, Some, cond, refl, sym, ap, ◌∙◌, subst, arith}
+use Rattle.std.proofs.Common.{true, false, ◌≡◌, ◌≢◌, inl, inr, ℕ, ◌+◌, ◌<◌, ◌≤◌, List, ◌∷◌, Option, Some, cond, refl, sym, ap, ◌∙◌, subst, arith}
 use Rattle.std.specs.Option.{option_and_then}
 use Rattle.std.proofs.lemmas.Bool.{cases_eq}
 use Rattle.service_tree.specs.declared.member.State.{State}
@@ -7,9 +7,9 @@ use Rattle.service_tree.specs.declared.member.State.TheVariants.{Idle, Active, S
 use Rattle.group_tree.specs.Groups.{climb, most_levels, path}
 use Rattle.change_record.specs.declared.change.InService.{InService}
 use Rattle.change_record.specs.Machine.{Bfq, put}
-use Rattle.change_record.specs.Rules.{top, group_of, member_of, put_vtime, is_idle, along, stamp, start_from, activate_path, activate, risen, charge_one, served_more, charge}
+use Rattle.change_record.specs.Rules.{member_of, is_idle, stamp, start_from, activate_path, activate, served_more, charge}
 use Rattle.plain_machine.proofs.Puts.{put_here, put_other, some_is, and_then_is}
-use Rattle.bfq_laws.proofs.Quiet.{unrefused}
+use Rattle.plain_machine.proofs.Rules.{charge-is, charges-keep}
 use Rattle.bfq_laws.proofs.Shape.{In, Levels, Stands, parent-stands, stands-low, climbing, At, state, parent-at, stamp-at, vtime-at}
 
 -- some member of a group is active
@@ -165,15 +165,8 @@ activate-alive k b c lt g parent slots e h =
     }
 
 -- Charge: times alone
-charges-at : (above : ℕ → Option ℕ) (st : ℕ → State) (sectors : ℕ) (entities : List ℕ) (b c : Bfq) → At above st b → along (charge_one sectors) entities b ≡ Some c → At above st c
-charges-at above st sectors [] b c at e = subst (At above st) (some_is b c e) at
-charges-at above st sectors (k ∷ entities) b c at e =
-    let first = and_then_is (along (charge_one sectors) entities) (charge_one sectors k b) c e in
-    let g : ℕ = group_of b k in
-    let made = unrefused (nat_le (risen sectors g b) top) (put_vtime g (risen sectors g b) b) first.0 first.1 in
-    charges-at above st sectors entities first.0 c (subst (At above st) made.1 (vtime-at above st b g (risen sectors g b) at)) first.2
-
 pub charge-at : (above : ℕ → Option ℕ) (st : ℕ → State) (sectors : ℕ) (b c : Bfq) → At above st b → charge sectors b ≡ Some c → At above st c
 charge-at above st sectors b c at e =
-    let slot = and_then_is (λ slot. along (charge_one sectors) (path b.parent slot.seat) (served_more sectors slot b)) b.slot c e in
-    charges-at above st sectors (path b.parent slot.0.seat) (served_more sectors slot.0 b) c (record { parents = at.parents; places = at.places; are = at.are }) slot.2
+    let slot = charge-is sectors b c e in
+    charges-keep (At above st) (λ d g vtime _ _ h. vtime-at above st d g vtime h) sectors (path b.parent slot.0.seat) (served_more sectors slot.0 b) c slot.2
+    (record { parents = at.parents; places = at.places; are = at.are })

@@ -1,6 +1,6 @@
 -- Under BFQ a session's entity is idle exactly where its queue is empty.
 use Rattle.std.proofs.Common.{true, false, Bool, ◌≡◌, ◌≢◌, inl, inr, ℕ, zero, suc, ◌+◌, ◌<◌, ◌≤◌, nat_lt, not, ◌&&◌, List, [], ◌∷◌, length, Option, Some, None, is_some, unwrap_or, ◌==◌, eqb-true, cond, slice_index_or, replicate, refl, sym, ap, ◌∙◌, subst, arith}
-use Rattle.std.specs.Option.{is_none, option_map, option_and_then}
+use Rattle.std.specs.Option.{is_none, option_map}
 use Rattle.std.proofs.lemmas.Bool.{cases_eq, ltb-true, ltb-false}
 use Rattle.service_tree.specs.declared.member.Member.{Member}
 use Rattle.sector_core.specs.declared.bio.Bio.{Bio}
@@ -8,7 +8,6 @@ use Rattle.sector_core.specs.declared.bio.Op.{Op}
 use Rattle.sector_core.specs.declared.range.Range.{Range}
 use Rattle.process_queue.specs.Queue.{is_empty}
 use Rattle.process_queue.specs.Merge.{joins_at, merge_of}
-use Rattle.process_queue.specs.Next.{has_start}
 use Rattle.group_tree.specs.Groups.{has_entity, entity_of}
 use Rattle.change_record.specs.declared.change.Seat.{Seat}
 use Rattle.change_record.specs.declared.change.InService.{InService}
@@ -16,15 +15,17 @@ use Rattle.change_record.specs.Tables.{empty_service}
 use Rattle.change_record.specs.Machine.{WholeRequest, Bfq, Plain, put}
 use Rattle.change_record.specs.declared.change.Expiry.{Expiry}
 use Rattle.change_record.specs.declared.change.Expiry.TheVariants.{Emptying}
-use Rattle.change_record.specs.Rules.{absent, is_idle, group_of, activate, select, charge, expire, stands}
+use Rattle.change_record.specs.Rules.{absent, is_idle, group_of, activate, select, expire, stands}
 use Rattle.plain_machine.specs.declared.answer.Reply.{Reply}
-use Rattle.plain_machine.specs.Step.{Limits, opening, is_bfq, with_entity, attached, new_bio, with_bio, change_first, queue_with, submitted, woken, range_of, next_request, with_budget_in, with_slot, older, without_first, without_empty, without_entity, sent_next, sent_in, sent_by_bfq, shape}
-use Rattle.plain_machine.proofs.Puts.{put_here, put_other, some_is, and_then_is, map_is}
+use Rattle.plain_machine.specs.Step.{Limits, opening, is_bfq, with_entity, attached, new_bio, with_bio, change_first, queue_with, submitted, woken, range_of, with_budget_in, with_slot, older, without_empty, without_entity, sent_by_bfq, shape}
+use Rattle.plain_machine.proofs.Puts.{put_here, put_other, some_is, map_is}
+use Rattle.plain_machine.proofs.Leads.{made}
+use Rattle.plain_machine.proofs.Sent.{rest_of, sent-is}
+use Rattle.plain_machine.proofs.Placed.{placed, placed-here, placed-elsewhere, placed-other, length-member, places_of}
 use Rattle.bfq_laws.proofs.Quiet.{activate-quiet, charge-slot, expire-slot}
 use Rattle.bfq_laws.proofs.Overdue.{overdue}
-use Rattle.plain_machine.proofs.Leads.{made}
 use Rattle.bfq_laws.proofs.Walk.{entered, gone}
-use Rattle.bfq_laws.proofs.Tree.{placed, placed-here, placed-elsewhere, placed-other, length-member, Over, Over-same, Over-trans, Over-vtime, idle, idle-over, Tree, Tree-over, sits-above, Sets, activate-sets, charge-over, expire-sets, Choice, select-choice}
+use Rattle.bfq_laws.proofs.Tree.{Over, Over-same, Over-trans, Over-vtime, idle, idle-over, Tree, Tree-over, sits-above, Sets, activate-sets, charge-over, expire-sets, Choice, select-choice}
 
 -- each taken seat's entity is idle exactly where its queue is empty; and the queue in service, if one is, is not empty
 pub record Busy (seats : ℕ → Option Seat) (queue : ℕ → List WholeRequest) (b : Bfq) : Type 0 where
@@ -107,14 +108,14 @@ attached-tidy l m n seat group prio small free is h =
     let c : Bfq = next.bfq in
     let low : group < 32 = stood b group is in
     let empty : is_empty (m.queue seat) ≡ true = h.free seat (ap is_some free) in
-    let len : length (b.service group).members ≡ 48 = h.busy.tree.lengths group low in
-    let room : seat < length (b.service group).members = omega (arith, small, len) in
+    let len : length (places_of b group) ≡ 48 = h.busy.tree.lengths group low in
+    let room : seat < length (places_of b group) = omega (arith, small, len) in
     let apart : (e : ℕ) → is_some (m.seat e) ≡ true → e ≢ seat = λ e sits same. let no : is_some (m.seat e) ≡ false = ap (λ k. is_some (m.seat k)) same ∙ ap is_some free in cc in
     let before : (e : ℕ) → e ≢ seat → is_some (next.seat e) ≡ is_some (m.seat e) = λ e other. ap is_some (put_other m.seat seat _ e other) in
     let sits_now : (e : ℕ) → e ≡ seat → is_some (next.seat e) ≡ true = λ e same. ap is_some (put_here m.seat seat _ e same) in
     let rests_now : idle c seat ≡ true =
-    ap (λ o. is_idle (unwrap_or (placed c.service (unwrap_or o 0) seat) absent).state) (put_here b.parent seat (Some group) seat refl)
-    ∙ ap (λ o. is_idle (unwrap_or o absent).state) (placed-here b.service group seat _ room) in
+    ap (λ o. is_idle (unwrap_or (placed c (unwrap_or o 0) seat) absent).state) (put_here b.parent seat (Some group) seat refl)
+    ∙ ap (λ o. is_idle (unwrap_or o absent).state) (placed-here b group seat _ room) in
     record {
       busy = record {
         tree = record {
@@ -125,19 +126,19 @@ attached-tidy l m n seat group prio small free is h =
           known = λ g e lt there. elim (cases_eq e seat) [
             | inl same ↦ elim (cases_eq g group) [
               | inl its ↦ (sits_now e same, put_here b.parent seat (Some group) e same ∙ ap (λ j. Some j) (sym its))
-              | inr away ↦ absurd (apart e (h.busy.tree.known g e lt (ap is_some (sym (placed-elsewhere b.service group _ g e away)) ∙ there)).0 same)
+              | inr away ↦ absurd (apart e (h.busy.tree.known g e lt (ap is_some (sym (placed-elsewhere b group _ _ g e away)) ∙ there)).0 same)
             ]
             | inr other ↦
-                let k = h.busy.tree.known g e lt (ap is_some (sym (placed-other b.service group seat _ g e other)) ∙ there) in
+                let k = h.busy.tree.known g e lt (ap is_some (sym (placed-other b group seat _ g e other)) ∙ there) in
                 (before e other ∙ k.0, put_other b.parent seat (Some group) e other ∙ k.1)
           ];
-          lengths = λ g lt. length-member b.service group seat _ g ∙ h.busy.tree.lengths g lt;
+          lengths = λ g lt. length-member b group seat _ g ∙ h.busy.tree.lengths g lt;
         };
         rests = λ e lt sits. elim (cases_eq e seat) [
           | inl same ↦ ap (idle c) same ∙ rests_now ∙ sym empty ∙ ap (λ k. is_empty (m.queue k)) (sym same)
           | inr other ↦
-              ap (λ o. is_idle (unwrap_or (placed c.service (unwrap_or o 0) e) absent).state) (put_other b.parent seat (Some group) e other)
-              ∙ ap (λ o. is_idle (unwrap_or o absent).state) (placed-other b.service group seat _ (group_of b e) e other)
+              ap (λ o. is_idle (unwrap_or (placed c (unwrap_or o 0) e) absent).state) (put_other b.parent seat (Some group) e other)
+              ∙ ap (λ o. is_idle (unwrap_or o absent).state) (placed-other b group seat _ (group_of b e) e other)
               ∙ h.busy.rests e lt (sym (before e other) ∙ sits)
         ];
         serves = λ slot at. let s = h.busy.serves slot at in (s.0, before slot.seat (apart slot.seat s.1) ∙ s.1, s.2);
@@ -270,23 +271,19 @@ without_empty-busy l seats queue k rest b c its slot at h e =
 
 pub sent_by_bfq-tidy : (l : Limits) (m : Plain) (n tag : ℕ) (o : Plain × Reply) → sent_by_bfq l m n tag ≡ Some o → Tidy m → Tidy o.0
 sent_by_bfq-tidy l m n tag o e h =
-    let within = and_then_is (λ b. sent_in l m n tag (with_slot b)) (with_budget_in l m m.bfq.slot) o e in
-    let b : Bfq = with_slot within.0 in
-    let ready : Busy m.seat m.queue b = with_slot-busy m.seat m.queue within.0 (with_budget_in-busy l m m.bfq.slot within.0 within.1 h.busy) in
-    let slot = and_then_is (λ slot. option_and_then (sent_next l m n tag b slot.seat) (next_request m slot.seat)) b.slot o within.2 in
-    let k : ℕ = slot.0.seat in
-    let next = and_then_is (sent_next l m n tag b k) (next_request m k) o slot.2 in
-    let r : WholeRequest = next.0 in
+    let s = sent-is l m n tag o e in
+    let b : Bfq = with_slot s.ready in
+    let ready : Busy m.seat m.queue b = with_slot-busy m.seat m.queue s.ready (with_budget_in-busy l m m.bfq.slot s.ready s.readies h.busy) in
+    let k : ℕ = s.slot.seat in
+    let r : WholeRequest = s.request in
     let size : ℕ = (range_of r.bios).count in
-    let rest : List WholeRequest = without_first (has_start shape (range_of r.bios).start) (m.queue k) in
-    let done = map_is _ (option_and_then (without_empty l rest) (charge size b)) o next.2 in
-    let charged = and_then_is (without_empty l rest) (charge size b) done.0 done.1 in
-    let c : Bfq = charged.0 in
-    let x = charge-slot size b c charged.1 in
-    let over : Over b c = charge-over size b c charged.1 in
+    let rest : List WholeRequest = rest_of m k r in
+    let c : Bfq = s.charged in
+    let x = charge-slot size b c s.charges in
+    let over : Over b c = charge-over size b c s.charges in
     let now : InService = record x.0 { service = x.0.service + size } in
-    let one : x.0.seat ≡ k = ap (λ (s : InService). s.seat) (some_is x.0 slot.0 (sym x.1 ∙ slot.1)) in
-    let its : (other : InService) → c.slot ≡ Some other → other.seat ≡ k = λ other at. ap (λ (s : InService). s.seat) (some_is other now (sym at ∙ x.3)) ∙ one in
+    let one : x.0.seat ≡ k = ap (λ (z : InService). z.seat) (some_is x.0 s.slot (sym x.1 ∙ s.serves)) in
+    let its : (other : InService) → c.slot ≡ Some other → other.seat ≡ k = λ other at. ap (λ (z : InService). z.seat) (some_is other now (sym at ∙ x.3)) ∙ one in
     let before = ready.serves x.0 x.1 in
     let P : ℕ → Type 0 = λ j. (j < 16) × (is_some (m.seat j) ≡ true) × (is_empty (m.queue j) ≡ false) in
     let at_k : P k = subst P one before in
@@ -295,9 +292,9 @@ sent_by_bfq-tidy l m n tag o e h =
       rests = λ e lt sits. idle-over b c e lt over ∙ ready.rests e lt sits;
       serves = λ other at. subst P (sym (its other at)) at_k;
     } in
-    let ended : Busy m.seat (put m.queue k rest) done.0 = without_empty-busy l m.seat m.queue k rest c done.0 its now x.3 after charged.2 in
+    let ended : Busy m.seat (put m.queue k rest) s.last = without_empty-busy l m.seat m.queue k rest c s.last its now x.3 after s.ends in
     let Q : Plain × Reply → Type 0 = λ y. Tidy y.0 in
-    subst Q done.2 (record {
+    subst Q s.made (record {
       busy = record { tree = ended.tree; rests = ended.rests; serves = ended.serves };
       free = λ e no. elim (cases_eq e k) [
         | inl same ↦ let sits : is_some (m.seat e) ≡ true = ap (λ j. is_some (m.seat j)) same ∙ at_k.1 in cc
@@ -332,8 +329,8 @@ gone-tidy m k small taken empty h =
     let c : Bfq = next.bfq in
     let g : ℕ = group_of b k in
     let up = sits-above m.seat k b small taken h.busy.tree in
-    let len : length (b.service g).members ≡ 48 = h.busy.tree.lengths g up.1 in
-    let room : k < length (b.service g).members = omega (arith, small, len) in
+    let len : length (places_of b g) ≡ 48 = h.busy.tree.lengths g up.1 in
+    let room : k < length (places_of b g) = omega (arith, small, len) in
     let before : (e : ℕ) → e ≢ k → is_some (next.seat e) ≡ is_some (m.seat e) = λ e other. ap is_some (put_other m.seat k None e other) in
     let apart : (e : ℕ) → is_some (next.seat e) ≡ true → e ≢ k = λ e sits same. let no : is_some (next.seat e) ≡ false = ap is_some (put_here m.seat k None e same) in cc in
     record {
@@ -346,22 +343,22 @@ gone-tidy m k small taken empty h =
           known = λ j e lt there. elim (cases_eq e k) [
             | inl same ↦ elim (cases_eq j g) [
               | inl its ↦
-                  let no : is_some (placed c.service j e) ≡ false =
-                  ap (λ x. is_some (placed c.service j x)) same ∙ ap (λ i. is_some (placed c.service i k)) its ∙ ap is_some (placed-here b.service g k None room) in cc
+                  let no : is_some (placed c j e) ≡ false =
+                  ap (λ x. is_some (placed c j x)) same ∙ ap (λ i. is_some (placed c i k)) its ∙ ap is_some (placed-here b g k None room) in cc
               | inr other ↦
-                  let w = h.busy.tree.known j e lt (ap is_some (sym (placed-elsewhere b.service g _ j e other)) ∙ there) in
+                  let w = h.busy.tree.known j e lt (ap is_some (sym (placed-elsewhere b g _ _ j e other)) ∙ there) in
                   absurd (other (some_is j g (sym w.1 ∙ ap b.parent same ∙ up.0)))
             ]
             | inr other ↦
-                let w = h.busy.tree.known j e lt (ap is_some (sym (placed-other b.service g k None j e other)) ∙ there) in
+                let w = h.busy.tree.known j e lt (ap is_some (sym (placed-other b g k None j e other)) ∙ there) in
                 (before e other ∙ w.0, put_other b.parent k None e other ∙ w.1)
           ];
-          lengths = λ j lt. length-member b.service g k None j ∙ h.busy.tree.lengths j lt;
+          lengths = λ j lt. length-member b g k None j ∙ h.busy.tree.lengths j lt;
         };
         rests = λ e lt sits.
             let other = apart e sits in
-            ap (λ o. is_idle (unwrap_or (placed c.service (unwrap_or o 0) e) absent).state) (put_other b.parent k None e other)
-            ∙ ap (λ o. is_idle (unwrap_or o absent).state) (placed-other b.service g k None (group_of b e) e other)
+            ap (λ o. is_idle (unwrap_or (placed c (unwrap_or o 0) e) absent).state) (put_other b.parent k None e other)
+            ∙ ap (λ o. is_idle (unwrap_or o absent).state) (placed-other b g k None (group_of b e) e other)
             ∙ h.busy.rests e lt (sym (before e other) ∙ sits);
         serves = λ slot at. let s = h.busy.serves slot at in (s.0, before slot.seat (away-from m k empty h slot at) ∙ s.1, s.2);
       };
@@ -400,8 +397,8 @@ made-over l b group parent weight =
     let with_it : Bfq = with_entity l k parent weight b in
     let over : Over b with_it = record {
       parents = λ e lt. put_other b.parent k (Some parent) e (λ same. absurd (omega (arith, same, lt, high)));
-      places = λ g e lt. placed-other b.service parent k _ g e (λ same. absurd (omega (arith, same, lt, high)));
-      lengths = λ g. length-member b.service parent k _ g;
+      places = λ g e lt. placed-other b parent k _ g e (λ same. absurd (omega (arith, same, lt, high)));
+      lengths = λ g. length-member b parent k _ g;
     } in
     Over-trans b with_it (made l group parent weight b) over (Over-vtime with_it group l.first_vtime)
 
@@ -411,15 +408,21 @@ dropped-over b group =
     let high : 16 ≤ k = omega arith in
     record {
       parents = λ e lt. put_other b.parent k None e (λ same. absurd (omega (arith, same, lt, high)));
-      places = λ g e lt. placed-other b.service (group_of b k) k None g e (λ same. absurd (omega (arith, same, lt, high)));
-      lengths = λ g. length-member b.service (group_of b k) k None g;
+      places = λ g e lt. placed-other b (group_of b k) k None g e (λ same. absurd (omega (arith, same, lt, high)));
+      lengths = λ g. length-member b (group_of b k) k None g;
     }
 
 -- before the first step
-pub free_place : (place : Option Member) (n k : ℕ) → slice_index_or (replicate n place) k place ≡ place
+free_place : (place : Option Member) (n k : ℕ) → slice_index_or (replicate n place) k place ≡ place
 free_place place zero k = refl
 free_place place (suc n) zero = refl
 free_place place (suc n) (suc k) = free_place place n k
+
+pub opening-none : (l : Limits) (g e : ℕ) → placed (opening l).bfq g e ≡ None
+opening-none l g e = elim (nat_lt g 32) as (λ t. slice_index_or (cond t (empty_service l.first_vtime) (record { vtime = 0; members = [] })).members e None ≡ None) [
+  | true ↦ free_place None 48 e
+  | false ↦ refl
+]
 
 pub opening-tidy : (l : Limits) → Tidy (opening l)
 opening-tidy l = record {
@@ -427,7 +430,7 @@ opening-tidy l = record {
     tree = record {
       above = λ e lt sits. cc;
       known = λ g e lt there.
-          let none : is_some (placed (opening l).bfq.service g e) ≡ false = elim (nat_lt g 32) as (λ t. is_some (slice_index_or (cond t (empty_service l.first_vtime) (record { vtime = 0; members = [] })).members e None) ≡ false) [
+          let none : is_some (placed (opening l).bfq g e) ≡ false = elim (nat_lt g 32) as (λ t. is_some (slice_index_or (cond t (empty_service l.first_vtime) (record { vtime = 0; members = [] })).members e None) ≡ false) [
             | true ↦ ap is_some (free_place None 48 e)
             | false ↦ refl
           ] in cc;

@@ -1,20 +1,20 @@
 -- The queues as BFQ knows them: under another scheduler it knows of none, and so every session's entity is idle.
 use Rattle.std.proofs.Common.{true, false, Bool, ◌≡◌, inl, inr, ℕ, ◌+◌, ◌<◌, nat_lt, ◌&&◌, List, [], Option, Some, is_some, cond, refl, sym, ap, ◌∙◌, subst}
-use Rattle.std.specs.Option.{option_map, option_and_then}
+use Rattle.std.specs.Option.{option_map}
 use Rattle.std.proofs.lemmas.Bool.{cases_eq, ltb-true, ltb-false}
 use Rattle.sector_core.specs.declared.bio.Op.{Op}
 use Rattle.sector_core.specs.declared.range.Range.{Range}
 use Rattle.sector_core.specs.declared.config.Scheduler.{Scheduler}
 use Rattle.process_queue.specs.Queue.{is_empty}
-use Rattle.process_queue.specs.Next.{has_start}
 use Rattle.change_record.specs.declared.change.Seat.{Seat}
 use Rattle.change_record.specs.declared.change.InService.{InService}
 use Rattle.change_record.specs.Machine.{WholeRequest, Bfq, Plain}
-use Rattle.change_record.specs.Rules.{group_of, put_vtime, activate, charge}
+use Rattle.change_record.specs.Rules.{group_of, put_vtime, activate}
 use Rattle.plain_machine.specs.declared.answer.Reply.{Reply}
-use Rattle.plain_machine.specs.Step.{Limits, is_bfq, unreaped, with_unreaped, submitted, woken, range_of, next_request, with_budget_in, with_slot, without_first, without_empty, sent_next, sent_in, sent_by_bfq, with_first_budgets, begun_again, switched, shape}
-use Rattle.plain_machine.proofs.Puts.{some_is, and_then_is, map_is}
-use Rattle.bfq_laws.proofs.Begun.{timed, begun-keeps}
+use Rattle.plain_machine.specs.Step.{Limits, is_bfq, unreaped, with_unreaped, submitted, woken, sent_by_bfq, with_first_budgets, begun_again, switched}
+use Rattle.plain_machine.proofs.Puts.{some_is, map_is}
+use Rattle.plain_machine.proofs.Sent.{sent-is}
+use Rattle.plain_machine.proofs.Begun.{timed, begun-keeps}
 use Rattle.bfq_laws.proofs.Walk.{sent_in_turn}
 use Rattle.bfq_laws.proofs.Tree.{Over, Over-same, Over-member, Over-vtime, idle, idle-over, Tree, Tree-over, Sets, sets-own}
 use Rattle.bfq_laws.proofs.Busy.{Tidy, woken-tidy, entered-tidy, sent_by_bfq-tidy}
@@ -83,13 +83,7 @@ turned-calm m n seat tag request requests off h =
 
 -- the scheduler is as it was
 pub sent_by_bfq-scheduler : (l : Limits) (m : Plain) (n tag : ℕ) (o : Plain × Reply) → sent_by_bfq l m n tag ≡ Some o → m.scheduler ≡ o.0.scheduler
-sent_by_bfq-scheduler l m n tag o e =
-    let within = and_then_is (λ b. sent_in l m n tag (with_slot b)) (with_budget_in l m m.bfq.slot) o e in
-    let b : Bfq = with_slot within.0 in
-    let slot = and_then_is (λ slot. option_and_then (sent_next l m n tag b slot.seat) (next_request m slot.seat)) b.slot o within.2 in
-    let next = and_then_is (sent_next l m n tag b slot.0.seat) (next_request m slot.0.seat) o slot.2 in
-    let done = map_is _ (option_and_then (without_empty l (without_first (has_start shape (range_of next.0.bios).start) (m.queue slot.0.seat))) (charge (range_of next.0.bios).count b)) o next.2 in
-    ap (λ (y : Plain × Reply). y.0.scheduler) done.2
+sent_by_bfq-scheduler l m n tag o e = ap (λ (y : Plain × Reply). y.0.scheduler) (sent-is l m n tag o e).made
 
 pub sent-calm : (l : Limits) (m : Plain) (n tag : ℕ) (o : Plain × Reply) → is_bfq m.scheduler ≡ true → sent_by_bfq l m n tag ≡ Some o → Calm m → Calm o.0
 sent-calm l m n tag o is e h = tidy-calm o.0 (ap is_bfq (sym (sent_by_bfq-scheduler l m n tag o e)) ∙ is) (sent_by_bfq-tidy l m n tag o e (calm-tidy m is h))

@@ -1,18 +1,19 @@
 -- Where a queue is not empty and none is in service, select goes down from the root to one.
 use Rattle.std.proofs.Common.{true, false, ◌≡◌, ◌≢◌, inl, inr, ℕ, zero, suc, ◌+◌, ◌-◌, ◌<◌, ◌≤◌, nat_lt, Option, Some, None, is_some, cond, refl, sym, ap, ◌∙◌, subst, arith}
-use Rattle.std.specs.Option.{is_none, option_map_or}
+use Rattle.std.specs.Option.{is_none}
 use Rattle.std.proofs.lemmas.Bool.{cases_eq, ltb-false}
 use Rattle.service_tree.specs.declared.member.State.{State}
 use Rattle.service_tree.specs.declared.member.State.TheVariants.{Idle, Active, Serving}
-use Rattle.service_tree.specs.Members.{least_start}
 use Rattle.group_tree.specs.Groups.{climb, path}
 use Rattle.change_record.specs.declared.change.InService.{InService}
 use Rattle.change_record.specs.Machine.{Bfq, put}
-use Rattle.change_record.specs.Rules.{group_of, put_vtime, is_idle, picked, jumped, in_service, on_pick, taken, select_from, select}
+use Rattle.change_record.specs.Rules.{group_of, is_idle, picked, jumped, in_service, on_pick, taken, select_from, select}
 use Rattle.plain_machine.specs.Step.{with_slot}
 use Rattle.plain_machine.proofs.Puts.{put_here, put_other, some_is}
+use Rattle.plain_machine.proofs.Placed.{placed}
+use Rattle.plain_machine.proofs.Rules.{jumped-keeps}
 use Rattle.bfq_laws.proofs.Quiet.{jumped-quiet}
-use Rattle.bfq_laws.proofs.Tree.{placed, idle}
+use Rattle.bfq_laws.proofs.Tree.{idle}
 use Rattle.bfq_laws.proofs.Busy.{no_slot}
 use Rattle.bfq_laws.proofs.Picks.{picked-is, jumped-picks}
 use Rattle.bfq_laws.proofs.Shape.{In, Levels, Stands, parent-stands, stands-low, climbing, climb-more, climb-under, climb-back, climb-none, climb-whole, At, group-at, state-at, member-at, move-at, vtime-at}
@@ -33,20 +34,14 @@ pub record Chosen (above : ℕ → Option ℕ) (H : Type 0) (c : Bfq) : Type 0 w
   pub found : H → is_some c.slot ≡ true
 
 jumped-at : (above : ℕ → Option ℕ) (st : ℕ → State) (group : ℕ) (b : Bfq) → At above st b → At above st (jumped group b)
-jumped-at above st group b at = elim (is_some (picked b group)) as (λ t. At above st (cond t b (option_map_or (λ start. put_vtime group start b) (least_start (b.service group).members) b))) [
-  | true ↦ at
-  | false ↦ elim (least_start (b.service group).members) as (λ o. At above st (option_map_or (λ start. put_vtime group start b) o b)) [
-    | None ↦ at
-    | Some start ↦ vtime-at above st b group start at
-  ]
-]
+jumped-at above st = jumped-keeps (At above st) (λ b group start _ _ at. vtime-at above st b group start at)
 
 -- after the jump one is picked in a group that has an active member
 has-picks : (above : ℕ → Option ℕ) (st : ℕ → State) (b : Bfq) (g : ℕ) → At above st b → Has above st g → is_some (picked (jumped g b) g) ≡ true
 has-picks above st b g at h =
     let m = member-at above st b h.0 at (λ rests. let bad : Idle ≡ Active = sym rests ∙ h.2 in cc) in
     let same : group_of b h.0 ≡ g = group-at above st b h.0 g at h.1 in
-    jumped-picks b g h.0 m.0 (ap (λ j. placed b.service j h.0) (sym same) ∙ m.1) (m.2 ∙ h.2)
+    jumped-picks b g h.0 m.0 (ap (λ j. placed b j h.0) (sym same) ∙ m.1) (m.2 ∙ h.2)
 
 serves-up : (above : ℕ → Option ℕ) (st : ℕ → State) (k : ℕ) → st k ≡ Active → Up above st → Up above (put st k Serving)
 serves-up above st k act up =

@@ -2,14 +2,13 @@ pub mod Puts
 pub mod Quiet
 pub mod Walk
 pub mod Overdue
-pub mod Begun
 pub mod Owned
 pub mod Enough
+pub mod Picks
 pub mod Known
 pub mod Tree
 pub mod Busy
 pub mod Shape
-pub mod Picks
 pub mod Alive
 pub mod Expiring
 pub mod Choosing

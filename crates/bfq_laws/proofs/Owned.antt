@@ -1,6 +1,6 @@
 -- Each request of a seat's queue is of the session that sits there, and so a free seat has nothing queued.
 use Rattle.std.proofs.Common.{true, false, Bool, ◌≡◌, inl, inr, ℕ, ◌+◌, ◌==◌, ◌&&◌, List, [], ◌∷◌, ◌++◌, All, Option, Some, None, is_some, cond, filter, eqb-true, eq-eqb, refl, sym, ap, ◌∙◌, subst}
-use Rattle.std.specs.Option.{option_map, option_map_or, option_and_then}
+use Rattle.std.specs.Option.{option_map, option_map_or}
 use Rattle.std.proofs.lemmas.Bool.{cases_eq}
 use Rattle.std.proofs.lemmas.List.Elements.{All-nil, All-cons, All-head, All-tail, All-push}
 use Rattle.sector_core.specs.declared.bio.Bio.{Bio}
@@ -10,12 +10,13 @@ use Rattle.process_queue.specs.Queue.{is_empty}
 use Rattle.process_queue.specs.Merge.{joins_at}
 use Rattle.process_queue.specs.Next.{has_start}
 use Rattle.change_record.specs.declared.change.Seat.{Seat}
-use Rattle.change_record.specs.Machine.{WholeRequest, Bfq, Plain, put}
-use Rattle.change_record.specs.Rules.{activate, charge}
+use Rattle.change_record.specs.Machine.{WholeRequest, Plain, put}
+use Rattle.change_record.specs.Rules.{activate}
 use Rattle.plain_machine.specs.declared.answer.Reply.{Reply}
-use Rattle.plain_machine.specs.Step.{Limits, is_bfq, is_session, unreaped, with_unreaped, new_bio, with_bio, change_first, queue_with, merge_in, submitted, woken, is_of, flying, left_of, is_gone, range_of, next_request, with_budget_in, with_slot, without_first, without_empty, sent_next, sent_in, sent_by_bfq, shape}
-use Rattle.plain_machine.proofs.Puts.{put_here, put_other, some_is, and_then_is, map_is}
+use Rattle.plain_machine.specs.Step.{Limits, is_bfq, is_session, unreaped, with_unreaped, new_bio, with_bio, change_first, queue_with, merge_in, submitted, woken, is_of, flying, left_of, is_gone, range_of, without_first, sent_by_bfq, shape}
+use Rattle.plain_machine.proofs.Puts.{put_here, put_other, some_is, map_is}
 use Rattle.plain_machine.proofs.Moves.{Stays}
+use Rattle.plain_machine.proofs.Sent.{sent-is}
 use Rattle.bfq_laws.proofs.Walk.{Keeps}
 
 abbrev pub Owns : Option Seat → WholeRequest → Type 0
@@ -125,17 +126,13 @@ all-without P passes (x ∷ xs) all =
 
 sent-owned : (l : Limits) (m : Plain) (n tag : ℕ) (o : Plain × Reply) → sent_by_bfq l m n tag ≡ Some o → Owned m → Owned o.0
 sent-owned l m n tag o e h =
-    let within = and_then_is (λ b. sent_in l m n tag (with_slot b)) (with_budget_in l m m.bfq.slot) o e in
-    let b : Bfq = with_slot within.0 in
-    let slot = and_then_is (λ slot. option_and_then (sent_next l m n tag b slot.seat) (next_request m slot.seat)) b.slot o within.2 in
-    let k : ℕ = slot.0.seat in
-    let next = and_then_is (sent_next l m n tag b k) (next_request m k) o slot.2 in
-    let first : WholeRequest → Bool = has_start shape (range_of next.0.bios).start in
-    let done = map_is _ (option_and_then (without_empty l (without_first first (m.queue k))) (charge (range_of next.0.bios).count b)) o next.2 in
+    let s = sent-is l m n tag o e in
+    let k : ℕ = s.slot.seat in
+    let first : WholeRequest → Bool = has_start shape (range_of s.request.bios).start in
     let now : (e : ℕ) → All (Owns (m.seat e)) (put m.queue k (without_first first (m.queue k)) e) =
     put-queue m.seat m.queue k (without_first first (m.queue k)) (all-without (Owns (m.seat k)) first (m.queue k) (h k)) h in
     let Q : Plain × Reply → Type 0 = λ y. Owned y.0 in
-    subst Q done.2 now
+    subst Q s.made now
 
 -- who leaves, and has no request left, has none queued
 gone-seat : (l : Limits) (m : Plain) (k : ℕ) (o : Option Seat) → option_map_or (λ (s : Seat). s.leaving && is_empty (left_of l m k s.session)) o false ≡ true

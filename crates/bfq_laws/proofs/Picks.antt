@@ -1,18 +1,47 @@
 -- Where a member of a group's tree is active, there is a least start, and after the jump one is picked.
-use Rattle.std.proofs.Common.{true, false, Bool, ◌≡◌, ℕ, zero, suc, ◌+◌, ◌≤◌, nat_le, nat_lt, ◌&&◌, List, [], ◌∷◌, map, Option, Some, None, All, is_some, cond, slice_index_or, refl, sym, ap, ◌∙◌, arith, rules}
+use Rattle.std.proofs.Common.{true, false, Bool, ◌≡◌, ℕ, zero, suc, ◌+◌, ◌≤◌, nat_le, nat_lt, ◌&&◌, List, [], ◌∷◌, map, Option, Some, None, All, is_some, cond, slice_index_or, refl, sym, ap, ◌∙◌, subst, arith, rules}
 use Rattle.std.specs.List.{filter}
 use Rattle.std.specs.Option.{option_map, option_map_or}
-use Rattle.std.proofs.lemmas.List.Elements.{All-head, All-tail, All-filter, filter_passes}
+use Rattle.std.proofs.lemmas.List.Elements.{All-nil, All-cons, All-head, All-tail, All-filter, filter_passes}
 use Rattle.process_queue.specs.Queue.{is_empty}
 use Rattle.service_tree.specs.declared.member.Member.{Member}
 use Rattle.service_tree.specs.declared.member.State.{State}
 use Rattle.service_tree.specs.declared.member.State.TheVariants.{Idle, Active, Serving}
-use Rattle.service_tree.specs.Members.{Service, is_active, is_eligible, numbered, soonest, lesser, least, least_start, pick}
+use Rattle.service_tree.specs.Members.{Service, is_active, is_eligible, numbered, is_sooner, sooner, soonest, lesser, least, least_start, pick}
 use Rattle.change_record.specs.Exchange.{with_vtime}
 use Rattle.change_record.specs.Machine.{Bfq}
 use Rattle.change_record.specs.Rules.{vtime_of, put_vtime, picked, jumped}
 use Rattle.plain_machine.proofs.Puts.{put_here, some_is}
-use Rattle.bfq_laws.proofs.Tree.{placed, IsPlaced, numbered-placed, soonest-is, first_of_some}
+use Rattle.plain_machine.proofs.Placed.{placed, places_of, least_of}
+
+-- who is among the members of a tree stands there
+abbrev IsPlaced : List (Option Member) → ℕ × Member → Type 0
+IsPlaced full e = slice_index_or full e.0 None ≡ Some e.1
+
+numbered-placed : (full : List (Option Member)) (base : ℕ) (members : List (Option Member)) → ((k : ℕ) → slice_index_or full (base + k) None ≡ slice_index_or members k None)
+    → All (IsPlaced full) (numbered base members)
+numbered-placed full base [] same = All-nil (IsPlaced full)
+numbered-placed full base (None ∷ members) same = numbered-placed full (base + 1) members (λ k.
+    let at : base + 1 + k ≡ base + suc k = omega arith in ap (λ n. slice_index_or full n None) at ∙ same (suc k))
+numbered-placed full base (Some m ∷ members) same =
+    let at : base ≡ base + 0 = omega arith in
+    let here : slice_index_or full base None ≡ Some m = ap (λ n. slice_index_or full n None) at ∙ same 0 in
+    All-cons (IsPlaced full) (base, m) (numbered (base + 1) members) here
+    (numbered-placed full (base + 1) members (λ k.
+    let at : base + 1 + k ≡ base + suc k = omega arith in ap (λ n. slice_index_or full n None) at ∙ same (suc k)))
+
+sooner-is : (P : ℕ × Member → Type 0) (e : ℕ × Member) (o : Option (ℕ × Member)) → P e → ((x : ℕ × Member) → o ≡ Some x → P x) → P (sooner e o)
+sooner-is P e None this others = this
+sooner-is P e (Some other) this others = elim (is_sooner other e) as (λ t. P (cond t other e)) [ true ↦ others other refl | false ↦ this ]
+
+soonest-is : (P : ℕ × Member → Type 0) (es : List (ℕ × Member)) → All P es → (x : ℕ × Member) → soonest es ≡ Some x → P x
+soonest-is P [] all x e = cc
+soonest-is P (first ∷ es) all x e =
+    subst P (some_is (sooner first (soonest es)) x e) (sooner-is P first (soonest es) (All-head P first es all) (soonest-is P es (All-tail P first es all)))
+
+first_of_some : (o : Option (ℕ × Member)) (n : ℕ) → option_map (λ (e : ℕ × Member). e.0) o ≡ Some n → (x : ℕ × Member) × (o ≡ Some x) × (x.0 ≡ n)
+first_of_some None n e = cc
+first_of_some (Some x) n e = (x, refl, cc)
 
 pub active_is : (s : State) → is_active s ≡ true → s ≡ Active
 active_is Idle e = cc
@@ -79,24 +108,27 @@ first-one [] e P Q ps qs = cc
 first-one (x ∷ xs) e P Q ps qs = (x, All-head P x xs ps, All-head Q x xs qs)
 
 -- there is a least start exactly where a member is active
-pub start-of-active : (members : List (Option Member)) (e : ℕ) (m : Member) → slice_index_or members e None ≡ Some m → m.state ≡ Active → is_some (least_start members) ≡ true
-start-of-active members e m there is = least-some (actives members) (passing (λ x. is_active x.state) 0 members e m there (ap is_active is))
+pub start-of-active : (b : Bfq) (group e : ℕ) (m : Member) → placed b group e ≡ Some m → m.state ≡ Active → is_some (least_of b group) ≡ true
+start-of-active b group e m there is =
+    let members : List (Option Member) = places_of b group in
+    least-some (actives members) (passing (λ x. is_active x.state) 0 members e m there (ap is_active is))
 
-pub active-of-start : (members : List (Option Member)) → is_some (least_start members) ≡ true → (e : ℕ) × (m : Member) × (slice_index_or members e None ≡ Some m) × (m.state ≡ Active)
-active-of-start members e =
+pub active-of-start : (b : Bfq) (group : ℕ) → is_some (least_of b group) ≡ true → (e : ℕ) × (m : Member) × (placed b group e ≡ Some m) × (m.state ≡ Active)
+active-of-start b group e =
+    let members : List (Option Member) = places_of b group in
     let passes : ℕ × Member → Bool = λ x. is_active x.1.state in
     let x = first-one (actives members) e (IsPlaced members) (λ y. passes y ≡ true) (All-filter passes (IsPlaced members) (numbered 0 members) (all-placed members)) (filter_passes passes (numbered 0 members)) in
     (x.0.0, x.0.1, x.1, active_is x.0.1.state x.2)
 
 -- who is picked is active
-pub picked-is : (b : Bfq) (group entity : ℕ) → picked b group ≡ Some entity → (m : Member) × (placed b.service group entity ≡ Some m) × (m.state ≡ Active)
+pub picked-is : (b : Bfq) (group entity : ℕ) → picked b group ≡ Some entity → (m : Member) × (placed b group entity ≡ Some m) × (m.state ≡ Active)
 picked-is b group entity e =
-    let members : List (Option Member) = (b.service group).members in
+    let members : List (Option Member) = places_of b group in
     let passes : ℕ × Member → Bool = λ x. is_eligible (vtime_of b group) x.1 in
     let x = first_of_some (soonest (filter passes (numbered 0 members))) entity e in
     let there : IsPlaced members x.0 = soonest-is (IsPlaced members) (filter passes (numbered 0 members)) (All-filter passes (IsPlaced members) (numbered 0 members) (all-placed members)) x.0 x.1 in
     let passed : passes x.0 ≡ true = soonest-is (λ y. passes y ≡ true) (filter passes (numbered 0 members)) (filter_passes passes (numbered 0 members)) x.0 x.1 in
-    (x.0.1, ap (λ n. placed b.service group n) (sym x.2) ∙ there, active_and x.0.1.state (nat_le x.0.1.start (vtime_of b group)) passed)
+    (x.0.1, ap (λ n. placed b group n) (sym x.2) ∙ there, active_and x.0.1.state (nat_le x.0.1.start (vtime_of b group)) passed)
 
 -- an active member whose start is the virtual time is eligible
 eligible : (vtime : ℕ) (m : Member) → m.state ≡ Active → m.start ≡ vtime → is_eligible vtime m ≡ true
@@ -107,9 +139,9 @@ eligible vtime m is at =
     rw (act, le) refl
 
 -- at the least start as virtual time one is picked
-picked-at : (b : Bfq) (group start : ℕ) → least_start (b.service group).members ≡ Some start → is_some (picked (put_vtime group start b) group) ≡ true
+picked-at : (b : Bfq) (group start : ℕ) → least_of b group ≡ Some start → is_some (picked (put_vtime group start b) group) ≡ true
 picked-at b group start e =
-    let members : List (Option Member) = (b.service group).members in
+    let members : List (Option Member) = places_of b group in
     let passes : ℕ × Member → Bool = λ x. is_active x.1.state in
     let x = has-least (IsPlaced members) (λ y. passes y ≡ true) (actives members) start
     (All-filter passes (IsPlaced members) (numbered 0 members) (all-placed members)) (filter_passes passes (numbered 0 members)) e in
@@ -121,10 +153,10 @@ picked-at b group start e =
     ap (λ (t : Service). is_some (pick t.vtime t.members)) (put_here b.service group tree group refl) ∙ one
 
 -- so one is picked after the jump, where a member is active
-pub jumped-picks : (b : Bfq) (group e : ℕ) (m : Member) → placed b.service group e ≡ Some m → m.state ≡ Active → is_some (picked (jumped group b) group) ≡ true
+pub jumped-picks : (b : Bfq) (group e : ℕ) (m : Member) → placed b group e ≡ Some m → m.state ≡ Active → is_some (picked (jumped group b) group) ≡ true
 jumped-picks b group e m there is =
-    let members : List (Option Member) = (b.service group).members in
-    let some : is_some (least_start members) ≡ true = start-of-active members e m there is in
+    let members : List (Option Member) = places_of b group in
+    let some : is_some (least_of b group) ≡ true = start-of-active b group e m there is in
     elim (is_some (picked b group)) as (λ t. is_some (picked b group) ≡ t → is_some (picked (cond t b (option_map_or (λ start. put_vtime group start b) (least_start members) b)) group) ≡ true) [
       | true ↦ λ ok. ok
       | false ↦ λ _. elim (least_start members) as (λ o. least_start members ≡ o → is_some (picked (option_map_or (λ start. put_vtime group start b) o b) group) ≡ true) [

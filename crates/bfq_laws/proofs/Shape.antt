@@ -1,17 +1,16 @@
 -- The tree of groups above the entities, and the state of each entity.
-use Rattle.std.proofs.Common.{true, false, ◌≡◌, ◌≢◌, ◌⊎◌, inl, inr, ℕ, zero, suc, ◌+◌, ◌<◌, ◌≤◌, nat_le, nat_lt, List, [], ◌∷◌, length, Option, Some, None, is_some, unwrap_or, cond, refl, sym, ap, ◌∙◌, subst, arith, rules}
+use Rattle.std.proofs.Common.{true, false, ◌≡◌, ◌≢◌, ◌⊎◌, inl, inr, ℕ, zero, suc, ◌+◌, ◌<◌, ◌≤◌, nat_le, nat_lt, List, [], ◌∷◌, length, Option, Some, None, is_some, unwrap_or, cond, slice_index_or, refl, sym, ap, ◌∙◌, subst, arith, rules}
 use Rattle.std.proofs.lemmas.Bool.{cases_eq, cond-true}
 use Rattle.service_tree.specs.declared.member.Member.{Member}
 use Rattle.service_tree.specs.declared.member.State.{State}
 use Rattle.service_tree.specs.declared.member.State.TheVariants.{Idle, Active}
 use Rattle.service_tree.specs.Members.{Service}
 use Rattle.group_tree.specs.Groups.{has_entity, entity_of, climb}
-use Rattle.change_record.specs.Exchange.{with_member}
 use Rattle.change_record.specs.Machine.{Bfq, put}
 use Rattle.change_record.specs.Rules.{top, absent, group_of, member_of, put_member, put_vtime, finish_from, stamped, stamp}
 use Rattle.plain_machine.proofs.Puts.{put_here, put_other, some_is}
-use Rattle.bfq_laws.proofs.Quiet.{unrefused}
-use Rattle.bfq_laws.proofs.Tree.{placed, placed-here, placed-elsewhere, placed-other, placed-vtime, length-member, length-vtime}
+use Rattle.plain_machine.proofs.Placed.{placed, placed-here, placed-elsewhere, placed-other, placed-vtime, length-member, places_of, places-vtime}
+use Rattle.plain_machine.proofs.Rules.{unrefused}
 
 -- an entity is in a list
 abbrev pub In : ℕ → List ℕ → Type 0
@@ -139,8 +138,8 @@ climb-has above (suc n) k (Some g) x up i =
 
 -- the places of the entities in the trees of groups: who is in a tree is in that group, and who is in a group is in its tree
 pub record Places (above : ℕ → Option ℕ) (service : ℕ → Service) : Type 0 where
-  pub known : (g e : ℕ) → is_some (placed service g e) ≡ true → above e ≡ Some g
-  pub there : (g e : ℕ) → above e ≡ Some g → is_some (placed service g e) ≡ true
+  pub known : (g e : ℕ) → is_some (slice_index_or (service g).members e None) ≡ true → above e ≡ Some g
+  pub there : (g e : ℕ) → above e ≡ Some g → is_some (slice_index_or (service g).members e None) ≡ true
   pub lengths : (g : ℕ) → g < 32 → length (service g).members ≡ 48
 
 abbrev pub state : Bfq → ℕ → State
@@ -159,10 +158,10 @@ pub group-at : (above : ℕ → Option ℕ) (st : ℕ → State) (b : Bfq) (e g 
 group-at above st b e g at up = ap (λ o. unwrap_or o 0) (parent-at above st b e at ∙ up)
 
 -- who stands in its group's tree has that state
-pub state-at : (above : ℕ → Option ℕ) (st : ℕ → State) (b : Bfq) (g e : ℕ) (m : Member) → At above st b → placed b.service g e ≡ Some m → st e ≡ m.state
+pub state-at : (above : ℕ → Option ℕ) (st : ℕ → State) (b : Bfq) (g e : ℕ) (m : Member) → At above st b → placed b g e ≡ Some m → st e ≡ m.state
 state-at above st b g e m at there =
     let up : above e ≡ Some g = at.places.known g e (ap is_some there) in
-    let now : state b e ≡ m.state = ap (λ j. (unwrap_or (placed b.service j e) absent).state) (group-at above st b e g at up) ∙ ap (λ o. (unwrap_or o absent).state) there in
+    let now : state b e ≡ m.state = ap (λ j. (unwrap_or (placed b j e) absent).state) (group-at above st b e g at up) ∙ ap (λ o. (unwrap_or o absent).state) there in
     sym (at.are e) ∙ now
 
 -- and who is not idle stands in its group's tree
@@ -170,9 +169,9 @@ stands-there : (o : Option Member) (s : State) → s ≢ Idle → (unwrap_or o a
 stands-there None s ne e = absurd (ne (sym e))
 stands-there (Some m) s ne e = (m, refl, e)
 
-pub member-at : (above : ℕ → Option ℕ) (st : ℕ → State) (b : Bfq) (e : ℕ) → At above st b → st e ≢ Idle → (m : Member) × (placed b.service (group_of b e) e ≡ Some m) × (m.state ≡ st e) × (above e ≡ Some (group_of b e))
+pub member-at : (above : ℕ → Option ℕ) (st : ℕ → State) (b : Bfq) (e : ℕ) → At above st b → st e ≢ Idle → (m : Member) × (placed b (group_of b e) e ≡ Some m) × (m.state ≡ st e) × (above e ≡ Some (group_of b e))
 member-at above st b e at ne =
-    let m = stands-there (placed b.service (group_of b e) e) (st e) ne (at.are e) in
+    let m = stands-there (placed b (group_of b e) e) (st e) ne (at.are e) in
     (m.0, m.1, m.2, at.places.known (group_of b e) e (ap is_some m.1))
 
 -- one entity changes its state
@@ -181,33 +180,33 @@ move-at above levels st b k g new at up =
     let c : Bfq = put_member g k new b in
     let within = levels.inside k g up in
     let small : k < 48 = within.0 in
-    let len : length (b.service g).members ≡ 48 = at.places.lengths g within.1 in
-    let room : k < length (b.service g).members = omega (arith, small, len) in
-    let now : placed c.service g k ≡ Some new = placed-here b.service g k (Some new) room in
+    let len : length (places_of b g) ≡ 48 = at.places.lengths g within.1 in
+    let room : k < length (places_of b g) = omega (arith, small, len) in
+    let now : placed c g k ≡ Some new = placed-here b g k (Some new) room in
     record {
       parents = at.parents;
       places = record {
         known = λ j e there. elim (cases_eq e k) [
           | inl same ↦ elim (cases_eq j g) [
             | inl its ↦ ap above same ∙ up ∙ ap (λ i. Some i) (sym its)
-            | inr other ↦ at.places.known j e (ap is_some (sym (placed-elsewhere b.service g (with_member (b.service g) k (Some new)) j e other)) ∙ there)
+            | inr other ↦ at.places.known j e (ap is_some (sym (placed-elsewhere b g k (Some new) j e other)) ∙ there)
           ]
-          | inr other ↦ at.places.known j e (ap is_some (sym (placed-other b.service g k (Some new) j e other)) ∙ there)
+          | inr other ↦ at.places.known j e (ap is_some (sym (placed-other b g k (Some new) j e other)) ∙ there)
         ];
         there = λ j e is. elim (cases_eq e k) [
           | inl same ↦
               let its : j ≡ g = some_is j g (sym is ∙ ap above same ∙ up) in
-              ap (λ i. is_some (placed c.service i e)) its ∙ ap (λ x. is_some (placed c.service g x)) same ∙ ap is_some now
-          | inr other ↦ ap is_some (placed-other b.service g k (Some new) j e other) ∙ at.places.there j e is
+              ap (λ i. is_some (placed c i e)) its ∙ ap (λ x. is_some (placed c g x)) same ∙ ap is_some now
+          | inr other ↦ ap is_some (placed-other b g k (Some new) j e other) ∙ at.places.there j e is
         ];
-        lengths = λ j lt. length-member b.service g k (Some new) j ∙ at.places.lengths j lt;
+        lengths = λ j lt. length-member b g k (Some new) j ∙ at.places.lengths j lt;
       };
       are = λ e. elim (cases_eq e k) [
         | inl same ↦
             let here : state c k ≡ new.state =
-            ap (λ o. (unwrap_or (placed c.service (unwrap_or o 0) k) absent).state) (parent-at above st b k at ∙ up) ∙ ap (λ o. (unwrap_or o absent).state) now in
+            ap (λ o. (unwrap_or (placed c (unwrap_or o 0) k) absent).state) (parent-at above st b k at ∙ up) ∙ ap (λ o. (unwrap_or o absent).state) now in
             ap (state c) same ∙ here ∙ sym (put_here st k new.state e same)
-        | inr other ↦ ap (λ o. (unwrap_or o absent).state) (placed-other b.service g k (Some new) (group_of b e) e other) ∙ at.are e ∙ sym (put_other st k new.state e other)
+        | inr other ↦ ap (λ o. (unwrap_or o absent).state) (placed-other b g k (Some new) (group_of b e) e other) ∙ at.are e ∙ sym (put_other st k new.state e other)
       ];
     }
 
@@ -226,9 +225,9 @@ pub vtime-at : (above : ℕ → Option ℕ) (st : ℕ → State) (b : Bfq) (g vt
 vtime-at above st b g vtime at = record {
   parents = at.parents;
   places = record {
-    known = λ j e there. at.places.known j e (ap is_some (sym (placed-vtime b.service g vtime j e)) ∙ there);
-    there = λ j e is. ap is_some (placed-vtime b.service g vtime j e) ∙ at.places.there j e is;
-    lengths = λ j lt. length-vtime b.service g vtime j ∙ at.places.lengths j lt;
+    known = λ j e there. at.places.known j e (ap is_some (sym (placed-vtime b g vtime j e)) ∙ there);
+    there = λ j e is. ap is_some (placed-vtime b g vtime j e) ∙ at.places.there j e is;
+    lengths = λ j lt. ap length (places-vtime b g vtime j) ∙ at.places.lengths j lt;
   };
-  are = λ e. ap (λ o. (unwrap_or o absent).state) (placed-vtime b.service g vtime (group_of b e) e) ∙ at.are e;
+  are = λ e. ap (λ o. (unwrap_or o absent).state) (placed-vtime b g vtime (group_of b e) e) ∙ at.are e;
 }

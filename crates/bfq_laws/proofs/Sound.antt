@@ -1,6 +1,6 @@
 -- What is known of the machine of every keeper: whose requests a queue has, who is idle, and who waits or is served where.
-use Rattle.std.proofs.Common.{true, false, ◌≡◌, ◌≢◌, inl, inr, ℕ, ◌+◌, ◌<◌, nat_lt, ◌&&◌, List, [], Option, Some, None, is_some, unwrap_or, cond, slice_index_or, refl, sym, ap, ◌∙◌, subst}
-use Rattle.std.specs.Option.{option_map, option_and_then}
+use Rattle.std.proofs.Common.{true, false, ◌≡◌, ◌≢◌, inl, inr, ℕ, ◌+◌, ◌<◌, ◌&&◌, List, [], Option, Some, None, is_some, unwrap_or, cond, refl, sym, ap, ◌∙◌, subst}
+use Rattle.std.specs.Option.{option_map}
 use Rattle.std.proofs.lemmas.Bool.{cases_eq}
 use Rattle.std.proofs.lemmas.List.Elements.{All-nil}
 use Rattle.sector_core.specs.declared.config.Scheduler.{Scheduler}
@@ -8,29 +8,28 @@ use Rattle.sector_core.specs.declared.config.Scheduler.TheVariants.{Plain as Pla
 use Rattle.service_tree.specs.declared.member.State.{State}
 use Rattle.service_tree.specs.declared.member.State.TheVariants.{Idle}
 use Rattle.process_queue.specs.Queue.{is_empty}
-use Rattle.process_queue.specs.Next.{has_start}
 use Rattle.group_tree.specs.Groups.{entity_of, path}
-use Rattle.service_tree.specs.Members.{Service}
 use Rattle.change_record.specs.declared.change.InService.{InService}
 use Rattle.change_record.specs.declared.change.Seat.{Seat}
-use Rattle.change_record.specs.Tables.{empty_service}
 use Rattle.change_record.specs.Machine.{WholeRequest, Bfq, Plain, put}
 use Rattle.change_record.specs.declared.change.Expiry.TheVariants.{Emptying}
 use Rattle.change_record.specs.Rules.{activate, charge, expire, stands, absent}
 use Rattle.plain_machine.specs.declared.answer.Reply.{Reply}
 use Rattle.plain_machine.specs.declared.call.Call.{Call}
-use Rattle.plain_machine.specs.Step.{Limits, opening, is_bfq, older, begun_again, with_entity, without_entity, is_gone, prio_weight, attached, submitted, woken, range_of, next_request, with_budget_in, with_slot, without_first, without_empty, sent_next, sent_in, sent_by_bfq, shape}
+use Rattle.plain_machine.specs.Step.{Limits, opening, is_bfq, older, begun_again, with_entity, without_entity, is_gone, prio_weight, attached, submitted, woken, range_of, with_budget_in, with_slot, without_empty, sent_by_bfq}
 use Rattle.plain_machine.specs.Keeper.{machine_of, replay}
-use Rattle.plain_machine.proofs.Puts.{put_here, put_other, some_is, and_then_is, map_is}
-use Rattle.bfq_laws.proofs.Quiet.{activate-quiet, charge-slot}
+use Rattle.plain_machine.proofs.Puts.{put_here, put_other, some_is, map_is}
 use Rattle.plain_machine.proofs.Leads.{made}
+use Rattle.plain_machine.proofs.Sent.{rest_of, sent-is}
+use Rattle.plain_machine.proofs.Placed.{placed, placed-same}
+use Rattle.plain_machine.proofs.Begun.{timed, begun-keeps}
+use Rattle.bfq_laws.proofs.Quiet.{activate-quiet, charge-slot}
 use Rattle.bfq_laws.proofs.Walk.{Keeps, machine-keeps}
-use Rattle.bfq_laws.proofs.Tree.{placed, Over-same, idle, idle-over, Tree, charge-over}
+use Rattle.bfq_laws.proofs.Tree.{Over-same, idle, idle-over, Tree, charge-over}
 use Rattle.bfq_laws.proofs.Overdue.{overdue}
-use Rattle.bfq_laws.proofs.Busy.{Busy, Tidy, attached-tidy, entered-tidy, away-from, gone-tidy, ticked-tidy, over-tidy, made-over, dropped-over, with_budget_in-busy, with_slot-busy, opening-tidy, free_place}
+use Rattle.bfq_laws.proofs.Busy.{Busy, Tidy, attached-tidy, entered-tidy, away-from, gone-tidy, ticked-tidy, over-tidy, made-over, dropped-over, with_budget_in-busy, with_slot-busy, opening-tidy, opening-none}
 use Rattle.bfq_laws.proofs.Owned.{Owned, session-sits, gone-empty, keeps-owned}
 use Rattle.bfq_laws.proofs.Known.{Known}
-use Rattle.bfq_laws.proofs.Begun.{timed, begun-keeps}
 use Rattle.bfq_laws.proofs.Calm.{under, Calm, calm-tidy, empty-seen, woken-calm, turned-calm, sent-calm, switched-calm}
 use Rattle.bfq_laws.proofs.Shape.{In, Levels, Places, At, state, parent-at, own-at, vtime-at}
 use Rattle.bfq_laws.proofs.Alive.{Alive, activate-alive, charge-at}
@@ -52,8 +51,8 @@ alive-same b c p s o h = record {
     parents = p ∙ h.at.parents;
     places = subst (Places h.above) (sym s) h.at.places;
     are = λ e.
-        ap (λ (f : ℕ → Service). (unwrap_or (placed f (unwrap_or (c.parent e) 0) e) absent).state) s
-        ∙ ap (λ (f : ℕ → Option ℕ). (unwrap_or (placed b.service (unwrap_or (f e) 0) e) absent).state) p ∙ h.at.are e;
+        ap (λ o. (unwrap_or o absent).state) (placed-same b c s (unwrap_or (c.parent e) 0) e)
+        ∙ ap (λ (f : ℕ → Option ℕ). (unwrap_or (placed b (unwrap_or (f e) 0) e) absent).state) p ∙ h.at.are e;
   };
   up = h.up;
   down = h.down;
@@ -123,39 +122,29 @@ charge-alive size b c e h =
 
 sent_by_bfq-alive : (l : Limits) (m : Plain) (n tag : ℕ) (o : Plain × Reply) → sent_by_bfq l m n tag ≡ Some o → Tidy m → Alive m.bfq → Alive o.0.bfq
 sent_by_bfq-alive l m n tag o e tidy h =
-    let within = and_then_is (λ b. sent_in l m n tag (with_slot b)) (with_budget_in l m m.bfq.slot) o e in
-    let a : Bfq = within.0 in
+    let s = sent-is l m n tag o e in
+    let a : Bfq = s.ready in
     let b : Bfq = with_slot a in
-    let ready : Busy m.seat m.queue b = with_slot-busy m.seat m.queue a (with_budget_in-busy l m m.bfq.slot a within.1 tidy.busy) in
-    let slot = and_then_is (λ slot. option_and_then (sent_next l m n tag b slot.seat) (next_request m slot.seat)) b.slot o within.2 in
-    let k : ℕ = slot.0.seat in
-    let alive : Alive b = with_slot-alive a (with_budget_in-alive l m m.bfq.slot a within.1 tidy h) slot.0 slot.1 in
-    let next = and_then_is (sent_next l m n tag b k) (next_request m k) o slot.2 in
-    let r : WholeRequest = next.0 in
+    let ready : Busy m.seat m.queue b = with_slot-busy m.seat m.queue a (with_budget_in-busy l m m.bfq.slot a s.readies tidy.busy) in
+    let k : ℕ = s.slot.seat in
+    let alive : Alive b = with_slot-alive a (with_budget_in-alive l m m.bfq.slot a s.readies tidy h) s.slot s.serves in
+    let r : WholeRequest = s.request in
     let size : ℕ = (range_of r.bios).count in
-    let rest : List WholeRequest = without_first (has_start shape (range_of r.bios).start) (m.queue k) in
-    let done = map_is _ (option_and_then (without_empty l rest) (charge size b)) o next.2 in
-    let charged = and_then_is (without_empty l rest) (charge size b) done.0 done.1 in
-    let c : Bfq = charged.0 in
-    let x = charge-slot size b c charged.1 in
-    let over = charge-over size b c charged.1 in
+    let rest : List WholeRequest = rest_of m k r in
+    let c : Bfq = s.charged in
+    let x = charge-slot size b c s.charges in
+    let over = charge-over size b c s.charges in
     let now : InService = record x.0 { service = x.0.service + size } in
     let awake : (other : InService) → c.slot ≡ Some other → (other.seat < 16) × (idle c other.seat ≡ false) = λ other is.
     let one : other.seat ≡ x.0.seat = ap (λ (z : InService). z.seat) (some_is other now (sym is ∙ x.3)) in
     let was = awake-slot m.seat m.queue b ready x.0 x.1 in
     let P : ℕ → Type 0 = λ j. (j < 16) × (idle c j ≡ false) in
     subst P (sym one) (was.0, idle-over b c x.0.seat was.0 over ∙ was.1) in
-    let last : Alive done.0 = without_empty-alive l rest c done.0 awake charged.2 (charge-alive size b c charged.1 alive) in
+    let last : Alive s.last = without_empty-alive l rest c s.last awake s.ends (charge-alive size b c s.charges alive) in
     let Q : Plain × Reply → Type 0 = λ y. Alive y.0.bfq in
-    subst Q done.2 last
+    subst Q s.made last
 
 -- before the first step nobody is in a group
-pub opening-none : (l : Limits) (g e : ℕ) → placed (opening l).bfq.service g e ≡ None
-opening-none l g e = elim (nat_lt g 32) as (λ t. slice_index_or (cond t (empty_service l.first_vtime) (record { vtime = 0; members = [] })).members e None ≡ None) [
-  | true ↦ free_place None 48 e
-  | false ↦ refl
-]
-
 pub opening-alive : (l : Limits) → Alive (opening l).bfq
 opening-alive l = record {
   above = λ _. None;
@@ -170,7 +159,7 @@ opening-alive l = record {
   at = record {
     parents = refl;
     places = record {
-      known = λ g e there. let none : is_some (placed (opening l).bfq.service g e) ≡ false = ap is_some (opening-none l g e) in cc;
+      known = λ g e there. let none : is_some (placed (opening l).bfq g e) ≡ false = ap is_some (opening-none l g e) in cc;
       there = λ g e is. cc;
       lengths = (opening-tidy l).busy.tree.lengths;
     };

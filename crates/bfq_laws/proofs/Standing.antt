@@ -12,10 +12,10 @@ use Rattle.change_record.specs.Machine.{Bfq, put}
 use Rattle.change_record.specs.Rules.{absent, group_of, is_idle, stands}
 use Rattle.plain_machine.specs.Step.{Limits, with_entity, without_entity, free_group, is_in, is_used}
 use Rattle.plain_machine.proofs.Puts.{put_here, put_other, put_cases, some_is}
-use Rattle.bfq_laws.proofs.Puts.{find-within}
-use Rattle.bfq_laws.proofs.Tree.{placed, placed-here, placed-elsewhere, placed-other, length-member}
-use Rattle.bfq_laws.proofs.Busy.{stood}
 use Rattle.plain_machine.proofs.Leads.{made}
+use Rattle.plain_machine.proofs.Placed.{placed, placed-here, placed-elsewhere, placed-other, length-member, places_of}
+use Rattle.bfq_laws.proofs.Puts.{find-within}
+use Rattle.bfq_laws.proofs.Busy.{stood}
 use Rattle.bfq_laws.proofs.Shape.{In, Levels, Stands, stands-low, has-entity, climbing, climb-has, At, state, parent-at, group-at, member-at, vtime-at}
 use Rattle.bfq_laws.proofs.Upcoming.{some_of, passes-of, was-false}
 use Rattle.bfq_laws.proofs.Alive.{Alive, put-was}
@@ -47,19 +47,19 @@ idle_or Active = inr (λ e. cc)
 idle_or Serving = inr (λ e. cc)
 
 -- who is in no group's tree is idle
-nowhere-idle : (above : ℕ → Option ℕ) (st : ℕ → State) (b : Bfq) (k : ℕ) → At above st b → ((j : ℕ) → is_some (placed b.service j k) ≡ true → ⊥) → st k ≡ Idle
+nowhere-idle : (above : ℕ → Option ℕ) (st : ℕ → State) (b : Bfq) (k : ℕ) → At above st b → ((j : ℕ) → is_some (placed b j k) ≡ true → ⊥) → st k ≡ Idle
 nowhere-idle above st b k at nowhere = elim (idle_or (st k)) [
   | inl rests ↦ rests
   | inr ne ↦ let m = member-at above st b k at ne in absurd (nowhere (group_of b k) (ap is_some m.1))
 ]
 
 -- a new entity
-enters-at : (l : Limits) (above : ℕ → Option ℕ) (st : ℕ → State) (b : Bfq) (k g weight : ℕ) → At above st b → k < 48 → g < 32 → ((j : ℕ) → is_some (placed b.service j k) ≡ true → ⊥)
+enters-at : (l : Limits) (above : ℕ → Option ℕ) (st : ℕ → State) (b : Bfq) (k g weight : ℕ) → At above st b → k < 48 → g < 32 → ((j : ℕ) → is_some (placed b j k) ≡ true → ⊥)
     → At (put above k (Some g)) st (with_entity l k g weight b)
 enters-at l above st b k g weight at small low nowhere =
     let c : Bfq = with_entity l k g weight b in
-    let len : length (b.service g).members ≡ 48 = at.places.lengths g low in
-    let room : k < length (b.service g).members = omega (arith, small, len) in
+    let len : length (places_of b g) ≡ 48 = at.places.lengths g low in
+    let room : k < length (places_of b g) = omega (arith, small, len) in
     let rests : st k ≡ Idle = nowhere-idle above st b k at nowhere in
     record {
       parents = ap (λ (f : ℕ → Option ℕ). put f k (Some g)) at.parents;
@@ -67,30 +67,30 @@ enters-at l above st b k g weight at small low nowhere =
         known = λ j e there. elim (cases_eq e k) [
           | inl same ↦ elim (cases_eq j g) [
             | inl its ↦ put_here above k (Some g) e same ∙ ap (λ i. Some i) (sym its)
-            | inr other ↦ absurd (nowhere j (ap (λ x. is_some (placed b.service j x)) (sym same) ∙ ap is_some (sym (placed-elsewhere b.service g _ j e other)) ∙ there))
+            | inr other ↦ absurd (nowhere j (ap (λ x. is_some (placed b j x)) (sym same) ∙ ap is_some (sym (placed-elsewhere b g _ _ j e other)) ∙ there))
           ]
-          | inr other ↦ put_other above k (Some g) e other ∙ at.places.known j e (ap is_some (sym (placed-other b.service g k _ j e other)) ∙ there)
+          | inr other ↦ put_other above k (Some g) e other ∙ at.places.known j e (ap is_some (sym (placed-other b g k _ j e other)) ∙ there)
         ];
         there = λ j e is. elim (put_cases above k (Some g) e (Some j) is) [
           | inl x ↦
               let its : g ≡ j = some_is g j x.1 in
-              ap (λ i. is_some (placed c.service i e)) (sym its) ∙ ap (λ y. is_some (placed c.service g y)) x.0 ∙ ap is_some (placed-here b.service g k _ room)
-          | inr x ↦ ap is_some (placed-other b.service g k _ j e x.0) ∙ at.places.there j e x.1
+              ap (λ i. is_some (placed c i e)) (sym its) ∙ ap (λ y. is_some (placed c g y)) x.0 ∙ ap is_some (placed-here b g k _ room)
+          | inr x ↦ ap is_some (placed-other b g k _ j e x.0) ∙ at.places.there j e x.1
         ];
-        lengths = λ j lt. length-member b.service g k _ j ∙ at.places.lengths j lt;
+        lengths = λ j lt. length-member b g k _ j ∙ at.places.lengths j lt;
       };
       are = λ e. elim (cases_eq e k) [
         | inl same ↦
             let here : state c k ≡ Idle =
-            ap (λ o. (unwrap_or (placed c.service (unwrap_or o 0) k) absent).state) (put_here b.parent k (Some g) k refl) ∙ ap (λ o. (unwrap_or o absent).state) (placed-here b.service g k _ room) in
+            ap (λ o. (unwrap_or (placed c (unwrap_or o 0) k) absent).state) (put_here b.parent k (Some g) k refl) ∙ ap (λ o. (unwrap_or o absent).state) (placed-here b g k _ room) in
             ap (state c) same ∙ here ∙ sym rests ∙ ap st (sym same)
         | inr other ↦
-            ap (λ o. (unwrap_or (placed c.service (unwrap_or o 0) e) absent).state) (put_other b.parent k (Some g) e other)
-            ∙ ap (λ o. (unwrap_or o absent).state) (placed-other b.service g k _ (group_of b e) e other) ∙ at.are e
+            ap (λ o. (unwrap_or (placed c (unwrap_or o 0) e) absent).state) (put_other b.parent k (Some g) e other)
+            ∙ ap (λ o. (unwrap_or o absent).state) (placed-other b g k _ (group_of b e) e other) ∙ at.are e
       ];
     }
 
-enters-alive : (l : Limits) (b : Bfq) (h : Alive b) (k g weight : ℕ) → k < 48 → g < 32 → ((j : ℕ) → is_some (placed b.service j k) ≡ true → ⊥) → Levels (put h.above k (Some g))
+enters-alive : (l : Limits) (b : Bfq) (h : Alive b) (k g weight : ℕ) → k < 48 → g < 32 → ((j : ℕ) → is_some (placed b j k) ≡ true → ⊥) → Levels (put h.above k (Some g))
     → ((e j : ℕ) → h.above e ≡ Some j → j ≢ 0 → 16 + j ≢ k) → ((slot : InService) → b.slot ≡ Some slot → slot.seat ≢ k) → Alive (with_entity l k g weight b)
 enters-alive l b h k g weight small low nowhere levels apart away =
     let after : ℕ → Option ℕ = put h.above k (Some g) in
@@ -130,7 +130,7 @@ stands-is b h g e =
     (lt, λ ne. some_of (h.above (16 + g)) (ap is_some (sym (parent-at h.above h.st b (16 + g) h.at)) ∙ sym (stands-test b g lt ne) ∙ e))
 
 -- a session's entity is new
-pub session-alive : (l : Limits) (b : Bfq) (k g weight : ℕ) → k < 16 → stands b g ≡ true → ((j : ℕ) → is_some (placed b.service j k) ≡ true → ⊥) → ((slot : InService) → b.slot ≡ Some slot → slot.seat ≢ k)
+pub session-alive : (l : Limits) (b : Bfq) (k g weight : ℕ) → k < 16 → stands b g ≡ true → ((j : ℕ) → is_some (placed b j k) ≡ true → ⊥) → ((slot : InService) → b.slot ≡ Some slot → slot.seat ≢ k)
     → Alive b → Alive (with_entity l k g weight b)
 session-alive l b k g weight small stand nowhere away h =
     let above : ℕ → Option ℕ = h.above in
@@ -263,12 +263,12 @@ gone-alive b h k up above_k unused rests away =
     let parent : above k ≡ Some g = above_k ∙ ap (λ j. Some j) (sym (group-at above st b k up h.at above_k)) in
     let within = h.levels.inside k g parent in
     let small : k < 48 = within.0 in
-    let len : length (b.service g).members ≡ 48 = h.at.places.lengths g within.1 in
-    let room : k < length (b.service g).members = omega (arith, small, len) in
-    let missing : (j : ℕ) → is_some (placed c.service j k) ≡ true → ⊥ = λ j there. elim (cases_eq j g) [
-      | inl its ↦ let no : is_some (placed c.service j k) ≡ false = ap (λ i. is_some (placed c.service i k)) its ∙ ap is_some (placed-here b.service g k None room) in cc
+    let len : length (places_of b g) ≡ 48 = h.at.places.lengths g within.1 in
+    let room : k < length (places_of b g) = omega (arith, small, len) in
+    let missing : (j : ℕ) → is_some (placed c j k) ≡ true → ⊥ = λ j there. elim (cases_eq j g) [
+      | inl its ↦ let no : is_some (placed c j k) ≡ false = ap (λ i. is_some (placed c i k)) its ∙ ap is_some (placed-here b g k None room) in cc
       | inr other ↦
-          let was : above k ≡ Some j = h.at.places.known j k (ap is_some (sym (placed-elsewhere b.service g _ j k other)) ∙ there) in
+          let was : above k ≡ Some j = h.at.places.known j k (ap is_some (sym (placed-elsewhere b g _ _ j k other)) ∙ there) in
           absurd (other (some_is j g (sym was ∙ parent)))
     ] in
     let before : (e j : ℕ) → after e ≡ Some j → (e ≢ k) × (above e ≡ Some j) = λ e j is. elim (put_cases above k None e (Some j) is) [
@@ -279,17 +279,17 @@ gone-alive b h k up above_k unused rests away =
       parents = ap (λ (f : ℕ → Option ℕ). put f k None) h.at.parents;
       places = record {
         known = λ j e there. elim (cases_eq e k) [
-          | inl same ↦ absurd (missing j (ap (λ x. is_some (placed c.service j x)) (sym same) ∙ there))
-          | inr other ↦ put_other above k None e other ∙ h.at.places.known j e (ap is_some (sym (placed-other b.service g k None j e other)) ∙ there)
+          | inl same ↦ absurd (missing j (ap (λ x. is_some (placed c j x)) (sym same) ∙ there))
+          | inr other ↦ put_other above k None e other ∙ h.at.places.known j e (ap is_some (sym (placed-other b g k None j e other)) ∙ there)
         ];
-        there = λ j e is. let was = before e j is in ap is_some (placed-other b.service g k None j e was.0) ∙ h.at.places.there j e was.1;
-        lengths = λ j lt. length-member b.service g k None j ∙ h.at.places.lengths j lt;
+        there = λ j e is. let was = before e j is in ap is_some (placed-other b g k None j e was.0) ∙ h.at.places.there j e was.1;
+        lengths = λ j lt. length-member b g k None j ∙ h.at.places.lengths j lt;
       };
       are = λ e. elim (cases_eq e k) [
-        | inl same ↦ ap (state c) same ∙ nobody-idle (placed c.service (group_of c k) k) (missing (group_of c k)) ∙ sym (put_here st k Idle e same)
+        | inl same ↦ ap (state c) same ∙ nobody-idle (placed c (group_of c k) k) (missing (group_of c k)) ∙ sym (put_here st k Idle e same)
         | inr other ↦
-            ap (λ o. (unwrap_or (placed c.service (unwrap_or o 0) e) absent).state) (put_other b.parent k None e other)
-            ∙ ap (λ o. (unwrap_or o absent).state) (placed-other b.service g k None (group_of b e) e other) ∙ h.at.are e ∙ sym (put_other st k Idle e other)
+            ap (λ o. (unwrap_or (placed c (unwrap_or o 0) e) absent).state) (put_other b.parent k None e other)
+            ∙ ap (λ o. (unwrap_or o absent).state) (placed-other b g k None (group_of b e) e other) ∙ h.at.are e ∙ sym (put_other st k Idle e other)
       ];
     } in
     let agree : (e j : ℕ) → above e ≡ Some j → j ≢ 0 → after (16 + j) ≡ above (16 + j) = λ e j is _. put_other above k None (16 + j) (unused e j is) in

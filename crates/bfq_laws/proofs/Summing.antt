@@ -17,6 +17,8 @@ use Rattle.plain_machine.specs.Keeper.{machine_of, replay}
 use Rattle.bfq_laws.specs.Weights.{WeighEnough}
 use Rattle.bfq_laws.specs.Sums.{SumsArePositiveIn, SumsArePositive}
 use Rattle.plain_machine.proofs.Puts.{some_is}
+use Rattle.plain_machine.proofs.Placed.{places_of}
+use Rattle.plain_machine.proofs.Rules.{Changes, with_slot-keeps, with_budget_in-keeps}
 use Rattle.bfq_laws.proofs.Walk.{machine-keeps}
 use Rattle.bfq_laws.proofs.Tree.{idle}
 use Rattle.bfq_laws.proofs.Busy.{Busy, Tidy, with_budget_in-busy, with_slot-busy}
@@ -25,7 +27,7 @@ use Rattle.bfq_laws.proofs.Alive.{Alive, not_idle}
 use Rattle.bfq_laws.proofs.Choosing.{with_slot-alive}
 use Rattle.bfq_laws.proofs.Calm.{calm-tidy}
 use Rattle.bfq_laws.proofs.Sound.{awake-slot, with_budget_in-alive, opening-sound}
-use Rattle.bfq_laws.proofs.Weighing.{Weighs, keeps-weighs, opening-weighs, path-awake, with_budget_in-weighs, with_slot-weighs}
+use Rattle.bfq_laws.proofs.Weighing.{Weighs, keeps-weighs, opening-weighs, path-awake, InGroup, WeighAt, weigh_at-changes, weigh_at-alive}
 
 -- what holds of whoever is in a list holds of all in it
 all-of : (P : ℕ → Type 0) (xs : List ℕ) → ((x : ℕ) → In x xs → P x) → All P xs
@@ -76,7 +78,7 @@ sums-there b h weighs slot awake = all-of (λ entity. 1 ≤ wsum b (group_of b e
     let g : ℕ = group_of b i in
     let m : Member = found.0 in
     let awake_m : is_idle m.state ≡ false = ap is_idle found.2 ∙ awake_i in
-    sum-weighs (vtime_of b g) 0 (b.service g).members i m found.1 (awake-counts m.state (nat_lt (vtime_of b g) m.finish) awake_m) (weighs.1 g i m found.1))
+    sum-weighs (vtime_of b g) 0 (places_of b g) i m found.1 (awake-counts m.state (nat_lt (vtime_of b g) m.finish) awake_m) (weighs.1 g i m found.1))
 
 sums-in : (l : Limits) (m : Plain) → Weighs m → SumsArePositiveIn l m
 sums-in l m h under =
@@ -86,8 +88,10 @@ sums-in l m h under =
       λ b e slot is.
           let ready : Busy m.seat m.queue (with_slot b) = with_slot-busy m.seat m.queue b (with_budget_in-busy l m m.bfq.slot b e tidy.busy) in
           let served : Alive (with_slot b) = with_slot-alive b (with_budget_in-alive l m m.bfq.slot b e tidy alive) slot is in
-          let weigh : WeighEnough (with_slot b) = with_slot-weighs b (with_budget_in-weighs l m m.bfq.slot b e tidy alive h.0) in
-          sums-there (with_slot b) served weigh slot (awake-slot m.seat m.queue (with_slot b) ready slot is).1,
+          let changes : Changes l.max_budget (InGroup alive.above) (WeighAt alive.above) = weigh_at-changes l.max_budget alive.above alive.levels in
+          let weigh : WeighAt alive.above (with_slot b) =
+          with_slot-keeps (WeighAt alive.above) changes.selects b (with_budget_in-keeps l (InGroup alive.above) (WeighAt alive.above) changes m m.bfq.slot b e (weigh_at-alive m.bfq alive h.0)) in
+          sums-there (with_slot b) served weigh.weigh slot (awake-slot m.seat m.queue (with_slot b) ready slot is).1,
     )
 
 -- the law

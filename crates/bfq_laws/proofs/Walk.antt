@@ -128,6 +128,7 @@ keeps-lead l P k =
     let w : Leads l (λ n m. EachRequest IsWhole m) = whole-leads l in
     record {
       later = λ n n' m le h. h;
+      stays = λ n m h. h;
       attaches = λ n m seat group prio small free known few h. (w.attaches n m seat group prio small free known few h.0, k.attaches m n seat group prio small free known few h.1);
       submits = λ n m seat session op range payload next small its sized is h.
           (w.submits n m seat session op range payload next small its sized is h.0, k.submits m n seat session op range payload next small its is h.1);
@@ -143,7 +144,7 @@ keeps-lead l P k =
       drops = λ n m group known other unused h. (w.drops n m group known other unused h.0, k.drops m group known other unused h.1);
       weighs = λ n m group weight known other weighs h. (w.weighs n m group weight known other weighs h.0, k.weighs m group weight weighs h.1);
       freezes = λ n m frozen h. (w.freezes n m frozen h.0, k.moves m m.overlay m.requeued m.outbox m.flight frozen h.1);
-      switches = λ n m scheduler none h. (w.switches n m scheduler none h.0, k.switches m scheduler (drained l m none) h.1);
+      switches = λ may n m scheduler none h. (w.switches may n m scheduler none h.0, k.switches m scheduler (drained l m none) h.1);
       ticks = λ n m slot is h. (w.ticks n m slot is h.0, k.ticks m slot is h.1);
     }
 

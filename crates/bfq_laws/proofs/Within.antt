@@ -1,35 +1,38 @@
 -- The queue in service has been sent no more sectors than its budget.
-use Rattle.std.proofs.Common.{true, false, ◌≡◌, ◌≢◌, inl, inr, ℕ, zero, suc, ◌+◌, ◌≤◌, nat_lt, ◌&&◌, List, [], ◌∷◌, Option, Some, None, is_some, cond, slice_index_or, replicate, refl, sym, ap, ◌∙◌, subst, arith}
+use Rattle.std.proofs.Common.{true, false, ◌≡◌, ◌≢◌, inl, inr, ℕ, ◌+◌, ◌≤◌, ◌&&◌, List, [], ◌∷◌, Option, Some, None, is_some, cond, refl, sym, ap, ◌∙◌, subst, arith}
 use Rattle.std.specs.List.{find}
-use Rattle.std.specs.Option.{is_none, option_map, option_map_or, option_and_then}
+use Rattle.std.specs.Option.{is_none, option_map, option_map_or}
 use Rattle.std.proofs.lemmas.Bool.{cases_eq}
-use Rattle.service_tree.specs.declared.member.Member.{Member}
 use Rattle.sector_core.specs.declared.bio.Bio.{Bio}
 use Rattle.process_queue.specs.Queue.{is_empty}
 use Rattle.process_queue.specs.Next.{has_start, wanted, starts}
 use Rattle.group_tree.specs.Groups.{entity_of}
 use Rattle.change_record.specs.declared.change.Seat.{Seat}
 use Rattle.change_record.specs.declared.change.InService.{InService}
-use Rattle.change_record.specs.Tables.{empty_service}
 use Rattle.change_record.specs.Machine.{WholeRequest, Bfq, Plain, put}
 use Rattle.change_record.specs.declared.change.Expiry.TheVariants.{Emptying}
-use Rattle.change_record.specs.Rules.{group_of, activate, select, charge, expire}
+use Rattle.change_record.specs.Rules.{group_of, activate, select, expire}
 use Rattle.plain_machine.specs.declared.answer.Reply.{Reply}
 use Rattle.plain_machine.specs.declared.call.Call.{Call}
-use Rattle.plain_machine.specs.Step.{Limits, opening, is_bfq, with_entity, attached, submitted, woken, size_of, range_of, next_request, next_size, with_budget_in, with_slot, without_first, without_empty, sent_next, sent_in, sent_by_bfq, older, switched, shape}
+use Rattle.plain_machine.specs.Step.{Limits, opening, is_bfq, with_entity, attached, submitted, woken, size_of, range_of, next_request, next_size, with_budget_in, with_slot, without_empty, sent_by_bfq, older, switched, shape}
 use Rattle.plain_machine.specs.Whole.{IsWhole, AreWhole}
 use Rattle.bfq_laws.specs.Budgets.{AreEnough, ServiceIsWithinBudget}
 use Rattle.plain_machine.proofs.Puts.{put_here, put_other, some_is, and_then_is, map_is}
+use Rattle.plain_machine.proofs.Sent.{rest_of, sent-is}
+use Rattle.plain_machine.proofs.Placed.{placed}
+use Rattle.plain_machine.proofs.Rules.{Any, select-keeps, charge-keeps, expire-keeps}
+use Rattle.plain_machine.proofs.Begun.{begun-keeps, begun-slot}
+use Rattle.plain_machine.proofs.Ruled.{again}
 use Rattle.bfq_laws.proofs.Puts.{All-find}
-use Rattle.bfq_laws.proofs.Quiet.{activate-quiet, select-budgets, charge-slot, expire-slot}
+use Rattle.bfq_laws.proofs.Quiet.{activate-quiet, charge-slot, expire-slot}
 use Rattle.bfq_laws.proofs.Walk.{gone, Keeps, machine-keeps}
 use Rattle.bfq_laws.proofs.Overdue.{overdue}
-use Rattle.bfq_laws.proofs.Begun.{begun-slot}
+use Rattle.bfq_laws.proofs.Busy.{opening-none}
 use Rattle.bfq_laws.proofs.Owned.{session-sits}
 use Rattle.bfq_laws.proofs.Calm.{drained-slot}
 use Rattle.bfq_laws.proofs.Sound.{Sound, opening-sound, sound-known, gone-away, keeps-sound}
-use Rattle.bfq_laws.proofs.Enough.{put-enough, same-enough, expire-enough, opening-enough, begun-enough}
-use Rattle.bfq_laws.proofs.Known.{Known, AreFit, Sits, Begins, member-known, vtime-known, activate-known, select-begins, charge-known, expire-known}
+use Rattle.bfq_laws.proofs.Enough.{put-enough, enough-selects, enough-changes, enough-ruled, opening-enough}
+use Rattle.bfq_laws.proofs.Known.{Fits, Known, Sits, Begins, member-known, vtime-known, activate-known, select-begins, known-changes}
 
 -- the queue in service is that of a seat that is taken, and has been sent no more than its budget
 abbrev pub Served : (ℕ → Option Seat) → Bfq → Type 0
@@ -69,7 +72,7 @@ attached-within l first m n seat group prio free h =
     let grows : Grows m.seat next.seat = put-grows m.seat seat _ (λ _. refl) in
     record {
       enough = put-enough m.bfq.budget seat l.first_budget first h.enough;
-      known = member-known next.seat m.bfq.service group seat _ (λ _. ap is_some (put_here m.seat seat _ seat refl)) (grown-known m.seat next.seat m.bfq grows h.known);
+      known = member-known next.seat m.bfq group seat _ (λ _. ap is_some (put_here m.seat seat _ seat refl)) (grown-known m.seat next.seat m.bfq grows h.known);
       served = λ slot e.
           let s = h.served slot e in
           let other : slot.seat ≢ seat = λ same. let none : is_some (m.seat slot.seat) ≡ false = ap (λ k. is_some (m.seat k)) same ∙ ap is_some free in cc in
@@ -87,7 +90,7 @@ woken-within m seat next o same grows sits e h =
           let b : Bfq = a.0 in
           let quiet = activate-quiet seat m.bfq b a.1 in
           subst Within a.2 (record {
-            enough = same-enough m.bfq b quiet.0 h.enough;
+            enough = subst (λ (f : ℕ → ℕ). (e : ℕ) → 256 ≤ f e) (sym quiet.0) h.enough;
             known = grown-known m.seat next.seat b grows (activate-known m.seat seat m.bfq b sits a.1 h.known);
             served = λ slot at.
                 let s = h.served slot (sym quiet.1 ∙ at) in
@@ -135,8 +138,8 @@ with_budget_in-room l most m (Some slot) b at e h =
       | inl x ↦
           let free = expire-slot x.0 l.max_budget true m.bfq b x.1 in
           record {
-            enough = expire-enough x.0 l.max_budget true m.bfq b most x.1 h.enough;
-            known = expire-known m.seat x.0 l.max_budget true m.bfq b (sits-within m h) x.1 h.known;
+            enough = expire-keeps l.max_budget Any AreEnough (enough-changes l.max_budget most) x.0 true m.bfq b x.1 h.enough;
+            known = (expire-keeps l.max_budget (Fits m.seat) _ (known-changes l.max_budget m.seat) x.0 true m.bfq b x.1 (h.known, sits-within m h)).0;
             room = λ other is. let none : Some other ≡ None = sym is ∙ free.3 in cc;
           }
       | inr y ↦
@@ -158,7 +161,7 @@ with_slot-room m b whole h =
       | true ↦ λ free.
           let begins : Begins m.seat (select b) =
           select-begins m.seat b (record { known = h.known; fresh = λ slot is. let none : Some slot ≡ None = sym is ∙ no_slot b.slot free in cc }) in
-          let enough : AreEnough (select b) = same-enough b (select b) (select-budgets b) h.enough in
+          let enough : AreEnough (select b) = select-keeps AreEnough enough-selects b h.enough in
           record {
             enough = enough;
             known = begins.known;
@@ -177,8 +180,8 @@ without_empty-within l most seats queue b c e enough known served =
     elim (is_empty queue) as (λ t. cond t (expire Emptying l.max_budget false b) (Some b) ≡ Some c → P c) [
       | true ↦ λ f.
           let x = expire-slot Emptying l.max_budget false b c f in (
-            expire-enough Emptying l.max_budget false b c most f enough,
-            expire-known seats Emptying l.max_budget false b c (λ slot at. (served slot at).0) f known,
+            expire-keeps l.max_budget Any AreEnough (enough-changes l.max_budget most) Emptying false b c f enough,
+            (expire-keeps l.max_budget (Fits seats) _ (known-changes l.max_budget seats) Emptying false b c f (known, λ slot at. (served slot at).0)).0,
             λ slot is. let none : Some slot ≡ None = sym is ∙ x.3 in cc,
           )
       | false ↦ λ f. subst P (some_is b c f) (enough, known, served)
@@ -186,50 +189,39 @@ without_empty-within l most seats queue b c e enough known served =
 
 sent_by_bfq-within : (l : Limits) → 256 ≤ l.max_budget → (m : Plain) (n tag : ℕ) (o : Plain × Reply) → AreWhole m → sent_by_bfq l m n tag ≡ Some o → Within m → Within o.0
 sent_by_bfq-within l most m n tag o whole e h =
-    let within = and_then_is (λ b. sent_in l m n tag (with_slot b)) (with_budget_in l m m.bfq.slot) o e in
-    let b : Bfq = with_slot within.0 in
-    let has : HasRoom m b = with_slot-room m within.0 whole (with_budget_in-room l most m m.bfq.slot within.0 refl within.1 h) in
-    let slot = and_then_is (λ slot. option_and_then (sent_next l m n tag b slot.seat) (next_request m slot.seat)) b.slot o within.2 in
-    let seat : ℕ = slot.0.seat in
-    let next = and_then_is (sent_next l m n tag b seat) (next_request m seat) o slot.2 in
-    let r : WholeRequest = next.0 in
+    let s = sent-is l m n tag o e in
+    let b : Bfq = with_slot s.ready in
+    let has : HasRoom m b = with_slot-room m s.ready whole (with_budget_in-room l most m m.bfq.slot s.ready refl s.readies h) in
+    let seat : ℕ = s.slot.seat in
+    let r : WholeRequest = s.request in
     let size : ℕ = (range_of r.bios).count in
-    let rest : List WholeRequest = without_first (has_start shape (range_of r.bios).start) (m.queue seat) in
-    let done = map_is _ (option_and_then (without_empty l rest) (charge size b)) o next.2 in
-    let charged = and_then_is (without_empty l rest) (charge size b) done.0 done.1 in
-    let c : Bfq = charged.0 in
-    let x = charge-slot size b c charged.1 in
+    let rest : List WholeRequest = rest_of m seat r in
+    let c : Bfq = s.charged in
+    let x = charge-slot size b c s.charges in
     let served : Served m.seat c = λ other is.
     let now : InService = record x.0 { service = x.0.service + size } in
     let same : now ≡ other = some_is now other (sym x.3 ∙ is) in
-    let one : slot.0 ≡ x.0 = some_is slot.0 x.0 (sym slot.1 ∙ x.1) in
+    let one : s.slot ≡ x.0 = some_is s.slot x.0 (sym s.serves ∙ x.1) in
     let room = has.room x.0 x.1 in
     let fits : x.0.service + next_size m x.0.seat ≤ b.budget x.0.seat = room.1 in
-    let asked : next_size m seat ≡ size_of r.bios = ap (λ o. option_map_or (λ (q : WholeRequest). size_of q.bios) o 0) next.1 in
-    let seats : next_size m x.0.seat ≡ next_size m seat = ap (λ (s : InService). next_size m s.seat) (sym one) in
+    let asked : next_size m seat ≡ size_of r.bios = ap (λ o. option_map_or (λ (q : WholeRequest). size_of q.bios) o 0) s.next in
+    let seats : next_size m x.0.seat ≡ next_size m seat = ap (λ (z : InService). next_size m z.seat) (sym one) in
     let budget : c.budget x.0.seat ≡ b.budget x.0.seat = ap (λ (f : ℕ → ℕ). f x.0.seat) x.2 in
-    let P : InService → Type 0 = λ s. (is_some (m.seat s.seat) ≡ true) × (s.service ≤ c.budget s.seat) in
+    let P : InService → Type 0 = λ z. (is_some (m.seat z.seat) ≡ true) × (z.service ≤ c.budget z.seat) in
     let count : size ≡ size_of r.bios = count_of_range r.bios in
     let le : x.0.service + size ≤ c.budget x.0.seat = omega (arith, fits, asked, seats, budget, count) in
     subst P same (room.0, le) in
     let sits : Sits m.seat b = λ other is. (has.room other is).0 in
-    let all = without_empty-within l most m.seat rest c done.0 charged.2 (same-enough b c x.2 has.enough) (charge-known m.seat size b c sits charged.1 has.known) served in
+    let all = without_empty-within l most m.seat rest c s.last s.ends (charge-keeps l.max_budget Any AreEnough (enough-changes l.max_budget most) size b c s.charges has.enough)
+    (charge-keeps l.max_budget (Fits m.seat) _ (known-changes l.max_budget m.seat) size b c s.charges (has.known, sits)).0 served in
     let Q : Plain × Reply → Type 0 = λ y. Within y.0 in
-    subst Q done.2 (record { enough = all.0; known = all.1; served = all.2 })
+    subst Q s.made (record { enough = all.0; known = all.1; served = all.2 })
 
 -- before the first step no tree has a member
-free_place : (place : Option Member) (n k : ℕ) → slice_index_or (replicate n place) k place ≡ place
-free_place place zero k = refl
-free_place place (suc n) zero = refl
-free_place place (suc n) (suc k) = free_place place n k
-
 opening-within : (l : Limits) → 256 ≤ l.first_budget → 256 ≤ l.max_budget → Within (opening l)
 opening-within l first most = record {
   enough = opening-enough l first most;
-  known = λ group. elim (nat_lt group 32) as (λ t. AreFit (λ _. None) (cond t (empty_service l.first_vtime) (record { vtime = 0; members = [] }))) [
-    | true ↦ λ entity there small. let none : is_some (slice_index_or (empty_service l.first_vtime).members entity None) ≡ false = ap is_some (free_place None 48 entity) in cc
-    | false ↦ λ entity there small. cc
-  ];
+  known = λ g e there small. let none : is_some (placed (opening l).bfq g e) ≡ false = ap is_some (opening-none l g e) in cc;
   served = λ slot e. cc;
 }
 
@@ -266,8 +258,8 @@ keeps-within l first most = record {
     record {
       enough = h.0.enough;
       known =
-          vtime-known m.seat (with_entity l (entity_of group) parent weight m.bfq).service group l.first_vtime
-          (member-known m.seat m.bfq.service parent (entity_of group) _ (λ small. absurd (omega (arith, small))) h.0.known);
+          vtime-known m.seat (with_entity l (entity_of group) parent weight m.bfq) group l.first_vtime
+          (member-known m.seat m.bfq parent (entity_of group) _ (λ small. absurd (omega (arith, small))) h.0.known);
       served = h.0.served;
     },
     (keeps-sound l).makes m group parent weight stand weighs few free h.1,
@@ -275,7 +267,7 @@ keeps-within l first most = record {
   drops = λ m group stand other unused h. (
     record {
       enough = h.0.enough;
-      known = member-known m.seat m.bfq.service (group_of m.bfq (entity_of group)) (entity_of group) None (λ small. absurd (omega (arith, small))) h.0.known;
+      known = member-known m.seat m.bfq (group_of m.bfq (entity_of group)) (entity_of group) None (λ small. absurd (omega (arith, small))) h.0.known;
       served = h.0.served;
     },
     (keeps-sound l).drops m group stand other unused h.1,
@@ -288,7 +280,7 @@ keeps-within l first most = record {
       let next : Plain = switched l m scheduler in
       let sound : Sound next = (keeps-sound l).switches m scheduler drained h.1 in (
         record {
-          enough = begun-enough l first scheduler m.bfq h.0.enough;
+          enough = begun-keeps l AreEnough (again l (λ n. AreEnough) (enough-ruled l first most) 0) scheduler m.bfq h.0.enough;
           known = sound-known next sound;
           served = λ slot at. absurd (drained-slot m drained h.1.calm slot (sym (begun-slot l scheduler m.bfq) ∙ at));
         },

@@ -1,4 +1,9 @@
-// The help.
+// The help and the version.
+
+/// What `--version` prints. The number is that of the file VERSION at the root of the repository.
+pub fn version_line() -> &'static str {
+    "bfqctl 0.1.0\n"
+}
 
 /// What `--help` prints.
 pub fn help_text() -> &'static str {
@@ -11,7 +16,7 @@ NAME
 
 SYNOPSIS
     bfqctl --socket PATH COMMAND
-    bfqctl --help
+    bfqctl --help | --version
 
 EXAMPLE
     $ bfqctl --socket /run/bfq/operator hold
@@ -38,12 +43,13 @@ COMMANDS
 OPTIONS
     --socket PATH        the host's socket for its operator
     --help, -h           print this help
+    --version            print the version; no other word may stand beside it
 
 ANSWERS: one line
     group NUMBER         the group that was made
     moved CURSOR LENGTH  how many steps stand now, and how many the line has
     done                 any other call was accepted
-    refused N, notyet N  nothing has changed; `bfqhost --help` has the numbers
+    refused N, notyet N  nothing has changed; `bfqhost --help` has the numbers, and at a terminal the sentence follows
     closed               the host has ended
 
 EXIT STATUS

@@ -20,14 +20,17 @@
 //! | 3 | what came back is no reply | | `frame: bad` |
 //! | 4 | a write to standard output failed | | |
 //! | 5 | no memory | | `memory: none` |
+//!
+//! If standard error is a terminal a second line says more: which word or path it was, or what the number of a refusal means.
 
 mod help;
 mod start;
 mod words;
 
 use start::start;
+use std::io::IsTerminal;
 use std::process::ExitCode;
 
 fn main(rt: HostRuntime) -> ExitCode {
-    ExitCode::from(start(&rt))
+    ExitCode::from(start(&rt, rt.stderr().is_terminal()))
 }

@@ -3,11 +3,11 @@ ghost use Rattle.std.specs.Prelude.{◌≡◌};
 ghost use Rattle.bfqctl.specs.Status.{IsStatus};
 ghost use Rattle.operator_asking.specs.Ending.{status_of};
 
-use crate::help::help_text;
-use crate::words::{Request, request_of};
+use crate::help::{help_text, version_line};
+use crate::words::{Reason, Request, request_of};
 use host_calls::OperatorCall;
-use operator_asking::{CallEnd, run_call, status};
-use operator_words::WordFault;
+use host_options::meaning_of;
+use operator_asking::{CallEnd, run_call, status, write_flushed};
 use std::env;
 use std::io::{self, ErrorKind, Write};
 use std::net::Net;
@@ -16,64 +16,109 @@ use std::rt::Env;
 
 const REFUSED: u8 = 2;
 
-/// Does what the words ask for, and gives the status.
-pub fn start(rt: &(impl Env + Net + AllocGlobal + Print + Eprint)) -> u8
+// The longest answer is 'moved' with two numbers of at most ten digits.
+const ANSWER_BYTES: usize = 64;
+
+/// Does what the words ask for, and gives the status. At a terminal a fault and a refusal are told to a person, too.
+pub fn start(rt: &(impl Env + Net + AllocGlobal + Print + Eprint), at_terminal: bool) -> u8
     ensures { IsStatus result }
 {
     match asked(rt) {
-        Ok(Request::Help) => help(rt),
-        Ok(Request::Call { socket, call }) => tell(rt, run(rt, socket.as_str(), call)),
-        Err(WordFault::Usage) => {
+        Ok(Request::Help) => print(rt, help_text()),
+        Ok(Request::Version) => print(rt, version_line()),
+        Ok(Request::Call { socket, call }) => call_at(rt, socket.as_str(), call, at_terminal),
+        Err(Reason::OutOfMemory) => tell(rt, CallEnd::OutOfMemory),
+        Err(reason) => {
             let _ = rt.eprintln("words: refused");
+            if at_terminal {
+                say_why(rt, &reason);
+            }
             REFUSED
         }
-        Err(WordFault::OutOfMemory) => tell(rt, CallEnd::OutOfMemory),
     }
 }
 
 // What the words ask for. A word that is no text asks for nothing.
-fn asked(rt: &(impl Env + AllocGlobal)) -> Result<Request, WordFault> {
+fn asked(rt: &(impl Env + AllocGlobal)) -> Result<Request, Reason> {
     let given = match env::args(rt) {
         Ok(given) => given,
-        Err(error) if error.kind() == ErrorKind::OutOfMemory => return Err(WordFault::OutOfMemory),
-        Err(_) => return Err(WordFault::Usage),
+        Err(error) if error.kind() == ErrorKind::OutOfMemory => return Err(Reason::OutOfMemory),
+        Err(_) => return Err(Reason::NoText),
     };
     let words: Vec<String> = match given.collect(rt.alloc()) {
         Ok(words) => words,
-        Err(_) => return Err(WordFault::OutOfMemory),
+        Err(_) => return Err(Reason::OutOfMemory),
     };
     request_of(rt.alloc(), words.as_slice())
 }
 
-fn help(rt: &impl Print) -> u8
-    ensures { IsStatus result }
-{
-    match write_help(rt) {
-        Ok(()) => status(CallEnd::Done),
-        Err(_) => status(CallEnd::WriteFault),
+// Tells a person why the words ask for nothing.
+fn say_why(rt: &(impl AllocGlobal + Eprint), reason: &Reason) {
+    if let Ok(text) = reason.text(rt.alloc()) {
+        let _ = eprintln!(rt; "{text}; see bfqctl --help");
     }
 }
 
-fn write_help(rt: &impl Print) -> io::Result<()> {
-    let mut output = io::writer(rt);
-    output.write_all(help_text().as_bytes())?;
-    output.flush()
+fn print(rt: &impl Print, text: &str) -> u8
+    ensures { IsStatus result }
+{
+    if write_flushed(&mut io::writer(rt), text.as_bytes()) {
+        status(CallEnd::Done)
+    } else {
+        status(CallEnd::WriteFault)
+    }
 }
 
-// Makes the call to the host whose socket is at the path, and prints its answer.
-fn run(rt: &(impl Net + AllocGlobal + Print), path: &str, call: OperatorCall) -> CallEnd {
+// Makes the call to the host whose socket is at the path, prints its answer, and gives the status.
+fn call_at(
+    rt: &(impl Net + AllocGlobal + Print + Eprint),
+    path: &str,
+    call: OperatorCall,
+    at_terminal: bool,
+) -> u8
+    ensures { IsStatus result }
+{
     let stream = match UnixStream::connect(rt, path) {
         Ok(stream) => stream,
-        Err(error) if error.kind() == ErrorKind::OutOfMemory => return CallEnd::OutOfMemory,
-        Err(_) => return CallEnd::Socket,
+        Err(error) if error.kind() == ErrorKind::OutOfMemory => return tell(
+            rt,
+            CallEnd::OutOfMemory,
+        ),
+        Err(error) => {
+            let status = tell(rt, CallEnd::Socket);
+            if at_terminal {
+                let _ = eprintln!(rt; "{path}: {error}");
+            }
+            return status;
+        }
     };
-    run_call(
-        rt.alloc(),
-        &mut &stream,
-        &mut &stream,
-        &mut io::writer(rt),
-        call,
-    )
+    // The answer is kept, as its number is looked up once it is printed.
+    let Ok(mut answer) = Vec::with_capacity(rt.alloc(), ANSWER_BYTES) else {
+        return tell(rt, CallEnd::OutOfMemory);
+    };
+    let end = run_call(rt.alloc(), &mut &stream, &mut &stream, &mut answer, call);
+    if !answer.is_empty() && !write_flushed(&mut io::writer(rt), answer.as_slice()) {
+        return tell(rt, CallEnd::WriteFault);
+    }
+    if at_terminal {
+        say_meaning(rt, answer.as_slice());
+    }
+    tell(rt, end)
+}
+
+// Tells a person what the number of a refusal, or of why a call has to wait, means.
+fn say_meaning(rt: &impl Eprint, answer: &[u8]) {
+    let Ok(line) = str::from_utf8(answer) else {
+        return;
+    };
+    match line.trim_end().split_once(' ') {
+        Some(("refused" | "notyet", number)) => {
+            if let Some(meaning) = meaning_of(number) {
+                let _ = rt.eprintln(meaning);
+            }
+        }
+        _ => {}
+    }
 }
 
 // The status of an end. What no answer's text tells stands on standard error.

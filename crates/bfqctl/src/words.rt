@@ -2,14 +2,17 @@
 use clap::error::ErrorKind;
 use clap::{Arg, ArgAction, Command, Error};
 use host_calls::OperatorCall;
+use host_options::grammar_text;
 use operator_words::{WordFault, words_to_call};
-use std::alloc::Global;
+use std::alloc::{AllocError, Global};
 
 /// What the words ask for.
 #[derive(Debug, Drop, PartialEq, Eq)]
 pub enum Request {
     /// Print the help.
     Help,
+    /// Print the version.
+    Version,
     /// Make a call.
     Call {
         /// The path of the host's socket.
@@ -34,36 +37,93 @@ fn bfqctl<'a>(alloc: Global) -> Result<Command<'a>, Error> {
     Ok(command)
 }
 
+/// Why the words ask for nothing.
+#[derive(Drop)]
+pub enum Reason {
+    /// Memory ran out while they were read.
+    OutOfMemory,
+    /// The command's grammar does not have them.
+    Grammar(Error),
+    /// A word is no text.
+    NoText,
+    /// These spell no call.
+    NoCall(String),
+}
+
+impl Reason {
+    /// What a person is told, in one line with no end.
+    pub fn text(&self, alloc: Global) -> Result<String, AllocError> {
+        match self {
+            Reason::OutOfMemory => String::from_str(alloc, "no memory"),
+            // What is missing would stand on further lines.
+            Reason::Grammar(error) if error.kind() == ErrorKind::MissingRequiredArgument => {
+                String::from_str(alloc, "it takes --socket PATH, and then a command")
+            }
+            Reason::Grammar(error) => grammar_text(alloc, error),
+            Reason::NoText => String::from_str(alloc, "a word is no text"),
+            Reason::NoCall(words) => format!(in alloc; "no command is spelled so: {words}"),
+        }
+    }
+}
+
 /// What the words ask for. The first is the name of the program.
-pub fn request_of(alloc: Global, words: &[String]) -> Result<Request, WordFault> {
+pub fn request_of(alloc: Global, words: &[String]) -> Result<Request, Reason> {
+    // It may not stand beside other words, which `clap` would let pass.
+    if words.len() == 2 && words[1].as_str() == "--version" {
+        return Ok(Request::Version);
+    }
     let command = match bfqctl(alloc) {
         Ok(command) => command,
-        Err(error) => return Err(fault(&error)),
+        Err(error) => return Err(why(error)),
     };
     let found = match command.try_get_matches_from(words) {
         Ok(found) => found,
         Err(error) if error.kind() == ErrorKind::DisplayHelp => return Ok(Request::Help),
-        Err(error) => return Err(fault(&error)),
+        Err(error) => return Err(why(error)),
     };
     // No word ends the options: a call begins where they end.
     if words.iter().any(|word| word.as_str() == "--") {
-        return Err(WordFault::Usage);
+        return Err(no_call(alloc, &["--"]));
     }
     let (Some(socket), Some(call)) = (found.get_str("socket"), found.get_strs("call")) else {
-        return Err(WordFault::Usage);
+        return Err(no_call(alloc, &[]));
     };
-    let call = words_to_call(call)?;
+    let call = match words_to_call(call) {
+        Ok(call) => call,
+        Err(WordFault::Usage) => return Err(no_call(alloc, call)),
+        Err(WordFault::OutOfMemory) => return Err(Reason::OutOfMemory),
+    };
     match String::from_str(alloc, socket) {
         Ok(socket) => Ok(Request::Call { socket, call }),
-        Err(_) => Err(WordFault::OutOfMemory),
+        Err(_) => Err(Reason::OutOfMemory),
     }
 }
 
+// That these words spell no call, or want of memory for them.
+fn no_call(alloc: Global, words: &[&str]) -> Reason {
+    match joined(alloc, words) {
+        Ok(words) => Reason::NoCall(words),
+        Err(_) => Reason::OutOfMemory,
+    }
+}
+
+// The words with a space between each two.
+fn joined(alloc: Global, words: &[&str]) -> Result<String, AllocError> {
+    let mut text = String::new(alloc);
+    for word in words {
+        if !text.is_empty() {
+            text.push_str(" ")?;
+        }
+        text.push_str(word)?;
+    }
+    Ok(text)
+}
+
 // Want of memory, and else words that are none of the program's.
-fn fault(error: &Error) -> WordFault {
+fn why(error: Error) -> Reason {
     if error.kind() == ErrorKind::OutOfMemory {
-        WordFault::OutOfMemory
+        Reason::OutOfMemory
     } else {
-        WordFault::Usage
+        Reason::Grammar(error)
     }
 }

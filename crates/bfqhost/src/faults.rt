@@ -1,7 +1,10 @@
-// The statuses, and what is said on standard error.
+// The statuses, and what is said on standard error: of each fault one line for a program, and at a terminal a second one for a person.
 ghost use Rattle.std.specs.Prelude.{◌≡◌};
 
+use host_rings::DoorFault;
+use sector_core::ConfigFault;
 use std::fmt;
+use std::io::{self, ErrorKind};
 
 /// The end of the input, or the operator's stop.
 pub const DONE: u8 = 0;
@@ -24,19 +27,87 @@ pub const REFUSED: u8 = 6;
 /// A socket or a thread cannot be had.
 pub const NO_SOCKET: u8 = 7;
 
-/// Says that this field is out of its limits.
-pub fn bad_field(rt: &impl Eprint, field: impl fmt::Display + Drop) -> u8
+/// A field that is out of its limits.
+#[derive(Clone, Copy)]
+pub enum Field {
+    /// One of the configuration.
+    Config(ConfigFault),
+    /// The sectors of a device of zeros.
+    Sectors,
+    /// The workers of a host that is to serve.
+    Workers,
+    /// Its clients.
+    Clients,
+}
+
+impl Field {
+    // The option that gives the field, and its limits.
+    fn limits(self) -> &'static str {
+        match self {
+            Field::Config(ConfigFault::NrRequests) => "--nr-requests is 1 to 256",
+            Field::Config(ConfigFault::Tags) => "--tags is 1 to 64",
+            Field::Config(ConfigFault::MaxBudget) => "--max-budget is 256 to 65536",
+            Field::Config(ConfigFault::FirstBudget) => "--first-budget is 256 to --max-budget",
+            Field::Config(ConfigFault::Timeout) => "--timeout is 1 to 1000",
+            Field::Config(ConfigFault::HistoryMax) => "--history is 1 to 16777216",
+            Field::Config(ConfigFault::FirstVtime) => "--first-vtime is 0 to 4611686018427387904",
+            Field::Sectors => "--sectors is 0 to 65536",
+            Field::Workers => "--workers is 1 to 4",
+            Field::Clients => "--clients is 1 to 16",
+        }
+    }
+}
+
+impl fmt::Display for Field {
+    fn fmt<W: fmt::Write>(&self, f: &mut fmt::Formatter<W>) -> fmt::Result {
+        match self {
+            Field::Config(fault) => write!(f, "{fault}"),
+            Field::Sectors => write!(f, "sectors"),
+            Field::Workers => write!(f, "workers"),
+            Field::Clients => write!(f, "clients"),
+        }
+    }
+}
+
+/// Says that the words ask for nothing, and to a person why.
+pub fn bad_words(rt: &impl Eprint, why: Option<&str>) -> u8
     ensures { result ≡ REFUSED }
 {
-    let _ = eprintln!(rt; "config: {field}");
+    let _ = rt.eprintln("words: refused");
+    if let Some(why) = why {
+        let _ = eprintln!(rt; "{why}; see bfqhost --help");
+    }
     REFUSED
 }
 
-/// Says that the image cannot be had.
-pub fn no_image(rt: &impl Eprint) -> u8
+/// Says that this field is out of its limits, and to a person which these are.
+pub fn bad_field(rt: &impl Eprint, field: Field, at_terminal: bool) -> u8
+    ensures { result ≡ REFUSED }
+{
+    let _ = eprintln!(rt; "config: {field}");
+    if at_terminal {
+        let limits = field.limits();
+        let _ = eprintln!(rt; "{limits}; see bfqhost --help");
+    }
+    REFUSED
+}
+
+/// Says that the image cannot be had, and to a person why.
+pub fn no_image(rt: &impl Eprint, path: &str, error: io::Error, at_terminal: bool) -> u8
     ensures { result ≡ REFUSED }
 {
     let _ = rt.eprintln("image: cannot be read");
+    if at_terminal {
+        let _ = match (error.kind(), error.raw_os_error()) {
+            (ErrorKind::InvalidInput, None) => {
+                eprintln!(rt; "{path}: neither a regular file nor a block device")
+            }
+            (ErrorKind::InvalidData, None) => eprintln!(rt;
+                "{path}: its size has changed meanwhile"
+            ),
+            _ => eprintln!(rt; "{path}: {error}"),
+        };
+    }
     REFUSED
 }
 
@@ -48,10 +119,34 @@ pub fn no_memory(rt: &impl Eprint) -> u8
     NO_MEMORY
 }
 
-/// Says that a socket or a thread cannot be had.
-pub fn no_socket(rt: &impl Eprint) -> u8
+/// Says that a socket or a thread cannot be had, and to a person which and why.
+pub fn no_socket(rt: &impl Eprint, dir: &str, fault: Option<DoorFault>, at_terminal: bool) -> u8
     ensures { result ≡ NO_SOCKET }
 {
     let _ = rt.eprintln("socket: failed");
+    if at_terminal {
+        say_why(rt, dir, fault);
+    }
     NO_SOCKET
+}
+
+// Why a socket or a thread cannot be had.
+fn say_why(rt: &impl Eprint, dir: &str, fault: Option<DoorFault>) {
+    let Some(DoorFault { client, error }) = fault else {
+        let _ = rt.eprintln("the system gives no further thread");
+        return;
+    };
+    if dir.is_empty() {
+        let _ = rt.eprintln("--dir names no folder");
+        return;
+    }
+    let _ = match client {
+        None => eprint!(rt; "{dir}/operator: "),
+        Some(number) => eprint!(rt; "{dir}/client{number}: "),
+    };
+    let _ = match (error.kind(), error.raw_os_error()) {
+        (ErrorKind::AddrInUse, None) => rt.eprintln("another host serves there"),
+        (ErrorKind::AlreadyExists, None) => rt.eprintln("a file that is no socket stands there"),
+        _ => rt.eprintln(error),
+    };
 }

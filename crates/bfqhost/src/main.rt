@@ -17,14 +17,17 @@
 //! | 5 | no memory |
 //! | 6 | bad words, configuration or image; standard output is empty |
 //! | 7 | a socket or a thread cannot be had |
+//!
+//! Of each fault one line is told. If standard error is a terminal a second line says more of it.
 
 mod faults;
 mod serving;
 mod start;
 
 use start::start;
+use std::io::IsTerminal;
 use std::process::ExitCode;
 
 fn main(rt: HostRuntime) -> ExitCode {
-    ExitCode::from(start(&rt))
+    ExitCode::from(start(&rt, rt.stderr().is_terminal()))
 }

@@ -3,9 +3,9 @@ ghost use Rattle.std.specs.Prelude.{◌≡◌, ◌≤◌, ◌↔◌, IsErr, IsSo
 ghost use Rattle.sector_core.specs.Config.{fault_of};
 ghost use Rattle.bfqhost.specs.Serving.{IsServeStatus, IsEndStatus, serve_status_of};
 
-use crate::faults::{DONE, bad_field, no_image, no_memory, no_socket};
+use crate::faults::{DONE, Field, bad_field, no_image, no_memory, no_socket};
 use base_image::file_images;
-use host_rings::{ServeEnd, ServeOptions, run_server};
+use host_rings::{DoorFault, ServeEnd, ServeOptions, run_server};
 use sector_core::{Config, ConfigDraft, ConfigFault};
 use std::fs::File;
 use std::io::ErrorKind;
@@ -22,6 +22,7 @@ const MOST_WORKERS: u64 = 4;
 const MOST_CLIENTS: u64 = 16;
 
 /// Serves a host over the image in a file, where the configuration is within its limits and then the image can be had. Gives the status.
+/// At a terminal a fault is told to a person, too.
 pub fn serve<R>(
     rt: &R,
     draft: ConfigDraft,
@@ -29,6 +30,7 @@ pub fn serve<R>(
     dir: &str,
     clients: u64,
     workers: u64,
+    at_terminal: bool,
 ) -> u8
 where
     R: Files<File = File> + AllocGlobal + Eprint,
@@ -37,19 +39,19 @@ where
 {
     let config = match checked(draft) {
         Ok(config) => config,
-        Err(fault) => return bad_field(rt, fault),
+        Err(fault) => return bad_field(rt, Field::Config(fault), at_terminal),
     };
     if workers == 0 || workers > MOST_WORKERS {
-        return bad_field(rt, "workers");
+        return bad_field(rt, Field::Workers, at_terminal);
     }
     if clients == 0 || clients > MOST_CLIENTS {
-        return bad_field(rt, "clients");
+        return bad_field(rt, Field::Clients, at_terminal);
     }
     let options = ServeOptions {
         dir,
         clients: clients as u8,
     };
-    over_file(rt, config, image, workers as u8, options)
+    over_file(rt, config, image, workers as u8, options, at_terminal)
 }
 
 // The configuration, if no field is out of its limits. Of what is then known of its numbers nothing is said here, as nobody needs it.
@@ -60,7 +62,14 @@ fn checked(draft: ConfigDraft) -> Result<Config, ConfigFault>
 }
 
 // Serves the host over the image in a file.
-fn over_file<R>(rt: &R, config: Config, image: &str, workers: u8, options: ServeOptions<'_>) -> u8
+fn over_file<R>(
+    rt: &R,
+    config: Config,
+    image: &str,
+    workers: u8,
+    options: ServeOptions<'_>,
+    at_terminal: bool,
+) -> u8
 where
     R: Files<File = File> + AllocGlobal + Eprint,
     R: Threads + Wait + Net + Clock + Copy + Drop + Send + 'static,
@@ -68,20 +77,30 @@ where
     requires clients { 1 ≤ options.clients × options.clients ≤ 16 }
     ensures { IsEndStatus result }
 {
+    let mut fault = None;
     match file_images(rt, rt.alloc(), image, workers) {
-        Ok(images) => status(rt, run_server(*rt, rt.alloc(), config, images, options)),
+        Ok(images) => {
+            let end = run_server(*rt, rt.alloc(), config, images, options, &mut fault);
+            status(rt, end, options.dir, fault, at_terminal)
+        }
         Err(error) if error.kind() == ErrorKind::OutOfMemory => no_memory(rt),
-        Err(_) => no_image(rt),
+        Err(error) => no_image(rt, image, error, at_terminal),
     }
 }
 
 // The status of an end, which is told where the host was not stopped.
-fn status(rt: &impl Eprint, end: ServeEnd) -> u8
+fn status(
+    rt: &impl Eprint,
+    end: ServeEnd,
+    dir: &str,
+    fault: Option<DoorFault>,
+    at_terminal: bool,
+) -> u8
     ensures { result ≡ serve_status_of end }
 {
     match end {
         ServeEnd::Stopped => DONE,
-        ServeEnd::Socket => no_socket(rt),
+        ServeEnd::Socket => no_socket(rt, dir, fault, at_terminal),
         ServeEnd::OutOfMemory => no_memory(rt),
     }
 }

@@ -5,11 +5,12 @@ ghost use Rattle.script_line.specs.declared.ending.ScriptEnd.{ScriptEnd};
 ghost use Rattle.bfqhost.specs.Status.{status_of, IsRefused, IsSimStatus, IsStatus};
 
 use crate::faults::{
-    BAD_LINE, DONE, NO_MEMORY, READ_FAULT, REFUSED, WRITE_FAULT, bad_field, no_image, no_memory,
+    BAD_LINE, DONE, Field, NO_MEMORY, READ_FAULT, WRITE_FAULT, bad_field, bad_words, no_image,
+    no_memory,
 };
 use crate::serving::serve;
 use base_image::{Image, ZeroImage, file_image};
-use host_options::{Request, WordFault, help_text, request_of};
+use host_options::{Request, WordFault, help_text, reason_of, request_of, version_line};
 use script_host::run_script;
 use script_line::ScriptEnd;
 use sector_core::{Config, ConfigDraft};
@@ -28,21 +29,27 @@ const MOST_SECTORS: u64 = 65_536;
 // Standard output is written in pieces of this size.
 const OUTPUT_BYTES: usize = 65_536;
 
-/// Does what the words ask for, and gives the status.
-pub fn start<R>(rt: &R) -> u8
+/// Does what the words ask for, and gives the status. At a terminal a fault is told to a person, too.
+pub fn start<R>(rt: &R, at_terminal: bool) -> u8
 where
     R: Env + Files<File = File> + AllocGlobal + Input + Print + Eprint,
     R: Threads + Wait + Net + Clock + Copy + Drop + Send + 'static,
 {
-    match asked(rt) {
-        Ok(Request::Help) => help(rt),
+    let words = match words_of(rt) {
+        Ok(words) => words,
+        Err(WordFault::Usage) => return bad_words(rt, at_terminal.then_some("a word is no text")),
+        Err(WordFault::OutOfMemory) => return no_memory(rt),
+    };
+    match request_of(rt.alloc(), words.as_slice()) {
+        Ok(Request::Help) => print(rt, help_text()),
+        Ok(Request::Version) => print(rt, version_line()),
         Ok(
             Request::Sim {
                 draft,
                 sectors,
                 image,
             },
-        ) => sim(rt, draft, sectors, image),
+        ) => sim(rt, draft, sectors, image, at_terminal),
         Ok(
             Request::Serve {
                 draft,
@@ -51,39 +58,47 @@ where
                 clients,
                 workers,
             },
-        ) => serve(rt, draft, image.as_str(), dir.as_str(), clients, workers),
-        Err(WordFault::Usage) => {
-            let _ = rt.eprintln("words: refused");
-            REFUSED
-        }
+        ) => serve(
+            rt,
+            draft,
+            image.as_str(),
+            dir.as_str(),
+            clients,
+            workers,
+            at_terminal,
+        ),
+        Err(WordFault::Usage) if at_terminal => match reason_of(rt.alloc(), words.as_slice()) {
+            Ok(why) => bad_words(rt, Some(why.as_str())),
+            Err(_) => bad_words(rt, None),
+        },
+        Err(WordFault::Usage) => bad_words(rt, None),
         Err(WordFault::OutOfMemory) => no_memory(rt),
     }
 }
 
-// What the words ask for. A word that is no text asks for nothing.
-fn asked(rt: &(impl Env + AllocGlobal)) -> Result<Request, WordFault> {
+// The words of the command line, each of which must be a text.
+fn words_of(rt: &(impl Env + AllocGlobal)) -> Result<Vec<String>, WordFault> {
     let given = match env::args(rt) {
         Ok(given) => given,
         Err(error) if error.kind() == ErrorKind::OutOfMemory => return Err(WordFault::OutOfMemory),
         Err(_) => return Err(WordFault::Usage),
     };
-    let words: Vec<String> = match given.collect(rt.alloc()) {
-        Ok(words) => words,
-        Err(_) => return Err(WordFault::OutOfMemory),
-    };
-    request_of(rt.alloc(), words.as_slice())
+    match given.collect(rt.alloc()) {
+        Ok(words) => Ok(words),
+        Err(_) => Err(WordFault::OutOfMemory),
+    }
 }
 
-fn help(rt: &impl Print) -> u8 {
-    match write_help(rt) {
+fn print(rt: &impl Print, text: &str) -> u8 {
+    match write_flushed(rt, text) {
         Ok(()) => DONE,
         Err(_) => WRITE_FAULT,
     }
 }
 
-fn write_help(rt: &impl Print) -> io::Result<()> {
+fn write_flushed(rt: &impl Print, text: &str) -> io::Result<()> {
     let mut output = io::writer(rt);
-    output.write_all(help_text().as_bytes())?;
+    output.write_all(text.as_bytes())?;
     output.flush()
 }
 
@@ -94,17 +109,18 @@ fn sim(
     draft: ConfigDraft,
     sectors: u64,
     image: Option<String>,
+    at_terminal: bool,
 ) -> u8
     ensures field { IsSimStatus draft sectors (is_some image) result }
     ensures status { IsStatus result }
 {
     match (Config::check(draft), image) {
-        (Err(fault), _) => bad_field(rt, fault),
-        (Ok(config), Some(path)) => over_file(rt, config, path.as_str()),
+        (Err(fault), _) => bad_field(rt, Field::Config(fault), at_terminal),
+        (Ok(config), Some(path)) => over_file(rt, config, path.as_str(), at_terminal),
         (Ok(config), None) if sectors <= MOST_SECTORS => {
             simulate(rt, config, ZeroImage::new(sectors))
         }
-        (Ok(_), None) => bad_field(rt, "sectors"),
+        (Ok(_), None) => bad_field(rt, Field::Sectors, at_terminal),
     }
 }
 
@@ -113,13 +129,14 @@ fn over_file(
     rt: &(impl Files<File = File> + AllocGlobal + Input + Print + Eprint),
     config: Config,
     path: &str,
+    at_terminal: bool,
 ) -> u8
     ensures { IsStatus result }
 {
     match file_image(rt, path) {
         Ok(image) => simulate(rt, config, image),
         Err(error) if error.kind() == ErrorKind::OutOfMemory => no_memory(rt),
-        Err(_) => no_image(rt),
+        Err(error) => no_image(rt, path, error, at_terminal),
     }
 }
 

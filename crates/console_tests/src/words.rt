@@ -1,5 +1,5 @@
 // What the words mean, which no clause says.
-use host_options::{Request, WordFault, request_of};
+use host_options::{Request, WordFault, meaning_of, reason_of, request_of, version_line};
 use sector_core::{ConfigDraft, Scheduler};
 use std::alloc::{AllocError, Global};
 use std::process::Abort;
@@ -130,6 +130,87 @@ bfqhost sim --tags 5 -h";
 #[test]
 fn words_that_ask_for_help(rt: HostRuntime) -> Result<(), Fail> {
     expect(&rt, HELP, Request::Help)
+}
+
+#[test]
+fn words_that_ask_for_the_version(rt: HostRuntime) -> Result<(), Fail> {
+    expect(&rt, "bfqhost --version", Request::Version)?;
+    assert_eq!(rt; version_line(), "bfqhost 0.1.0\n");
+    Ok(())
+}
+
+// Lines that ask for nothing, and what a person is told of each.
+const FAULTS: [(&str, &str); 15] = [
+    ("bfqhost", "neither sim nor serve is named"),
+    ("bfqhost --version sim", "unexpected --version"),
+    ("bfqhost --version --version", "unexpected --version"),
+    ("bfqhost sim --version", "unexpected --version"),
+    ("bfqhost simulate", "unexpected simulate"),
+    ("bfqhost sim --client 4", "unexpected --client"),
+    ("bfqhost sim now", "unexpected now"),
+    ("bfqhost sim --", "unexpected --"),
+    (
+        "bfqhost sim --tags four",
+        "--tags takes a whole number below 2^64, and not four",
+    ),
+    (
+        "bfqhost sim --tags 04",
+        "--tags takes a whole number below 2^64, and not 04",
+    ),
+    (
+        "bfqhost sim --sectors=18446744073709551616",
+        "--sectors takes a whole number below 2^64, and not 18446744073709551616",
+    ),
+    (
+        "bfqhost sim --scheduler kyber",
+        "--scheduler is bfq or none, and not kyber",
+    ),
+    ("bfqhost serve --dir sockets", "serve needs --image"),
+    ("bfqhost serve --image disk.img", "serve needs --dir"),
+    (
+        "bfqhost sim --tags 1 --tags 2",
+        "the argument '--tags <tags>' cannot be used multiple times",
+    ),
+];
+
+#[test]
+fn why_words_ask_for_nothing(rt: HostRuntime) -> Result<(), Fail> {
+    for (line, told) in FAULTS {
+        let words = words_of(rt.alloc(), line)?;
+        assert_eq!(rt;
+            request_of(rt.alloc(), words.as_slice()),
+            Err(WordFault::Usage),
+            "{line}"
+        );
+        let why = reason_of(rt.alloc(), words.as_slice())?;
+        assert_eq!(rt; why.as_str(), told, "{line}");
+    }
+    Ok(())
+}
+
+#[test]
+fn meanings_of_numbers(rt: HostRuntime) {
+    assert_eq!(rt;
+        meaning_of("1"),
+        Some("1 BadSeat: seats are numbered 0 to 15")
+    );
+    assert_eq!(rt;
+        meaning_of("6"),
+        Some("6 RootGroup: group 0 is the root, which is neither dropped nor given a weight")
+    );
+    assert_eq!(rt;
+        meaning_of("34"),
+        Some("34 OutOfMemory: there was no memory for this call")
+    );
+    assert_eq!(rt;
+        meaning_of("43"),
+        Some(
+            "43 RequestsFull: there are as many requests as --nr-requests allows, and this read or write joins none of them"
+        )
+    );
+    for number in ["0", "7x", "35", "40", "", "attach"] {
+        assert_eq!(rt; meaning_of(number), None, "{number}");
+    }
 }
 
 #[test]

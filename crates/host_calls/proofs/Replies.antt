@@ -1,6 +1,6 @@
 -- What a call is answered is the reply of its own kind, or a refusal, or why it has to wait.
 use Rattle.std.proofs.Common.{true, false, Bool, ◌≡◌, inl, inr, ℕ, ◌+◌, ◌-◌, ◌≤◌, ◌==◌, ◌||◌, ◌&&◌, nat_le, nat_lt, not, length, is_some, List, [], ◌∷◌, ◌++◌, All, Option, Some, None, cond, unwrap_or, refl, sym, subst, ap}
-use Rattle.std.specs.Option.{option_map, option_and_then}
+use Rattle.std.specs.Option.{option_map}
 use Rattle.std.proofs.lemmas.List.Elements.{All-head}
 use Rattle.sector_core.specs.First.{first_of}
 use Rattle.sector_core.specs.declared.bio.Bio.{Bio}
@@ -9,11 +9,10 @@ use Rattle.sector_core.specs.declared.bio.BioResult.TheVariants.{Read, Written, 
 use Rattle.sector_core.specs.declared.bio.Outcome.{Outcome}
 use Rattle.sector_core.specs.declared.config.Scheduler.{Scheduler}
 use Rattle.sector_core.specs.declared.config.Scheduler.TheVariants.{Plain as PlainScheduler, Bfq as BfqScheduler}
-use Rattle.process_queue.specs.Next.{has_start}
 use Rattle.group_tree.specs.Groups.{depth, most_levels}
-use Rattle.change_record.specs.Rules.{stands, charge}
+use Rattle.change_record.specs.Rules.{stands}
 use Rattle.change_record.specs.declared.change.InService.{InService}
-use Rattle.change_record.specs.Machine.{WholeRequest, Flight, Bfq, Plain}
+use Rattle.change_record.specs.Machine.{WholeRequest, Flight, Plain}
 use Rattle.plain_machine.specs.declared.answer.Reply.{Reply}
 use Rattle.plain_machine.specs.declared.answer.Reply.TheVariants.{Attached, Queued, Completed, Left, Issued, Finished, Requeued, Group, Done, Moved}
 use Rattle.plain_machine.specs.declared.answer.Answer.{Answer}
@@ -25,9 +24,10 @@ use Rattle.plain_machine.specs.declared.step.Step.{Step}
 use Rattle.plain_machine.specs.declared.step.Step.TheVariants.{Attach, Submit, Reap, Leave, Dispatch, Finish, Requeue, GroupMake, GroupDrop, SetWeight, Freeze, Thaw, Switch, Tick}
 use Rattle.plain_machine.specs.declared.call.Call.{Call}
 use Rattle.plain_machine.specs.declared.call.Call.TheVariants.{Do, Hold, Release, Undo, Redo}
-use Rattle.plain_machine.specs.Step.{Limits, unless, accepted, accepted_if, attached, submitted, woken, session_tests, seat_tests, unreaped, payload_length, needs_request, requests_of, reaped, left, next_queue, lowest_free, range_of, size_of, next_request, with_budget_in, with_slot, without_first, without_empty, shape, sent, sent_next, sent_in, sent_by_bfq, sent_by, dispatch_to, sent_again, dispatch_of, fits, after_finish, finished, finish_of, requeued, requeue_of, free_group, is_weight, is_used, made_group, group_tests, switched, is_same, ticked, step}
+use Rattle.plain_machine.specs.Step.{Limits, unless, accepted, accepted_if, attached, submitted, woken, session_tests, seat_tests, unreaped, payload_length, needs_request, requests_of, reaped, left, next_queue, lowest_free, range_of, size_of, sent, sent_by_bfq, sent_by, dispatch_to, sent_again, dispatch_of, fits, after_finish, finished, finish_of, requeued, requeue_of, free_group, is_weight, is_used, made_group, group_tests, switched, is_same, ticked, step}
 use Rattle.plain_machine.specs.Keeper.{State, machine_of, has_room, entered, did, called, replay}
-use Rattle.plain_machine.proofs.Puts.{and_then_is, map_is}
+use Rattle.plain_machine.proofs.Puts.{map_is}
+use Rattle.plain_machine.proofs.Sent.{sent-is as bfq-sent}
 use Rattle.host_calls.specs.Frames.{ResultHasFrame}
 use Rattle.host_calls.specs.Lengths.{FitsSectors, HasFittingResult}
 use Rattle.host_calls.specs.Answered.{IsReplyOf, IsReplyTo, StepWaits, CallWaits, IsAnswer, CallsAreAnswered}
@@ -102,16 +102,9 @@ sent-is m n room seat tag (r ∷ rest) = accepted-is IsIssued Never room m _ (Is
 
 sent_by_bfq-is : (l : Limits) (m : Plain) (n tag : ℕ) (o : Plain × Reply) → sent_by_bfq l m n tag ≡ Some o → IsIssued o.1
 sent_by_bfq-is l m n tag o e =
-    let within = and_then_is (λ b. sent_in l m n tag (with_slot b)) (with_budget_in l m m.bfq.slot) o e in
-    let b : Bfq = with_slot within.0 in
-    let slot = and_then_is (λ slot. option_and_then (sent_next l m n tag b slot.seat) (next_request m slot.seat)) b.slot o within.2 in
-    let seat : ℕ = slot.0.seat in
-    let next = and_then_is (sent_next l m n tag b seat) (next_request m seat) o slot.2 in
-    let r : WholeRequest = next.0 in
-    let rest : List WholeRequest = without_first (has_start shape (range_of r.bios).start) (m.queue seat) in
-    let done = map_is _ (option_and_then (without_empty l rest) (charge (range_of r.bios).count b)) o next.2 in
+    let s = bfq-sent l m n tag o e in
     let Q : Plain × Reply → Type 0 = λ x. IsIssued x.1 in
-    subst Q done.2 (tag, n, r.op, range_of r.bios, refl)
+    subst Q s.made (tag, n, s.request.op, range_of s.request.bios, refl)
 
 sent_by-is : (l : Limits) (m : Plain) (n : ℕ) (room : Bool) (seat tag : ℕ) (scheduler : Scheduler) → IsAnswer IsIssued Never (sent_by l m n room seat tag scheduler).1
 sent_by-is l m n room seat tag PlainScheduler = sent-is m n room seat tag (m.queue seat)

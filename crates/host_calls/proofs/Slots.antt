@@ -1,6 +1,6 @@
 -- The queue in service is as old as serials allow, and groups have the greatest budget.
 use Rattle.std.proofs.Common.{true, false, ◌≡◌, ◌≢◌, ℕ, ◌+◌, ◌<◌, ◌≤◌, nat_lt, List, Some, cond, refl, ◌∙◌, subst, arith, rules}
-use Rattle.group_tree.specs.Groups.{entity_of}
+use Rattle.group_tree.specs.Groups.{entity_of, path}
 use Rattle.change_record.specs.declared.change.InService.{InService}
 use Rattle.change_record.specs.Machine.{Bfq, put}
 use Rattle.change_record.specs.Rules.{budget_after}
@@ -9,7 +9,7 @@ use Rattle.plain_machine.specs.Step.{Limits, opening_bfq, older}
 use Rattle.plain_machine.specs.Keeper.{machine_of, replay}
 use Rattle.plain_machine.proofs.Puts.{put_other, some_is}
 use Rattle.host_calls.specs.Bounds.{AgesAreBounded, GroupsHaveTheGreatestBudget}
-use Rattle.plain_machine.proofs.Rules.{Changes}
+use Rattle.plain_machine.proofs.Rules.{Any, all_any, Changes}
 use Rattle.plain_machine.proofs.Ruled.{Ruled, ruled-leads}
 use Rattle.plain_machine.proofs.Stamps.{machine-leads}
 
@@ -34,16 +34,19 @@ put-greatest l budget seat v small h group lt =
     let other : entity_of group ≢ seat = λ same. omega (arith, same, small) in
     put_other budget seat v (entity_of group) other ∙ h group lt
 
-slotted-changes : (l : Limits) (n : ℕ) → Changes (Slotted l (n + 1))
+slotted-changes : (l : Limits) (n : ℕ) → Changes l.max_budget Any (Slotted l (n + 1))
 slotted-changes l n = record {
-  stamps = λ b start entity le h. h;
-  jumps = λ b group start is h. h;
-  serves = λ b group entity h. h;
-  selects = λ b seat small h. (one-young (n + 1) (record { seat = seat; service = 0; age = 0 }) (small, omega arith), h.1);
+  paths = λ b slot is h. all_any (path b.parent slot.seat);
+  stamps = λ b start entity _ le h. h;
+  selects = record {
+    jumps = λ b group start nobody is h. h;
+    passes = λ b group entity is high h. h;
+    begins = λ b group seat is small h. (one-young (n + 1) (record { seat = seat; service = 0; age = 0 }) (small, omega arith), h.1);
+  };
   charges = λ b slot sectors is h. (one-young (n + 1) (record slot { service = slot.service + sectors }) (h.0 slot is), h.1);
-  rises = λ b group vtime le h. h;
-  ends = λ b slot cause most is h. (λ s e. cc, put-greatest l b.budget slot.seat (budget_after cause (b.budget slot.seat) slot.service most) (h.0 slot is).0 h.1);
-  rests = λ b finish entity le h. h;
+  rises = λ b group vtime rise le h. h;
+  ends = λ b slot cause is h. (λ s e. cc, put-greatest l b.budget slot.seat (budget_after cause (b.budget slot.seat) slot.service l.max_budget) (h.0 slot is).0 h.1);
+  rests = λ b finish entity _ le h. h;
 }
 
 slotted-later : (l : Limits) (n n' : ℕ) (b : Bfq) → n ≤ n' → Slotted l n b → Slotted l n' b
@@ -65,7 +68,7 @@ slotted-ruled l = record {
   goes = λ n b entity h. h;
   weighs = λ n b entity weight h. h;
   opens = λ n b group h. h;
-  restarts = λ n b entity h. h;
+  restarts = λ n b entity group up h. h;
   budgets = λ n b h. (h.0, first-greatest l b.budget h.1);
   ticks = λ n b slot is h.
       let its = h.0 slot is in

@@ -4,6 +4,7 @@ use Rattle.std.specs.List.{filter}
 use Rattle.std.proofs.lemmas.Bool.{cases_eq, ltb-true}
 use Rattle.service_tree.specs.declared.member.Member.{Member}
 use Rattle.service_tree.specs.Members.{Service, is_active, numbered, lesser, least}
+use Rattle.group_tree.specs.Groups.{path}
 use Rattle.change_record.specs.Exchange.{with_member, with_vtime}
 use Rattle.change_record.specs.Tables.{empty_service}
 use Rattle.change_record.specs.Machine.{Bfq, put}
@@ -12,7 +13,8 @@ use Rattle.plain_machine.specs.declared.call.Call.{Call}
 use Rattle.plain_machine.specs.Step.{Limits, opening_bfq}
 use Rattle.plain_machine.proofs.Puts.{put_here, put_other, some_is}
 use Rattle.host_calls.specs.Bounds.{AreTimely, TimesAreBounded}
-use Rattle.plain_machine.proofs.Rules.{Changes}
+use Rattle.plain_machine.proofs.Placed.{places_of, placed, put_place}
+use Rattle.plain_machine.proofs.Rules.{Any, all_any, Changes}
 use Rattle.plain_machine.proofs.Ruled.{Ruled, ruled-leads}
 use Rattle.plain_machine.proofs.Stamps.{machine-leads}
 
@@ -44,10 +46,9 @@ put-timely b group tree its h g = elim (cases_eq g group) [
 ]
 
 -- a member changes, or goes
-member-timely : (b : Bfq) (group entity : ℕ) (new : Option Member) → ((member : Member) → new ≡ Some member → HasTimes member) → Timely b
-    → (g : ℕ) → AreTimely (put b.service group (with_member (b.service group) entity new) g)
+member-timely : (b : Bfq) (group entity : ℕ) (new : Option Member) → ((member : Member) → new ≡ Some member → HasTimes member) → Timely b → Timely (put_place group entity new b)
 member-timely b group entity new its h =
-    put-timely b group (with_member (b.service group) entity new) ((h group).0, each-set HasTimes (b.service group).members entity new (h group).1 its) h
+    put-timely b group (with_member (b.service group) entity new) ((h group).0, each-set HasTimes (places_of b group) entity new (h group).1 its) h
 
 put_member-timely : (b : Bfq) (group entity : ℕ) (new : Member) → HasTimes new → Timely b → Timely (put_member group entity new b)
 put_member-timely b group entity new its h = member-timely b group entity (Some new) (λ member e. subst HasTimes (some_is new member e) its) h
@@ -62,7 +63,7 @@ known-timely None h = (omega arith, omega arith)
 known-timely (Some member) h = h member refl
 
 member_in-timely : (b : Bfq) (group entity : ℕ) → Timely b → HasTimes (member_in b group entity)
-member_in-timely b group entity h = known-timely (slice_index_or (b.service group).members entity None) ((h group).1 entity)
+member_in-timely b group entity h = known-timely (placed b group entity) ((h group).1 entity)
 
 -- the least start is that of a member
 lesser-le : (n : ℕ) (o : Option ℕ) → lesser n o ≤ n
@@ -88,28 +89,31 @@ least_start-timely base (Some m ∷ members) start h e =
       | false ↦ λ f. least_start-timely (base + 1) members start (λ k member g. h (suc k) member g) f
     ] e
 
-timely-changes : Changes Timely
-timely-changes = record {
-  stamps = λ b start entity le h. put_member-timely b (group_of b entity) entity _ (omega (arith, le), le) h;
-  jumps = λ b group start is h. put_vtime-timely b group start (least_start-timely 0 (b.service group).members start (h group).1 is) h;
-  serves = λ b group entity h. put_member-timely b group entity _ (member_in-timely b group entity h) h;
-  selects = λ b seat small h. h;
+timely-changes : (most : ℕ) → Changes most Any Timely
+timely-changes most = record {
+  paths = λ b slot is h. all_any (path b.parent slot.seat);
+  stamps = λ b start entity _ le h. put_member-timely b (group_of b entity) entity _ (omega (arith, le), le) h;
+  selects = record {
+    jumps = λ b group start nobody is h. put_vtime-timely b group start (least_start-timely 0 (places_of b group) start (h group).1 is) h;
+    passes = λ b group entity is high h. put_member-timely b group entity _ (member_in-timely b group entity h) h;
+    begins = λ b group seat is small h. put_member-timely b group seat _ (member_in-timely b group seat h) h;
+  };
   charges = λ b slot sectors is h. h;
-  rises = λ b group vtime le h. put_vtime-timely b group vtime le h;
-  ends = λ b slot cause most is h. h;
-  rests = λ b finish entity le h. put_member-timely b (group_of b entity) entity _ (le, le) h;
+  rises = λ b group vtime rise le h. put_vtime-timely b group vtime le h;
+  ends = λ b slot cause is h. h;
+  rests = λ b finish entity _ le h. put_member-timely b (group_of b entity) entity _ (le, le) h;
 }
 
 timely-ruled : (l : Limits) → l.first_vtime ≤ 2 ^ 62 → Ruled l (λ n b. Timely b)
 timely-ruled l first = record {
   later = λ n n' b le h. h;
-  rules = λ n. timely-changes;
+  rules = λ n. timely-changes l.max_budget;
   enters = λ n b entity group weight h. put_member-timely b group entity _ (first, first) h;
   begins = λ n b seat small h. h;
   goes = λ n b entity h. member-timely b (group_of b entity) entity None (λ member e. cc) h;
   weighs = λ n b entity weight h. h;
   opens = λ n b group h. put_vtime-timely b group l.first_vtime first h;
-  restarts = λ n b entity h. put_member-timely b (group_of b entity) entity _ (first, first) h;
+  restarts = λ n b entity group up h. put_member-timely b (group_of b entity) entity _ (first, first) h;
   budgets = λ n b h. h;
   ticks = λ n b slot is h. h;
 }

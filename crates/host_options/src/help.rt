@@ -1,8 +1,27 @@
-// The help.
+// The help and the version.
 
 /// What `--help` prints.
 pub fn help_text() -> &'static str {
     HELP
+}
+
+/// What `--version` prints. The number is that of the file VERSION at the root of the repository.
+pub fn version_line() -> &'static str {
+    "bfqhost 0.1.0\n"
+}
+
+/// The line of the help on a refusal or a cause, without the blanks before it: `28 NotHeld: ..`. The exit statuses, which begin with a
+/// number too, have no colon.
+pub fn meaning_of(number: &str) -> Option<&'static str> {
+    for line in HELP.lines() {
+        let line = line.trim_start();
+        if let Some((first, rest)) = line.split_once(' ') {
+            if first == number && rest.contains(':') {
+                return Some(line);
+            }
+        }
+    }
+    None
 }
 
 const HELP: &str = "\
@@ -12,7 +31,7 @@ NAME
 SYNOPSIS
     bfqhost sim [OPTION]... < SCRIPT
     bfqhost serve --image FILE --dir DIR [OPTION]...
-    bfqhost --help
+    bfqhost --help | --version
 
 EXAMPLE
     $ printf 'attach 0 0 4\\nwrite 0 1 5 1 65\\ndispatch\\nfinish 0 3 stored\\nreap 0 1\\n' | bfqhost sim
@@ -33,6 +52,7 @@ OPTIONS of sim and serve
     --first-vtime N      virtual time at the start, 0 to 2^62 (0)
     --image FILE         the device is this file, which is read and never written
     --help, -h           print this help
+    --version            print the version; no other word may stand beside it
 
 OPTION of sim
     --sectors N          sectors of a device of zeros, 0 to 65536 (1024); not used if there is an image
@@ -45,7 +65,7 @@ OPTIONS of serve
 SERVE
     It serves until the operator stops it (bfqctl --socket DIR/operator stop). Each read or write makes four calls:
     so the usual history holds 16384 of them, and then nothing more is accepted. Say --history 16777216 for a long run.
-    A line on standard error says when it serves, and another when nine tenths of the history are used.
+    A line on standard error says when it serves, another when nine tenths of the history are used, and one when it is full.
 
 SCRIPT: one call a line, words joined by one space; an empty line or one that begins with # is skipped
     attach SEAT GROUP PRIO               read SEAT SESSION START COUNT

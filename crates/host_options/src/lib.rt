@@ -3,8 +3,12 @@
 //!
 //! | call | what it answers |
 //! |---|---|
-//! | `request_of` | help; or a run of a script or a server, with a configuration and numbers that are still to be checked, and files |
+//! | `request_of` | help; the version; or a run of a script or a server, with a configuration and numbers that are still to be checked, and files |
+//! | `reason_of` | what a person is told of words that ask for nothing |
+//! | `grammar_text` | what a person is told of an error of `clap` |
 //! | `help_text` | what `--help` prints |
+//! | `version_line` | what `--version` prints |
+//! | `meaning_of` | the number, the name and the sentence of a refusal or a cause, as the help has them |
 //!
 //! The scheduler is `bfq` or `none`, and `bfq` where none is named. A number is in decimal and below 2^64, with no
 //! sign and no leading zero. Whether it is within its limits is not asked here: `Config::check` of `sector_core`
@@ -19,7 +23,9 @@
 
 mod command;
 mod help;
+mod reason;
 mod request;
 
-pub use help::help_text;
-pub use request::{Request, WordFault, request_of};
+pub use help::{help_text, meaning_of, version_line};
+pub use reason::grammar_text;
+pub use request::{Request, WordFault, reason_of, request_of};

@@ -1,16 +1,19 @@
 // What the words of the command line ask for.
 use crate::command::bfqhost;
+use crate::reason::Reason;
+use clap::ArgMatches;
 use clap::error::ErrorKind;
-use clap::{ArgMatches, Error};
 use script_line::number;
 use sector_core::{ConfigDraft, Scheduler};
-use std::alloc::Global;
+use std::alloc::{AllocError, Global};
 
 /// What the words ask for.
 #[derive(Debug, Drop, PartialEq, Eq)]
 pub enum Request {
     /// Print the help.
     Help,
+    /// Print the version.
+    Version,
     /// Run a script.
     Sim {
         /// The configuration as it was given, its numbers not yet checked.
@@ -46,41 +49,61 @@ pub enum WordFault {
 
 /// What the words ask for. The first is the name of the program.
 pub fn request_of(alloc: Global, words: &[String]) -> Result<Request, WordFault> {
+    match read(alloc, words) {
+        Ok(request) => Ok(request),
+        Err(reason) => Err(reason.fault()),
+    }
+}
+
+/// What a person is told of words that ask for nothing: which of them it was, in one line with no end.
+///
+/// # Errors
+///
+/// There is no memory for the text.
+pub fn reason_of(alloc: Global, words: &[String]) -> Result<String, AllocError> {
+    match read(alloc, words) {
+        Ok(_) => Ok(String::new(alloc)),
+        Err(reason) => reason.text(alloc),
+    }
+}
+
+// What the words ask for, or why they ask for nothing.
+fn read<'a>(alloc: Global, words: &'a [String]) -> Result<Request, Reason<'a>> {
+    // It may not stand beside other words, which `clap` would let pass.
+    if words.len() == 2 && words[1].as_str() == "--version" {
+        return Ok(Request::Version);
+    }
     let Ok(command) = bfqhost(alloc) else {
-        return Err(WordFault::OutOfMemory);
+        return Err(Reason::OutOfMemory);
     };
     match command.try_get_matches_from(words) {
         Ok(found) => found_in(alloc, words, &found),
-        Err(error) => not_found(&error),
+        Err(error) if error.kind() == ErrorKind::DisplayHelp => Ok(Request::Help),
+        Err(error) => Err(Reason::Grammar(error)),
     }
 }
 
 // What the options that were found ask for.
-fn found_in(alloc: Global, words: &[String], found: &ArgMatches<'_>) -> Result<Request, WordFault> {
+fn found_in<'a>(
+    alloc: Global,
+    words: &[String],
+    found: &ArgMatches<'a>,
+) -> Result<Request, Reason<'a>> {
     // Nothing may stand after the options, so no word ends them.
     if words.iter().any(|word| word.as_str() == "--") {
-        return Err(WordFault::Usage);
+        return Err(Reason::Unexpected("--"));
     }
     if let Some(options) = found.subcommand_matches("sim") {
         return sim(alloc, options);
     }
     match found.subcommand_matches("serve") {
         Some(options) => serve(alloc, options),
-        None => Err(WordFault::Usage),
-    }
-}
-
-// The help, want of memory, and else words that are none of the command's.
-fn not_found(error: &Error) -> Result<Request, WordFault> {
-    match error.kind() {
-        ErrorKind::DisplayHelp => Ok(Request::Help),
-        ErrorKind::OutOfMemory => Err(WordFault::OutOfMemory),
-        _ => Err(WordFault::Usage),
+        None => Err(Reason::Unexpected("words")),
     }
 }
 
 // The configuration that the options ask for.
-fn draft_of(options: &ArgMatches<'_>) -> Result<ConfigDraft, WordFault> {
+fn draft_of<'a>(options: &ArgMatches<'a>) -> Result<ConfigDraft, Reason<'a>> {
     let usual = ConfigDraft::default();
     Ok(ConfigDraft {
         scheduler: scheduler_or(options, usual.scheduler)?,
@@ -94,7 +117,7 @@ fn draft_of(options: &ArgMatches<'_>) -> Result<ConfigDraft, WordFault> {
     })
 }
 
-fn sim(alloc: Global, options: &ArgMatches<'_>) -> Result<Request, WordFault> {
+fn sim<'a>(alloc: Global, options: &ArgMatches<'a>) -> Result<Request, Reason<'a>> {
     let draft = draft_of(options)?;
     let sectors = number_or(options, "sectors", 1024)?;
     let image = text_of(alloc, options, "image")?;
@@ -106,12 +129,12 @@ fn sim(alloc: Global, options: &ArgMatches<'_>) -> Result<Request, WordFault> {
 }
 
 // A server needs an image and a folder.
-fn serve(alloc: Global, options: &ArgMatches<'_>) -> Result<Request, WordFault> {
+fn serve<'a>(alloc: Global, options: &ArgMatches<'a>) -> Result<Request, Reason<'a>> {
     let draft = draft_of(options)?;
     let clients = number_or(options, "clients", 4)?;
     let workers = number_or(options, "workers", 2)?;
-    let image = text_of(alloc, options, "image")?.ok_or(WordFault::Usage)?;
-    let dir = text_of(alloc, options, "dir")?.ok_or(WordFault::Usage)?;
+    let image = text_of(alloc, options, "image")?.ok_or(Reason::Missing("image"))?;
+    let dir = text_of(alloc, options, "dir")?.ok_or(Reason::Missing("dir"))?;
     Ok(Request::Serve {
         draft,
         image,
@@ -122,34 +145,34 @@ fn serve(alloc: Global, options: &ArgMatches<'_>) -> Result<Request, WordFault> 
 }
 
 // The text of an option, where it is given.
-fn text_of(
+fn text_of<'a>(
     alloc: Global,
-    options: &ArgMatches<'_>,
+    options: &ArgMatches<'a>,
     name: &str,
-) -> Result<Option<String>, WordFault> {
+) -> Result<Option<String>, Reason<'a>> {
     match options.get_str(name) {
         Some(text) => match String::from_str(alloc, text) {
             Ok(text) => Ok(Some(text)),
-            Err(_) => Err(WordFault::OutOfMemory),
+            Err(_) => Err(Reason::OutOfMemory),
         },
         None => Ok(None),
     }
 }
 
 // The scheduler that is named, or this one where none is named.
-fn scheduler_or(options: &ArgMatches<'_>, usual: Scheduler) -> Result<Scheduler, WordFault> {
+fn scheduler_or<'a>(options: &ArgMatches<'a>, usual: Scheduler) -> Result<Scheduler, Reason<'a>> {
     match options.get_str("scheduler") {
         Some("none") => Ok(Scheduler::Plain),
         Some("bfq") => Ok(Scheduler::Bfq),
-        Some(_) => Err(WordFault::Usage),
+        Some(text) => Err(Reason::NoScheduler(text)),
         None => Ok(usual),
     }
 }
 
 // The number of an option, or this one where the option is not given.
-fn number_or(options: &ArgMatches<'_>, name: &str, usual: u64) -> Result<u64, WordFault> {
+fn number_or<'a>(options: &ArgMatches<'a>, name: &'a str, usual: u64) -> Result<u64, Reason<'a>> {
     match options.get_str(name) {
-        Some(text) => number(text.as_bytes()).ok_or(WordFault::Usage),
+        Some(text) => number(text.as_bytes()).ok_or(Reason::NoNumber(name, text)),
         None => Ok(usual),
     }
 }

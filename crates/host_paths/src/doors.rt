@@ -22,27 +22,43 @@ pub struct Doors {
     pub clients: Vec<UnixListener>,
 }
 
+/// Why a path of a server cannot be had.
+#[derive(Clone, Copy)]
+pub struct DoorFault {
+    /// The client whose path it is, by its seat; none is the operator's.
+    pub client: Option<u8>,
+    /// What the system said. `AddrInUse` with no number of the system's: a server is met there; `AlreadyExists`: a file that is no socket.
+    pub error: io::Error,
+}
+
 /// Opens the socket of the operator and those of so many clients in a folder. Each file that is made is noted, also if a later one
 /// fails. The operator's path comes first: a running server is met there, and there alone its clients don't notice.
 ///
 /// # Errors
 ///
-/// A path cannot be had, or there is no memory.
+/// A path cannot be had, which `fault` then tells, or there is no memory.
 pub fn open_doors<R: Files + Net>(
     rt: &R,
     alloc: Global,
     dir: &str,
     clients: u8,
     made: &mut Vec<String>,
+    fault: &mut Option<DoorFault>,
 ) -> Result<Doors, ServeEnd> {
     // Else the sockets would stand at the root of all files.
     if dir.is_empty() {
+        *fault = Some(DoorFault {
+            client: None,
+            error: ErrorKind::InvalidInput.into(),
+        });
         return Err(ServeEnd::Socket);
     }
-    let operator = open_door(rt, format!(in alloc; "{dir}/operator"), made)?;
+    let operator = open_door(rt, format!(in alloc; "{dir}/operator"), made);
+    let operator = found(operator, None, fault)?;
     let mut listeners = Vec::new(alloc);
     for number in 0..clients {
-        let listener = open_door(rt, format!(in alloc; "{dir}/client{number}"), made)?;
+        let listener = open_door(rt, format!(in alloc; "{dir}/client{number}"), made);
+        let listener = found(listener, Some(number), fault)?;
         if listeners.push(listener).is_err() {
             return Err(ServeEnd::OutOfMemory);
         }
@@ -53,6 +69,22 @@ pub fn open_doors<R: Files + Net>(
     })
 }
 
+// The socket, or the end of a server that cannot have it, with a note of why.
+fn found(
+    opened: io::Result<UnixListener>,
+    client: Option<u8>,
+    fault: &mut Option<DoorFault>,
+) -> Result<UnixListener, ServeEnd> {
+    match opened {
+        Ok(listener) => Ok(listener),
+        Err(error) if error.kind() == ErrorKind::OutOfMemory => Err(ServeEnd::OutOfMemory),
+        Err(error) => {
+            *fault = Some(DoorFault { client, error });
+            Err(ServeEnd::Socket)
+        }
+    }
+}
+
 /// Removes the files that were made.
 pub fn remove_all(files: &impl Files, made: &[String]) {
     for path in made {
@@ -61,31 +93,15 @@ pub fn remove_all(files: &impl Files, made: &[String]) {
     }
 }
 
+// Makes the socket, notes its file, and lets its owner alone use it.
 fn open_door<R: Files + Net>(
     rt: &R,
     path: Result<String, AllocError>,
     made: &mut Vec<String>,
-) -> Result<UnixListener, ServeEnd> {
-    let Ok(path) = path else {
-        return Err(ServeEnd::OutOfMemory);
-    };
-    // There is room for the note before there is a file.
-    if made.reserve(1).is_err() {
-        return Err(ServeEnd::OutOfMemory);
-    }
-    match listen(rt, path, made) {
-        Ok(listener) => Ok(listener),
-        Err(error) if error.kind() == ErrorKind::OutOfMemory => Err(ServeEnd::OutOfMemory),
-        Err(_) => Err(ServeEnd::Socket),
-    }
-}
-
-// Makes the socket, notes its file, and lets its owner alone use it.
-fn listen<R: Files + Net>(
-    rt: &R,
-    path: String,
-    made: &mut Vec<String>,
 ) -> io::Result<UnixListener> {
+    let path = path?;
+    // There is room for the note before there is a file.
+    made.reserve(1)?;
     make_way(rt, path.as_str())?;
     let listener = UnixListener::bind(rt, path.as_str())?;
     made.push(path)?;

@@ -28,7 +28,7 @@
 //! sleeps before it goes on. No rule reads a time.
 //!
 //! ```text
-//! let doors = open_doors(&rt, alloc, "/run/bfq", 4, &mut made)?;      // five sockets, and the paths of their files in `made`
+//! let doors = open_doors(&rt, alloc, "/run/bfq", 4, &mut made, &mut fault)?;    // five sockets, and the paths of their files in `made`
 //! let serving = start_paths(rt, alloc, doors, callers, operator)?;
 //! serving.join(&rt)                                                    // the connection of the operator, after his Stop
 //!
@@ -48,7 +48,7 @@ mod threads;
 mod worker;
 
 pub use asker::SeatAsker;
-pub use doors::{Doors, open_doors, remove_all};
+pub use doors::{DoorFault, Doors, open_doors, remove_all};
 pub use end::ServeEnd;
 pub use operator::{serve_operator, tell_closed};
 pub use threads::{start_client, start_paths, start_workers};

@@ -40,7 +40,7 @@
 //! The core has a thread, and so has each path and each device (`host_paths`). Between them stand the rings of the seats alone.
 //!
 //! ```text
-//! run_server(rt, alloc, config, images, ServeOptions { dir: "/run/bfq", clients: 4 })   // Stopped, after the operator's Stop
+//! run_server(rt, alloc, config, images, ServeOptions { dir: "/run/bfq", clients: 4 }, &mut fault)   // Stopped, after the operator's Stop
 //! ```
 
 mod book;
@@ -57,7 +57,7 @@ pub use book::Book;
 pub use host_core::{
     Caller, DeviceSeat, NotSettled, OperatorSeat, SeatEnd, Settled, TurnReport, settle,
 };
-pub use host_paths::ServeEnd;
+pub use host_paths::{DoorFault, ServeEnd};
 pub use opening::{Core, CoreEnd, HostFault, host};
 pub use server::{ServeOptions, run_server};
 pub use takes::take_work;

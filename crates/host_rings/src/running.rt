@@ -2,14 +2,14 @@
 
 use crate::book::Book;
 use crate::opening::Core;
-use crate::warning::{has_entry, nine_tenths};
+use crate::warning::Warning;
 use host_paths::ServeEnd;
 use std::alloc::Global;
 use std::io::Eprint;
 use std::sync::Wait;
 use std::thread::{self, Threads};
 
-/// Starts the core. It tells once that nine tenths of its history are used.
+/// Starts the core. It tells once that nine tenths of its history are used, and once that it is full.
 ///
 /// # Errors
 ///
@@ -20,16 +20,9 @@ pub fn start_core<R: Threads + Wait + Eprint + Copy + Drop + Send + 'static>(
     mut core: Core,
     most: u32,
 ) -> Result<(), ServeEnd> {
-    let near = nine_tenths(most);
-    let last = near.saturating_sub(1) as usize;
+    let mut warning = Warning::new(most);
     let running = thread::spawn(&rt, move || {
-        let mut is_told = false;
-        core.run_watched(&rt, alloc, |book: &Book| {
-            if !is_told && has_entry(book, last) {
-                is_told = true;
-                let _ = eprintln!(rt; "history: {near} of {most} calls");
-            }
-        });
+        core.run_watched(&rt, alloc, |book: &Book| warning.look(&rt, book));
     });
     match running {
         Ok(_) => Ok(()),

@@ -5,7 +5,7 @@ use crate::opening::host;
 use crate::running::start_core;
 use base_image::Image;
 use host_paths::{
-    Doors, ServeEnd, open_doors, remove_all, start_paths, start_workers, tell_closed,
+    DoorFault, Doors, ServeEnd, open_doors, remove_all, start_paths, start_workers, tell_closed,
 };
 use sector_core::Config;
 use std::alloc::Global;
@@ -28,18 +28,25 @@ pub struct ServeOptions<'a> {
 
 /// Serves a host over the images, one worker for each. The images are to tell one number of sectors; the host has as many as the first
 /// tells. Once the operator has stopped the host, the files of its sockets are removed, and then he is told: so he may start another host
-/// in the same folder. Threads that still meet a peer are left to the end of the process.
+/// in the same folder. Threads that still meet a peer are left to the end of the process. If a path cannot be had `fault` tells why.
 ///
-/// On standard error it says when it serves, and once when nine tenths of the history are used.
+/// On standard error it says when it serves, once when nine tenths of the history are used, and once when it is full.
 pub fn run_server<
     R: Threads + Wait + Net + Files + Clock + Eprint + Copy + Drop + Send + 'static,
     I: Image + Drop + Send + 'static,
->(rt: R, alloc: Global, config: Config, images: Vec<I>, options: ServeOptions<'_>) -> ServeEnd
+>(
+    rt: R,
+    alloc: Global,
+    config: Config,
+    images: Vec<I>,
+    options: ServeOptions<'_>,
+    fault: &mut Option<DoorFault>,
+) -> ServeEnd
     requires workers { 1 ≤ length images.items × length images.items ≤ 4 }
     requires clients { 1 ≤ options.clients × options.clients ≤ 16 }
 {
     let mut made = Vec::new(alloc);
-    let served = match open_doors(&rt, alloc, options.dir, options.clients, &mut made) {
+    let served = match open_doors(&rt, alloc, options.dir, options.clients, &mut made, fault) {
         Ok(doors) => serve_at(rt, alloc, config, images, doors, options),
         Err(end) => Err(end),
     };

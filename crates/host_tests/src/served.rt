@@ -132,7 +132,16 @@ fn clients_and_the_operator(rt: HostRuntime) -> Result<(), Fail> {
         &rt,
         move || -> ServeEnd
             requires { length images.items ≡ 2 }
-        { run_server(rt, rt.alloc(), config, images, two_in(theirs.as_str())) },
+        {
+            run_server(
+                rt,
+                rt.alloc(),
+                config,
+                images,
+                two_in(theirs.as_str()),
+                &mut None,
+            )
+        },
     )?;
     let peers = peers(rt, dir.as_str())?;
     assert!(rt; all_answer(rt.alloc(), &peers));

@@ -5,11 +5,13 @@ pub mod Joins
 pub mod Counters
 pub mod Sendings
 pub mod Leavings
-pub mod Kept
 pub mod Served
 pub mod Leads
 pub mod Moves
+pub mod Sent
+pub mod Placed
 pub mod Rules
+pub mod Begun
 pub mod Ruled
 pub mod Stamps
 pub mod Each

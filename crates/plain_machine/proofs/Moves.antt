@@ -138,6 +138,7 @@ after_finish-moves l P k m n tag outcome f low is fit h =
 pub moves-lead : (l : Limits) (P : ℕ → Plain → Type 0) → Moves l P → Leads l P
 moves-lead l P k = record {
   later = k.later;
+  stays = λ n m h. h;
   attaches = λ n m seat group prio small free known few h. attached-moves l P k n m seat group prio small free h;
   submits = λ n m seat session op range payload next small its sized is h. submitted-moves l P k n m seat session op range payload next small its sized is h;
   reaps = λ n m seat bio bios is h. reaped-moves l P k n m seat bio bios is h;
@@ -154,6 +155,6 @@ moves-lead l P k = record {
   drops = λ n m group known other unused h. bfq-moves l P k n m _ h;
   weighs = λ n m group weight known other weighs h. bfq-moves l P k n m _ h;
   freezes = λ n m frozen h. k.rests n m frozen m.served m.head m.bfq m.scheduler h;
-  switches = λ n m scheduler none h. let next : Plain = switched l m scheduler in k.rests n m m.frozen next.served next.head next.bfq scheduler h;
+  switches = λ _ n m scheduler none h. let next : Plain = switched l m scheduler in k.rests n m m.frozen next.served next.head next.bfq scheduler h;
   ticks = λ n m slot is h. bfq-moves l P k (n + 1) m _ (k.later n (n + 1) m (omega arith) h);
 }

@@ -1,17 +1,18 @@
 -- Submit and Dispatch under bfq: which machines they may lead to.
 use Rattle.std.proofs.Common.{true, false, Bool, ◌≡◌, ℕ, ◌+◌, ◌==◌, ◌&&◌, List, [], ◌∷◌, Some, All, cond, sum_by, refl, sym, ap, ◌∙◌, subst, arith, eqb-true}
 use Rattle.std.specs.List.{find}
-use Rattle.std.specs.Option.{option_map, option_map_or, option_and_then}
+use Rattle.std.specs.Option.{option_map, option_map_or}
 use Rattle.std.proofs.lemmas.List.Elements.{All-cons, All-head, All-tail}
 use Rattle.std.proofs.lemmas.List.Sums.{sum_by-cons}
 use Rattle.change_record.specs.Machine.{WholeRequest, Bfq, Plain}
 use Rattle.process_queue.specs.Queue.{is_empty}
 use Rattle.process_queue.specs.Merge.{shape_of}
 use Rattle.process_queue.specs.Next.{start_of, starts, wanted, has_start, next_of}
-use Rattle.change_record.specs.Rules.{activate, charge}
+use Rattle.change_record.specs.Rules.{activate}
 use Rattle.plain_machine.specs.declared.answer.Reply.{Reply}
-use Rattle.plain_machine.specs.Step.{Limits, is_bfq, woken, shape, range_of, next_request, with_budget_in, with_slot, without_first, without_empty, sent_next, sent_in, sent_by_bfq}
+use Rattle.plain_machine.specs.Step.{Limits, is_bfq, woken, shape, range_of, without_first, sent_by_bfq}
 use Rattle.plain_machine.proofs.Puts.{some_is, and_then_is, map_is}
+use Rattle.plain_machine.proofs.Sent.{rest_of, sent-is}
 use Rattle.plain_machine.proofs.Sendings.{IsTaken, dispatched}
 
 -- what is found passes the test
@@ -89,15 +90,9 @@ pub sent_by_bfq-keeps : (P : Plain → Type 0) (l : Limits) (m : Plain) (n tag :
     → ((seat : ℕ) (r : WholeRequest) (rest : List WholeRequest) (head : ℕ → ℕ) (b : Bfq) → IsTaken (m.queue seat) r rest → P (dispatched m n seat tag r rest m.served head b))
     → (o : Plain × Reply) → sent_by_bfq l m n tag ≡ Some o → P o.0
 sent_by_bfq-keeps P l m n tag h o e =
-    let within = and_then_is (λ b. sent_in l m n tag (with_slot b)) (with_budget_in l m m.bfq.slot) o e in
-    let b : Bfq = with_slot within.0 in
-    let slot = and_then_is (λ slot. option_and_then (sent_next l m n tag b slot.seat) (next_request m slot.seat)) b.slot o within.2 in
-    let seat : ℕ = slot.0.seat in
-    let next = and_then_is (sent_next l m n tag b seat) (next_request m seat) o slot.2 in
-    let r : WholeRequest = next.0 in
-    let passes : WholeRequest → Bool = has_start shape (range_of r.bios).start in
-    let rest : List WholeRequest = without_first passes (m.queue seat) in
-    let found : find passes (m.queue seat) ≡ Some r = found_next (m.queue seat) (m.head seat) r next.1 in
-    let done = map_is _ (option_and_then (without_empty l rest) (charge (range_of r.bios).count b)) o next.2 in
+    let s = sent-is l m n tag o e in
+    let queue : List WholeRequest = m.queue s.slot.seat in
+    let passes : WholeRequest → Bool = has_start shape (range_of s.request.bios).start in
+    let found : find passes queue ≡ Some s.request = found_next queue (m.head s.slot.seat) s.request s.next in
     let Q : Plain × Reply → Type 0 = λ x. P x.0 in
-    subst Q done.2 (h seat r rest _ done.0 (IsTaken-found (m.queue seat) passes r found))
+    subst Q s.made (h s.slot.seat s.request (rest_of m s.slot.seat s.request) _ s.last (IsTaken-found queue passes s.request found))

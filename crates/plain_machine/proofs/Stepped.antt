@@ -22,6 +22,7 @@ next-sound l n m h = Sound-later l n (n + 1) m (omega arith) h
 sound-leads : (l : Limits) → Leads l (Sound l)
 sound-leads l = record {
   later = Sound-later l;
+  stays = λ n m h. h;
   attaches = λ n m seat group prio small free known few h.
       let next : Plain = attached l m n seat group prio in
       let entry : Seat = record { session = n; prio = prio; unreaped = 0; leaving = false } in
@@ -42,7 +43,7 @@ sound-leads l = record {
   drops = λ n m group known other unused h. Sound-bfq l n m _ h;
   weighs = λ n m group weight known other weighs h. Sound-bfq l n m _ h;
   freezes = λ n m frozen h. Sound-rest l n m frozen m.served m.head m.bfq m.scheduler h;
-  switches = λ n m scheduler none h. let next : Plain = switched l m scheduler in Sound-rest l n m m.frozen next.served next.head next.bfq scheduler h;
+  switches = λ _ n m scheduler none h. let next : Plain = switched l m scheduler in Sound-rest l n m m.frozen next.served next.head next.bfq scheduler h;
   ticks = λ n m slot is h. next-sound l n _ (Sound-bfq l n m _ h);
 }
 
