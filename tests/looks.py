@@ -1,4 +1,5 @@
-"""Every `show` line after every step of the scripts of tests/scripts, and again when that step is the last that stands.
+"""Every `show` line after every step of the scripts of tests/scripts, and again when that step is the last that stands. Beside the tree of
+each group, which has the virtual time of best effort, stand those of the two other classes.
 
 A script is given to the built program line by line. After each line that moved the cursor all `show` lines are asked. At the end the host
 is held, and each step is undone in turn: what stands then must be shown as it was when the cursor was there last, by the steps that stand.
@@ -55,11 +56,12 @@ class Asked:
     def looks(self, length):
         """What each `show` line prints, without what of the host goes on with the calls."""
         seats = [f"show {what} {seat}" for what in ("seat", "outbox", "queue") for seat in range(SEATS)]
-        groups = [f"show tree {group}" for group in range(GROUPS)]
         steps = [f"show step {number}" for number in range(1, length + 1)]
-        shown = self.ask(*seats, "show requeued", "show flight", "show service", *groups, *self.runs())
+        trees = self.ask(*(f"show tree {group}" for group in range(GROUPS)))
+        vtimes = [f"vtime {group} {name}" for group, tree in enumerate(trees) if not tree.endswith(" none") for name in ("rt", "idle")]
+        shown = self.ask(*seats, "show requeued", "show flight", "show service", *vtimes, *self.runs())
         host = self.ask("show host")[0].split(" ")
-        return [*shown, f"{host[1]} {host[2]} {host[4]}"], self.ask(*steps)
+        return [*trees, *shown, f"{host[1]} {host[2]} {host[4]}"], self.ask(*steps)
 
     def runs(self):
         """The lines that show each run of stored sectors, the last of them with none."""

@@ -12,22 +12,26 @@ from typing import Optional, Sequence
 MOST_BYTES = 256
 MOST_LINES = 1_048_576
 
-# Each line of the grammar. A word in capitals stands for a number of so many bits.
+# Each line of the grammar. A word in capitals stands for a number of so many bits, or for one of a few words.
 BITS = {"SEAT": 8, "GROUP": 8, "PARENT": 8, "PRIO": 8, "TAG": 8, "BYTE": 8, "N": 8, "COUNT": 16, "WEIGHT": 16, "K": 32,
         "SESSION": 64, "ISSUE": 64, "START": 64, "NUMBER": 64, "FROM": 64}
 # What stands in words of the tools alone.
 BITS_OF_TOOLS = {"SERIAL": 64}
+# The classes, the first to be served first.
+CLASSES = ("rt", "be", "idle")
+CHOICES = {"CLASS": CLASSES}
 FORMS = [form.split() for form in [
-    "attach SEAT GROUP PRIO", "read SEAT SESSION START COUNT", "write SEAT SESSION START COUNT BYTE", "dispatch",
+    "attach SEAT GROUP PRIO", "attach SEAT GROUP PRIO CLASS",
+    "read SEAT SESSION START COUNT", "write SEAT SESSION START COUNT BYTE", "dispatch",
     "finish TAG ISSUE stored", "finish TAG ISSUE fill BYTE", "finish TAG ISSUE short", "finish TAG ISSUE fault",
     "work TAG ISSUE", "requeue TAG ISSUE", "reap SEAT SESSION", "leave SEAT", "group PARENT WEIGHT", "drop GROUP",
     "weight GROUP WEIGHT", "freeze", "thaw", "switch none", "switch bfq", "tick", "hold", "release", "undo K", "redo K",
-    "sector NUMBER", "queue SEAT", "vtime GROUP", "entity N", "line",
+    "sector NUMBER", "queue SEAT", "vtime GROUP", "vtime GROUP CLASS", "class N", "entity N", "line",
     "show seat SEAT", "show outbox SEAT", "show queue SEAT", "show requeued", "show flight", "show service", "show tree GROUP",
     "show host", "show stored FROM", "show step K",
 ]]
 # The first words of lines that are no steps. They take no serial.
-NO_STEPS = {"hold", "release", "undo", "redo", "sector", "queue", "vtime", "entity", "line", "show"}
+NO_STEPS = {"hold", "release", "undo", "redo", "sector", "queue", "vtime", "class", "entity", "line", "show"}
 
 NAMES = {
     1: "BadSeat", 2: "SeatTaken", 3: "NoSession", 4: "StaleSession", 5: "NoGroup", 6: "RootGroup", 7: "BadWeight", 8: "BadPrio",
@@ -90,16 +94,32 @@ def why_other_words(words: Sequence[str], forms: Sequence[Sequence[str]]) -> Opt
         forms = [form for form in forms if len(form) > at]
         if not forms:
             return f"a word too many: {word!r}"
-        if forms[0][at].isupper():
-            reason = why_no_number(forms[0][at], word)
+        name = forms[0][at]
+        if name in CHOICES:
+            reason = why_no_choice(name, word)
+        elif name.isupper():
+            reason = why_no_number(name, word)
         else:
             forms = [form for form in forms if form[at] == word]
-            reason = None if forms else f"{'an unknown word' if word == word.lower() else 'a capital letter'}: {word!r}"
+            reason = None if forms else why_unknown(word)
         if reason:
             return reason
     if any(len(form) == len(words) for form in forms):
         return None
     return f"too few words: after {words[-1]!r} comes {' or '.join(sorted({form[len(words)] for form in forms}))}"
+
+
+def why_unknown(word: str) -> str:
+    """What is wrong with a word that stands in no form at this place."""
+    return f"{'an unknown word' if word == word.lower() else 'a capital letter'}: {word!r}"
+
+
+def why_no_choice(name: str, word: str) -> Optional[str]:
+    """Why a word is none of the few that may stand at this place; None if it is one."""
+    *others, last = CHOICES[name]
+    if word in CHOICES[name]:
+        return None
+    return f"{name} is {', '.join(others)} or {last}: {word!r}" if word == word.lower() else why_unknown(word)
 
 
 def why_no_number(name: str, word: str) -> Optional[str]:

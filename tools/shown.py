@@ -3,6 +3,8 @@
 import collections
 import textwrap
 
+from grammar import CLASSES
+
 # A picture has at most so many columns, where its numbers allow it.
 COLUMNS = 80
 INDENT = "  "
@@ -13,22 +15,39 @@ OF_GROUPS = 16
 ROOT = 0
 # Virtual times divided by 2 to the power of this are in sectors by weight.
 SCALE = 22
+# The class of a member whose item names none.
+BEST_EFFORT = "be"
 
+# The virtual time of a tree is that of best effort.
 Tree = collections.namedtuple("Tree", "parent vtime members")
-Member = collections.namedtuple("Member", "entity state start finish weight pending")
+Member = collections.namedtuple("Member", "entity state start finish weight pending class_name")
 
 
 def tree_of(answer):
-    """What a `show tree` says; None where no such group stands. Items of a later program may have more fields."""
+    """What a `show tree` says; None where no such group stands."""
     _, _, parent, *rest = answer.split(" ")
     if parent == "none":
         return None
     vtime, *items = rest
-    return Tree(parent, int(vtime), [member_of(*item.split(":")[:len(Member._fields)]) for item in items])
+    return Tree(parent, int(vtime), [member_of(*item.split(":")) for item in items])
 
 
-def member_of(entity, state, *numbers):
-    return Member(int(entity), state, *map(int, numbers))
+def member_of(entity, state, start, finish, weight, pending, *more):
+    """A member by the fields of its item. One of a later program may have more of them."""
+    class_name = next((word for word in more if word in CLASSES), BEST_EFFORT)
+    return Member(int(entity), state, *map(int, (start, finish, weight, pending)), class_name)
+
+
+def classes_of(tree):
+    """The classes of the members of a tree, but for best effort."""
+    found = {it.class_name for it in tree.members} - {BEST_EFFORT}
+    return [name for name in CLASSES if name in found]
+
+
+def vtimes_of(host, places):
+    """The virtual times of some places, each of which is a group and a class."""
+    answers = host.ask_all([f"vtime {group} {name}" for group, name in places])
+    return {place: int(answer.split(" ")[-1]) for place, answer in zip(places, answers)}
 
 
 def name_of(entity):
@@ -50,7 +69,7 @@ def picture(host):
         ["show host", "show service", "show requeued", "show flight", *(f"show seat {seat}" for seat in range(SEATS))])
     return [*of_host(machine, service), *of_seats(host, seats),
             *of_list("dispatch list", map(given_back, requeued.split(" ")[1:])),
-            *of_list("in flight", map(in_flight, flight.split(" ")[1:])), *of_tree(trees(host))]
+            *of_list("in flight", map(in_flight, flight.split(" ")[1:])), *of_tree(*trees(host))]
 
 
 def wrapped(text, indent=""):
@@ -107,38 +126,49 @@ def in_flight(item):
     return f"tag {tag}, issue {issue}: {given_back(rest)}"
 
 
+# A row of the picture of groups: a name, a class and a state; the numbers; and the times by weight.
+Row = collections.namedtuple("Row", "words numbers by_weight")
+
+
 def trees(host):
-    """The tree of each group by its number, from the root down."""
+    """The tree of each group by its number, from the root down, and its virtual times by its number and their class: that of best
+    effort, and all three if a member is of another class."""
     found, numbers = {}, [ROOT]
     while numbers:
         level = [tree_of(answer) for answer in host.ask_all([f"show tree {number}" for number in numbers])]
         found.update(zip(numbers, level))
         numbers = [it.entity - OF_GROUPS for tree in level if tree for it in tree.members if it.entity >= OF_GROUPS]
-    return found
+    others = [(group, name) for group, tree in found.items() if classes_of(tree) for name in CLASSES if name != BEST_EFFORT]
+    return found, {**{(group, BEST_EFFORT): tree.vtime for group, tree in found.items()}, **vtimes_of(host, others)}
 
 
-def of_tree(found):
-    """The groups with their members and their virtual times. What is too wide for one line has its times by weight in a second one."""
-    rows = [(f"group {ROOT}", "state", "weight", "start", "finish", f"start/2^{SCALE}", f"finish/2^{SCALE}"), *rows_of(found, ROOT, INDENT)]
-    lines = aligned(rows)
+def of_tree(found, vtimes):
+    """The groups with their members and their virtual times, and with classes if one is not best effort. What is too wide for one line
+    has its times by weight in a second one."""
+    rows = [Row([f"group {ROOT}", "class", "state"], ["weight", "start", "finish"], [f"start/2^{SCALE}", f"finish/2^{SCALE}"]),
+            *rows_of(found, vtimes, ROOT, INDENT)]
+    if not any(map(classes_of, found.values())):
+        rows = [row._replace(words=[row.words[0], row.words[2]]) for row in rows]
+    lines = aligned([(row.words, [*row.numbers, *row.by_weight]) for row in rows])
     if max(map(len, lines)) > COLUMNS:
-        lines = aligned([part for row in rows for part in (row[:5], ("", "", "", *row[5:]))])
+        lines = aligned([part for row in rows for part in ((row.words, row.numbers), ([""] * len(row.words), ["", *row.by_weight]))])
     return lines
 
 
-def rows_of(found, group, indent):
-    """The rows of a group: its virtual time, and its members with all that is in them."""
-    tree = found[group]
-    yield f"{indent}V", "", "", str(tree.vtime), "", by_weight(tree.vtime), ""
-    for it in tree.members:
+def rows_of(found, vtimes, group, indent):
+    """The rows of a group: its virtual times, and its members with all that is in them."""
+    for name in CLASSES:
+        if (vtime := vtimes.get((group, name))) is not None:
+            yield Row([f"{indent}V", name, ""], ["", str(vtime), ""], [by_weight(vtime), ""])
+    for it in found[group].members:
         weight = f"{it.weight}" if it.weight == it.pending else f"{it.weight}->{it.pending}"
-        yield (f"{indent}{name_of(it.entity)}", it.state, weight, str(it.start), str(it.finish), by_weight(it.start), by_weight(it.finish))
+        yield Row([f"{indent}{name_of(it.entity)}", it.class_name, it.state], [weight, str(it.start), str(it.finish)],
+                  [by_weight(it.start), by_weight(it.finish)])
         if it.entity >= OF_GROUPS:
-            yield from rows_of(found, it.entity - OF_GROUPS, indent + INDENT)
+            yield from rows_of(found, vtimes, it.entity - OF_GROUPS, indent + INDENT)
 
 
 def aligned(rows):
-    """Rows in columns as wide as their widest word. Names and states begin together, and numbers end together."""
-    widths = [max(map(len, column)) for column in zip(*rows)]
-    return [GAP.join(word.ljust(width) if at < 2 else word.rjust(width) for at, (word, width) in enumerate(zip(row, widths))).rstrip()
-            for row in rows]
+    """Rows of words and numbers in columns as wide as the widest of them. Words begin together, and numbers end together."""
+    widths = [max(map(len, column)) for column in zip(*([*words, *numbers] for words, numbers in rows))]
+    return [GAP.join([*map(str.ljust, words, widths), *map(str.rjust, numbers, widths[len(words):])]).rstrip() for words, numbers in rows]

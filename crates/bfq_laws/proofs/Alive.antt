@@ -168,5 +168,5 @@ activate-alive k b c lt g parent slots e h =
 pub charge-at : (above : ℕ → Option ℕ) (st : ℕ → State) (sectors : ℕ) (b c : Bfq) → At above st b → charge sectors b ≡ Some c → At above st c
 charge-at above st sectors b c at e =
     let slot = charge-is sectors b c e in
-    charges-keep (At above st) (λ d g vtime _ _ h. vtime-at above st d g vtime h) sectors (path b.parent slot.0.seat) (served_more sectors slot.0 b) c slot.2
+    charges-keep (At above st) (λ d g k vtime _ _ h. vtime-at above st d g _ h) sectors (path b.parent slot.0.seat) (served_more sectors slot.0 b) c slot.2
     (record { parents = at.parents; places = at.places; are = at.are })

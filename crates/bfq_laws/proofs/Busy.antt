@@ -6,6 +6,9 @@ use Rattle.service_tree.specs.declared.member.Member.{Member}
 use Rattle.sector_core.specs.declared.bio.Bio.{Bio}
 use Rattle.sector_core.specs.declared.bio.Op.{Op}
 use Rattle.sector_core.specs.declared.range.Range.{Range}
+use Rattle.sector_core.specs.declared.class.Class.{Class}
+use Rattle.sector_core.specs.declared.class.Class.TheVariants.{BestEffort}
+use Rattle.class_trees.specs.Classes.{same_times}
 use Rattle.process_queue.specs.Queue.{is_empty}
 use Rattle.process_queue.specs.Merge.{joins_at, merge_of}
 use Rattle.group_tree.specs.Groups.{has_entity, entity_of}
@@ -101,9 +104,9 @@ stood b group e = elim (group == 0) as (λ t. (group == 0) ≡ t → cond t true
 ] refl e
 
 -- Attach: a free seat is not that of the queue in service, and its queue is empty.
-pub attached-tidy : (l : Limits) (m : Plain) (n seat group prio : ℕ) → seat < 16 → m.seat seat ≡ None → stands m.bfq group ≡ true → Tidy m → Tidy (attached l m n seat group prio)
-attached-tidy l m n seat group prio small free is h =
-    let next : Plain = attached l m n seat group prio in
+pub attached-tidy : (l : Limits) (m : Plain) (n seat group prio : ℕ) (class : Class) → seat < 16 → m.seat seat ≡ None → stands m.bfq group ≡ true → Tidy m → Tidy (attached l m n seat group prio class)
+attached-tidy l m n seat group prio class small free is h =
+    let next : Plain = attached l m n seat group prio class in
     let b : Bfq = m.bfq in
     let c : Bfq = next.bfq in
     let low : group < 32 = stood b group is in
@@ -394,13 +397,13 @@ pub made-over : (l : Limits) (b : Bfq) (group parent weight : ℕ) → Over b (m
 made-over l b group parent weight =
     let k : ℕ = entity_of group in
     let high : 16 ≤ k = omega arith in
-    let with_it : Bfq = with_entity l k parent weight b in
+    let with_it : Bfq = with_entity l k parent BestEffort weight b in
     let over : Over b with_it = record {
       parents = λ e lt. put_other b.parent k (Some parent) e (λ same. absurd (omega (arith, same, lt, high)));
       places = λ g e lt. placed-other b parent k _ g e (λ same. absurd (omega (arith, same, lt, high)));
       lengths = λ g. length-member b parent k _ g;
     } in
-    Over-trans b with_it (made l group parent weight b) over (Over-vtime with_it group l.first_vtime)
+    Over-trans b with_it (made l group parent weight b) over (Over-vtime with_it group (same_times l.first_vtime))
 
 pub dropped-over : (b : Bfq) (group : ℕ) → Over b (without_entity (entity_of group) b)
 dropped-over b group =
@@ -419,7 +422,7 @@ free_place place (suc n) zero = refl
 free_place place (suc n) (suc k) = free_place place n k
 
 pub opening-none : (l : Limits) (g e : ℕ) → placed (opening l).bfq g e ≡ None
-opening-none l g e = elim (nat_lt g 32) as (λ t. slice_index_or (cond t (empty_service l.first_vtime) (record { vtime = 0; members = [] })).members e None ≡ None) [
+opening-none l g e = elim (nat_lt g 32) as (λ t. slice_index_or (cond t (empty_service l.first_vtime) (record { vtimes = same_times 0; members = [] })).members e None ≡ None) [
   | true ↦ free_place None 48 e
   | false ↦ refl
 ]
@@ -430,11 +433,11 @@ opening-tidy l = record {
     tree = record {
       above = λ e lt sits. cc;
       known = λ g e lt there.
-          let none : is_some (placed (opening l).bfq g e) ≡ false = elim (nat_lt g 32) as (λ t. is_some (slice_index_or (cond t (empty_service l.first_vtime) (record { vtime = 0; members = [] })).members e None) ≡ false) [
+          let none : is_some (placed (opening l).bfq g e) ≡ false = elim (nat_lt g 32) as (λ t. is_some (slice_index_or (cond t (empty_service l.first_vtime) (record { vtimes = same_times 0; members = [] })).members e None) ≡ false) [
             | true ↦ ap is_some (free_place None 48 e)
             | false ↦ refl
           ] in cc;
-      lengths = λ g lt. elim (nat_lt g 32) as (λ t. nat_lt g 32 ≡ t → length (cond t (empty_service l.first_vtime) (record { vtime = 0; members = [] })).members ≡ 48) [
+      lengths = λ g lt. elim (nat_lt g 32) as (λ t. nat_lt g 32 ≡ t → length (cond t (empty_service l.first_vtime) (record { vtimes = same_times 0; members = [] })).members ≡ 48) [
         | true ↦ λ _. refl
         | false ↦ λ no. let far : 32 ≤ g = ltb-false g 32 no in absurd (omega (arith, far, lt))
       ] refl;

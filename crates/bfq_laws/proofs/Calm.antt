@@ -9,7 +9,7 @@ use Rattle.process_queue.specs.Queue.{is_empty}
 use Rattle.change_record.specs.declared.change.Seat.{Seat}
 use Rattle.change_record.specs.declared.change.InService.{InService}
 use Rattle.change_record.specs.Machine.{WholeRequest, Bfq, Plain}
-use Rattle.change_record.specs.Rules.{group_of, put_vtime, activate}
+use Rattle.change_record.specs.Rules.{group_of, put_vtimes, activate}
 use Rattle.plain_machine.specs.declared.answer.Reply.{Reply}
 use Rattle.plain_machine.specs.Step.{Limits, is_bfq, unreaped, with_unreaped, submitted, woken, sent_by_bfq, with_first_budgets, begun_again, switched}
 use Rattle.plain_machine.proofs.Puts.{some_is, map_is}
@@ -19,6 +19,7 @@ use Rattle.bfq_laws.proofs.Walk.{sent_in_turn}
 use Rattle.bfq_laws.proofs.Tree.{Over, Over-same, Over-member, Over-vtime, idle, idle-over, Tree, Tree-over, Sets, sets-own}
 use Rattle.bfq_laws.proofs.Busy.{Tidy, woken-tidy, entered-tidy, sent_by_bfq-tidy}
 use Rattle.bfq_laws.proofs.Owned.{Owned, free-empty}
+use Rattle.class_trees.specs.Classes.{same_times}
 
 -- the queues that BFQ knows of, where this is whether it is the scheduler
 abbrev pub seen : Bool → Plain → Plain
@@ -130,7 +131,7 @@ pub begun-same : (l : Limits) (seats : ℕ → Option Seat) (b : Bfq) (scheduler
     → Same seats b (begun_again l scheduler b)
 begun-same l seats b scheduler sits tree = begun-keeps l (Same seats b) (record {
   times = λ c e g up h. same-timed l seats b c e (λ small. sits e g small (ap (λ (f : ℕ → Option ℕ). f e) (sym h.parents) ∙ up)) h;
-  vtimes = λ c g h. same-over seats b c (put_vtime g l.first_vtime c) (Over-vtime c g l.first_vtime) refl refl h;
+  vtimes = λ c g h. same-over seats b c (put_vtimes g (same_times l.first_vtime) c) (Over-vtime c g (same_times l.first_vtime)) refl refl h;
   budgets = λ c h. same-over seats b c (with_first_budgets l c) (Over-same c (with_first_budgets l c) refl refl) refl refl h;
 }) scheduler b (record { tree = tree; idles = λ e lt. refl; slots = refl; parents = refl })
 

@@ -2,12 +2,13 @@
 use Rattle.std.proofs.Common.{true, false, ◌≡◌, ◌≢◌, inl, inr, ℕ, zero, suc, ◌+◌, ◌-◌, ◌<◌, ◌≤◌, nat_lt, Option, Some, None, is_some, cond, refl, sym, ap, ◌∙◌, subst, arith}
 use Rattle.std.specs.Option.{is_none}
 use Rattle.std.proofs.lemmas.Bool.{cases_eq, ltb-false}
+use Rattle.sector_core.specs.declared.class.Class.{Class}
 use Rattle.service_tree.specs.declared.member.State.{State}
 use Rattle.service_tree.specs.declared.member.State.TheVariants.{Idle, Active, Serving}
 use Rattle.group_tree.specs.Groups.{climb, path}
 use Rattle.change_record.specs.declared.change.InService.{InService}
 use Rattle.change_record.specs.Machine.{Bfq, put}
-use Rattle.change_record.specs.Rules.{group_of, is_idle, picked, jumped, in_service, on_pick, taken, select_from, select}
+use Rattle.change_record.specs.Rules.{group_of, is_idle, picked, jumped, in_service, on_pick, taken, class_in, chosen_in, on_class, select_from, select}
 use Rattle.plain_machine.specs.Step.{with_slot}
 use Rattle.plain_machine.proofs.Puts.{put_here, put_other, some_is}
 use Rattle.plain_machine.proofs.Placed.{placed}
@@ -15,7 +16,7 @@ use Rattle.plain_machine.proofs.Rules.{jumped-keeps}
 use Rattle.bfq_laws.proofs.Quiet.{jumped-quiet}
 use Rattle.bfq_laws.proofs.Tree.{idle}
 use Rattle.bfq_laws.proofs.Busy.{no_slot}
-use Rattle.bfq_laws.proofs.Picks.{picked-is, jumped-picks}
+use Rattle.bfq_laws.proofs.Picks.{class-of-active, picked-is, jumped-picks}
 use Rattle.bfq_laws.proofs.Shape.{In, Levels, Stands, parent-stands, stands-low, climbing, climb-more, climb-under, climb-back, climb-none, climb-whole, At, group-at, state-at, member-at, move-at, vtime-at}
 use Rattle.bfq_laws.proofs.Alive.{Has, Up, Down, Alive, not_idle, awake-active, has-kept, put-was}
 
@@ -33,15 +34,15 @@ pub record Chosen (above : ℕ → Option ℕ) (H : Type 0) (c : Bfq) : Type 0 w
   pub done : (slot : InService) → c.slot ≡ Some slot → Done above c slot
   pub found : H → is_some c.slot ≡ true
 
-jumped-at : (above : ℕ → Option ℕ) (st : ℕ → State) (group : ℕ) (b : Bfq) → At above st b → At above st (jumped group b)
-jumped-at above st = jumped-keeps (At above st) (λ b group start _ _ at. vtime-at above st b group start at)
+jumped-at : (above : ℕ → Option ℕ) (st : ℕ → State) (group : ℕ) (class : Class) (b : Bfq) → At above st b → At above st (jumped group class b)
+jumped-at above st = jumped-keeps (At above st) (λ b group class start _ _ at. vtime-at above st b group _ at)
 
--- after the jump one is picked in a group that has an active member
-has-picks : (above : ℕ → Option ℕ) (st : ℕ → State) (b : Bfq) (g : ℕ) → At above st b → Has above st g → is_some (picked (jumped g b) g) ≡ true
-has-picks above st b g at h =
+-- a class has an active member in a group that has one
+has-class : (above : ℕ → Option ℕ) (st : ℕ → State) (b : Bfq) (g : ℕ) → At above st b → Has above st g → is_some (class_in b g) ≡ true
+has-class above st b g at h =
     let m = member-at above st b h.0 at (λ rests. let bad : Idle ≡ Active = sym rests ∙ h.2 in cc) in
     let same : group_of b h.0 ≡ g = group-at above st b h.0 g at h.1 in
-    jumped-picks b g h.0 m.0 (ap (λ j. placed b j h.0) (sym same) ∙ m.1) (m.2 ∙ h.2)
+    class-of-active b g h.0 m.0 (ap (λ j. placed b j h.0) (sym same) ∙ m.1) (m.2 ∙ h.2)
 
 serves-up : (above : ℕ → Option ℕ) (st : ℕ → State) (k : ℕ) → st k ≡ Active → Up above st → Up above (put st k Serving)
 serves-up above st k act up =
@@ -58,15 +59,15 @@ serves-down above st k g parent served down j act nz _ =
     has-kept above st k g j Serving parent other (down j was.1 nz nz)
 
 -- an entity that was picked is served: a session's queue is in service now, and from a group the way goes on
-taken-chosen : (above : ℕ → Option ℕ) (levels : Levels above) (choose : ℕ → Bfq → Bfq) (n g : ℕ) (st : ℕ → State) (b : Bfq) (e : ℕ)
+taken-chosen : (above : ℕ → Option ℕ) (levels : Levels above) (choose : ℕ → Bfq → Bfq) (n g : ℕ) (class : Class) (st : ℕ → State) (b : Bfq) (e : ℕ)
     → ((h : ℕ) (now : ℕ → State) (d : Bfq) → levels.level h ≡ suc n → Stands above h → At above now d → Up above now → Down above now → (h ≢ 0 → now (16 + h) ≡ Serving)
     → d.slot ≡ None → ((x : ℕ) → now x ≡ Serving → In x (climb (suc n) above (Some h))) → ((x : ℕ) → In x (climb (suc n) above (Some h)) → now x ≡ Serving)
     → Chosen above (Has above now h) (choose h d))
     → levels.level g ≡ n → n ≤ 4 → At above st b → Up above st → Down above st → (g ≢ 0 → st (16 + g) ≡ Serving) → b.slot ≡ None
-    → ((x : ℕ) → st x ≡ Serving → In x (climb n above (Some g))) → ((x : ℕ) → In x (climb n above (Some g)) → st x ≡ Serving) → picked b g ≡ Some e
+    → ((x : ℕ) → st x ≡ Serving → In x (climb n above (Some g))) → ((x : ℕ) → In x (climb n above (Some g)) → st x ≡ Serving) → picked b g class ≡ Some e
     → (H : Type 0) → Chosen above H (taken choose g b e)
-taken-chosen above levels choose n g st b e more deep few at up down served none serving way is H =
-    let m = picked-is b g e is in
+taken-chosen above levels choose n g class st b e more deep few at up down served none serving way is H =
+    let m = picked-is b g class e is in
     let parent : above e ≡ Some g = at.places.known g e (ap is_some m.1) in
     let act : st e ≡ Active = state-at above st b g e m.0 at m.1 ∙ m.2 in
     let now : ℕ → State = put st e Serving in
@@ -134,25 +135,32 @@ unfolding select_from
 chooses above levels zero n g st b sum deep stands at up down served none serving way =
     let few : levels.level g ≤ 4 = stands-low above levels g stands in absurd (omega (arith, sum, deep, few))
 chooses above levels (suc fuel) n g st b sum deep stands at up down served none serving way =
-    let c : Bfq = jumped g b in
     let H : Type 0 = Has above st g in
     let choose : ℕ → Bfq → Bfq = λ h d. select_from fuel h d in
-    let at_c : At above st c = jumped-at above st g b at in
-    let quiet = jumped-quiet g b in
-    let none_c : c.slot ≡ None = quiet.1 ∙ none in
     let low : levels.level g ≤ 4 = stands-low above levels g stands in
     let few : n ≤ 4 = omega (arith, low, deep) in
     let next : suc n + fuel ≡ 5 = omega (arith, sum) in
-    elim (picked c g) as (λ o. picked c g ≡ o → Chosen above H (on_pick o c (taken choose g c))) [
+    elim (class_in b g) as (λ o. class_in b g ≡ o → Chosen above H (on_class o b (chosen_in choose g b))) [
       | None ↦ λ no. record {
-        done = λ slot is. let bad : Some slot ≡ None = sym is ∙ none_c in cc;
-        found = λ has. let some : is_some (picked c g) ≡ true = has-picks above st b g at has in let bad : is_some (picked c g) ≡ false = ap is_some no in cc;
+        done = λ slot is. let bad : Some slot ≡ None = sym is ∙ none in cc;
+        found = λ has. let some : is_some (class_in b g) ≡ true = has-class above st b g at has in let bad : is_some (class_in b g) ≡ false = ap is_some no in cc;
       }
-      | Some e ↦ λ is.
-          taken-chosen above levels choose n g st c e
-          (λ h now d deeper stands_h at_d up_d down_d served_d none_d serving_d way_d.
-          chooses above levels fuel (suc n) h now d next deeper stands_h at_d up_d down_d served_d none_d serving_d way_d)
-          deep few at_c up down served none_c serving way is H
+      | Some class ↦ λ first.
+          let c : Bfq = jumped g class b in
+          let at_c : At above st c = jumped-at above st g class b at in
+          let quiet = jumped-quiet g class b in
+          let none_c : c.slot ≡ None = quiet.1 ∙ none in
+          elim (picked c g class) as (λ o. picked c g class ≡ o → Chosen above H (on_pick o c (taken choose g c))) [
+            | None ↦ λ no. record {
+              done = λ slot is. let bad : Some slot ≡ None = sym is ∙ none_c in cc;
+              found = λ has. let some : is_some (picked c g class) ≡ true = jumped-picks b g class first in let bad : is_some (picked c g class) ≡ false = ap is_some no in cc;
+            }
+            | Some e ↦ λ is.
+                taken-chosen above levels choose n g class st c e
+                (λ h now d deeper stands_h at_d up_d down_d served_d none_d serving_d way_d.
+                chooses above levels fuel (suc n) h now d next deeper stands_h at_d up_d down_d served_d none_d serving_d way_d)
+                deep few at_c up down served none_c serving way is H
+          ] refl
     ] refl
 
 -- where no queue is in service

@@ -28,7 +28,7 @@ budget_after-enough Emptying budget service most b m = omega arith
 
 -- select leaves the budgets, whatever the greatest one is
 pub enough-selects : Selects AreEnough
-enough-selects = record { jumps = λ b group start nobody is h. h; passes = λ b group entity is high h. h; begins = λ b group seat is small h. h }
+enough-selects = record { jumps = λ b group class start nobody is h. h; passes = λ b group class entity is high h. h; begins = λ b group class seat is small h. h }
 
 -- each change of a rule
 pub enough-changes : (most : ℕ) → 256 ≤ most → Changes most Any AreEnough
@@ -37,7 +37,7 @@ enough-changes most greatest = record {
   stamps = λ b start entity _ le h. h;
   selects = enough-selects;
   charges = λ b slot sectors is h. h;
-  rises = λ b group vtime rise le h. h;
+  rises = λ b group class vtime rise le h. h;
   ends = λ b slot cause is h. put-enough b.budget slot.seat _ (budget_after-enough cause (b.budget slot.seat) slot.service most (h slot.seat) greatest) h;
   rests = λ b finish entity _ le h. h;
 }
@@ -46,7 +46,7 @@ pub enough-ruled : (l : Limits) → 256 ≤ l.first_budget → 256 ≤ l.max_bud
 enough-ruled l first most = record {
   later = λ n n' b le h. h;
   rules = λ n. enough-changes l.max_budget most;
-  enters = λ n b entity group weight h. h;
+  enters = λ n b entity group class weight h. h;
   begins = λ n b seat small h. put-enough b.budget seat l.first_budget first h;
   goes = λ n b entity h. h;
   weighs = λ n b entity weight h. h;

@@ -7,13 +7,13 @@ use Rattle.group_tree.specs.Groups.{climb, most_levels, path}
 use Rattle.change_record.specs.declared.change.InService.{InService}
 use Rattle.change_record.specs.Machine.{Bfq, put}
 use Rattle.change_record.specs.declared.change.Expiry.{Expiry}
-use Rattle.change_record.specs.Rules.{top, group_of, is_idle, along, stamp, ended, is_backlogged, rested, expire_one, out_of_service, expire}
+use Rattle.change_record.specs.Rules.{top, group_of, is_idle, along, stamp, ended, is_backlogged, rested, expire_one, out_of_service, expire, class_in}
 use Rattle.plain_machine.proofs.Puts.{put_here, put_other, some_is, and_then_is}
 use Rattle.plain_machine.proofs.Placed.{placed, least_of}
 use Rattle.plain_machine.proofs.Rules.{expire-is}
 use Rattle.bfq_laws.proofs.Quiet.{expire-slot}
 use Rattle.bfq_laws.proofs.Tree.{idle}
-use Rattle.bfq_laws.proofs.Picks.{start-of-active, active-of-start}
+use Rattle.bfq_laws.proofs.Picks.{class-of-active, active-of-class}
 use Rattle.bfq_laws.proofs.Shape.{In, Levels, Stands, parent-stands, stands-low, climbing, At, group-at, state-at, member-at, own-at, stamp-at}
 use Rattle.bfq_laws.proofs.Alive.{Has, Up, DownBut, Down, Alive, not_idle, awake-active, has-kept, put-was}
 
@@ -32,21 +32,21 @@ expires-at above levels st service queued k g b c at up e =
     ] e
 
 -- a group's entity has more to serve exactly where a member of the group is active
-group-backlogged : (queued : Bool) (g : ℕ) (b : Bfq) → is_backlogged queued (16 + g) b ≡ is_some (least_of b g)
+group-backlogged : (queued : Bool) (g : ℕ) (b : Bfq) → is_backlogged queued (16 + g) b ≡ is_some (class_in b g)
 group-backlogged queued g b =
     let no : nat_lt (16 + g) 16 ≡ false = search (arith, rules) in
     let one : 16 + g - 16 ≡ g = omega arith in
-    cond-false (nat_lt (16 + g) 16) queued (is_some (least_of b (16 + g - 16))) no ∙ ap (λ j. is_some (least_of b j)) one
+    cond-false (nat_lt (16 + g) 16) queued (is_some (class_in b (16 + g - 16))) no ∙ ap (λ j. is_some (class_in b j)) one
 
-has-start : (above : ℕ → Option ℕ) (st : ℕ → State) (b : Bfq) (g : ℕ) → At above st b → Has above st g → is_some (least_of b g) ≡ true
+has-start : (above : ℕ → Option ℕ) (st : ℕ → State) (b : Bfq) (g : ℕ) → At above st b → Has above st g → is_some (class_in b g) ≡ true
 has-start above st b g at h =
     let m = member-at above st b h.0 at (λ rests. let bad : Idle ≡ Active = sym rests ∙ h.2 in cc) in
     let same : group_of b h.0 ≡ g = group-at above st b h.0 g at h.1 in
-    start-of-active b g h.0 m.0 (ap (λ j. placed b j h.0) (sym same) ∙ m.1) (m.2 ∙ h.2)
+    class-of-active b g h.0 m.0 (ap (λ j. placed b j h.0) (sym same) ∙ m.1) (m.2 ∙ h.2)
 
-start-has : (above : ℕ → Option ℕ) (st : ℕ → State) (b : Bfq) (g : ℕ) → At above st b → is_some (least_of b g) ≡ true → Has above st g
+start-has : (above : ℕ → Option ℕ) (st : ℕ → State) (b : Bfq) (g : ℕ) → At above st b → is_some (class_in b g) ≡ true → Has above st g
 start-has above st b g at e =
-    let x = active-of-start b g e in
+    let x = active-of-class b g e in
     (x.0, at.places.known g x.0 (ap is_some x.2), state-at above st b g x.0 x.1 at x.2 ∙ x.3)
 
 -- what expiring leaves
@@ -115,8 +115,8 @@ expire-group above levels service queued g h ways ne parent more =
                 more.1 now d c a.1 up_now down_now (still Active (λ x. cc)) first.2
             | inr a ↦
                 let now : ℕ → State = put st k Idle in
-                let none : Has above st g → ⊥ = λ has. let some : is_some (least_of b g) ≡ true = has-start above st b g at has in
-                let no : is_some (least_of b g) ≡ false = sym (group-backlogged queued g b) ∙ a.0 in cc in
+                let none : Has above st g → ⊥ = λ has. let some : is_some (class_in b g) ≡ true = has-start above st b g at has in
+                let no : is_some (class_in b g) ≡ false = sym (group-backlogged queued g b) ∙ a.0 in cc in
                 let up_now : Up above now = λ i j above_i awake nz _.
                 let moved : i ≢ k = λ same. let rests : is_idle (now i) ≡ true = ap is_idle (put_here st k Idle i same) in cc in
                 let before : is_idle (st i) ≡ false = ap is_idle (sym (put_other st k Idle i moved)) ∙ awake in

@@ -2,12 +2,14 @@
 use Rattle.std.proofs.Common.{true, ◌≡◌, inl, inr, ℕ, ◌+◌, ◌<◌, List, Option, Some, All, is_some, refl, sym, ap, ◌∙◌, subst, arith}
 use Rattle.std.proofs.lemmas.Bool.{cases_eq}
 use Rattle.std.proofs.lemmas.List.Elements.{All-cons, All-weaker}
+use Rattle.sector_core.specs.declared.class.Class.{Class}
 use Rattle.service_tree.specs.declared.member.Member.{Member}
+use Rattle.class_trees.specs.declared.Vtimes.{Vtimes}
 use Rattle.group_tree.specs.Groups.{climb, most_levels, path}
 use Rattle.change_record.specs.declared.change.InService.{InService}
 use Rattle.change_record.specs.declared.change.Seat.{Seat}
 use Rattle.change_record.specs.Machine.{Bfq}
-use Rattle.change_record.specs.Rules.{group_of, put_vtime, picked, activate, select}
+use Rattle.change_record.specs.Rules.{group_of, put_vtimes, picked, activate, select}
 use Rattle.plain_machine.proofs.Puts.{some_is}
 use Rattle.plain_machine.proofs.Placed.{placed, put_place, placed-other, placed-vtime}
 use Rattle.plain_machine.proofs.Rules.{High, climb-high, StampsKeep, Changes, activate_path-keeps, select-keeps}
@@ -28,9 +30,9 @@ member-known seats b group entity member fits h g e there = elim (cases_eq e ent
   | inr other ↦ h g e (ap is_some (sym (placed-other b group entity member g e other)) ∙ there)
 ]
 
--- a virtual time is another one
-pub vtime-known : (seats : ℕ → Option Seat) (b : Bfq) (group vtime : ℕ) → Known seats b → Known seats (put_vtime group vtime b)
-vtime-known seats b group vtime h g e there = h g e (ap is_some (sym (placed-vtime b group vtime g e)) ∙ there)
+-- virtual times are other ones
+pub vtime-known : (seats : ℕ → Option Seat) (b : Bfq) (group : ℕ) (vtimes : Vtimes) → Known seats b → Known seats (put_vtimes group vtimes b)
+vtime-known seats b group vtimes h g e there = h g e (ap is_some (sym (placed-vtime b group vtimes g e)) ∙ there)
 
 -- so is each entity on the path of a seat that is taken
 path-fits : (seats : ℕ → Option Seat) (above : ℕ → Option ℕ) (seat : ℕ) → is_some (seats seat) ≡ true → All (Fits seats) (path above seat)
@@ -46,8 +48,8 @@ one-sits : (seats : ℕ → Option Seat) (new : InService) → is_some (seats ne
 one-sits seats new its slot e = subst (λ (s : InService). is_some (seats s.seat) ≡ true) (some_is new slot e) its
 
 -- who is picked is a member, and so fits
-picked-fits : (seats : ℕ → Option Seat) (b : Bfq) (group entity : ℕ) → picked b group ≡ Some entity → Known seats b → Fits seats entity
-picked-fits seats b group entity is h = h group entity (ap is_some (picked-is b group entity is).1)
+picked-fits : (seats : ℕ → Option Seat) (b : Bfq) (group : ℕ) (class : Class) (entity : ℕ) → picked b group class ≡ Some entity → Known seats b → Fits seats entity
+picked-fits seats b group class entity is h = h group entity (ap is_some (picked-is b group class entity is).1)
 
 stamps-known : (seats : ℕ → Option Seat) → StampsKeep (Fits seats) (Known seats)
 stamps-known seats b start entity fits _ h = member-known seats b (group_of b entity) entity _ fits h
@@ -61,14 +63,14 @@ known-changes most seats = record {
   paths = λ b slot is h. path-fits seats b.parent slot.seat (h.1 slot is);
   stamps = λ b start entity fits le h. (stamps-known seats b start entity fits le h.0, h.1);
   selects = record {
-    jumps = λ b group start nobody is h. (vtime-known seats b group start h.0, h.1);
-    passes = λ b group entity is high h. (member-known seats b group entity _ (picked-fits seats b group entity is h.0) h.0, h.1);
-    begins = λ b group seat is small h.
-        let fits : Fits seats seat = picked-fits seats b group seat is h.0 in
+    jumps = λ b group class start nobody is h. (vtime-known seats b group _ h.0, h.1);
+    passes = λ b group class entity is high h. (member-known seats b group entity _ (picked-fits seats b group class entity is h.0) h.0, h.1);
+    begins = λ b group class seat is small h.
+        let fits : Fits seats seat = picked-fits seats b group class seat is h.0 in
         (member-known seats b group seat _ fits h.0, one-sits seats (record { seat = seat; service = 0; age = 0 }) (fits small));
   };
   charges = λ b slot sectors is h. (h.0, one-sits seats (record slot { service = slot.service + sectors }) (h.1 slot is));
-  rises = λ b group vtime rise le h. (vtime-known seats b group vtime h.0, h.1);
+  rises = λ b group class vtime rise le h. (vtime-known seats b group _ h.0, h.1);
   ends = λ b slot cause is h. (h.0, λ other e. cc);
   rests = λ b finish entity fits le h. (member-known seats b (group_of b entity) entity _ fits h.0, h.1);
 }
@@ -80,10 +82,10 @@ pub record Begins (seats : ℕ → Option Seat) (b : Bfq) : Type 0 where
 
 pub select-begins : (seats : ℕ → Option Seat) (b : Bfq) → Begins seats b → Begins seats (select b)
 select-begins seats = select-keeps (Begins seats) (record {
-  jumps = λ b group start nobody is h. record { known = vtime-known seats b group start h.known; fresh = h.fresh };
-  passes = λ b group entity is high h. record { known = member-known seats b group entity _ (picked-fits seats b group entity is h.known) h.known; fresh = h.fresh };
-  begins = λ b group seat is small h.
-      let fits : Fits seats seat = picked-fits seats b group seat is h.known in
+  jumps = λ b group class start nobody is h. record { known = vtime-known seats b group _ h.known; fresh = h.fresh };
+  passes = λ b group class entity is high h. record { known = member-known seats b group entity _ (picked-fits seats b group class entity is h.known) h.known; fresh = h.fresh };
+  begins = λ b group class seat is small h.
+      let fits : Fits seats seat = picked-fits seats b group class seat is h.known in
       let P : InService → Type 0 = λ x. (is_some (seats x.seat) ≡ true) × (x.service ≡ 0) in
       record {
         known = member-known seats b group seat _ fits h.known;

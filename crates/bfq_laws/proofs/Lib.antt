@@ -21,3 +21,4 @@ pub mod Within
 pub mod Weighing
 pub mod Summing
 pub mod Serving
+pub mod Order

@@ -161,7 +161,7 @@ gone-empty l m k h e =
 -- every step
 pub keeps-owned : (l : Limits) → Keeps l Owned
 keeps-owned l = record {
-  attaches = λ m n seat group prio _ free _ _ h. put-empty m.seat m.queue seat _ (free-empty m h seat (ap is_some free)) h;
+  attaches = λ m n seat group prio class _ free _ _ h. put-empty m.seat m.queue seat _ (free-empty m h seat (ap is_some free)) h;
   submits = λ m n seat session op range payload next _ its e h. woken-owned m seat (submitted m n seat session op range payload) next e (submitted-owned m n seat session op range payload its h);
   enters = λ m seat f outbox stays h. entered-owned m seat f stays h;
   goes = λ m seat _ last h. put-empty m.seat m.queue seat None (gone-empty l m seat h last).1 h;

@@ -3,14 +3,18 @@ use Rattle.std.proofs.Common.{true, false, Bool, ◌≡◌, ℕ, zero, suc, ◌+
 use Rattle.std.specs.List.{filter}
 use Rattle.std.specs.Option.{option_map, option_map_or}
 use Rattle.std.proofs.lemmas.List.Elements.{All-nil, All-cons, All-head, All-tail, All-filter, filter_passes}
+use Rattle.sector_core.specs.declared.class.Class.{Class}
 use Rattle.process_queue.specs.Queue.{is_empty}
 use Rattle.service_tree.specs.declared.member.Member.{Member}
 use Rattle.service_tree.specs.declared.member.State.{State}
 use Rattle.service_tree.specs.declared.member.State.TheVariants.{Idle, Active, Serving}
-use Rattle.service_tree.specs.Members.{Service, is_active, is_eligible, numbered, is_sooner, sooner, soonest, lesser, least, least_start, pick}
-use Rattle.change_record.specs.Exchange.{with_vtime}
+use Rattle.class_trees.specs.Classes.{Classes, only, time_of, with_time}
+use Rattle.class_trees.proofs.Highest.{first_is, first_none, only-own, only-placed}
+use Rattle.class_trees.proofs.Times.{time_of-with}
+use Rattle.service_tree.specs.Members.{is_active, is_eligible, numbered, is_sooner, sooner, soonest, lesser, least, least_start, pick}
+use Rattle.change_record.specs.Exchange.{with_vtimes}
 use Rattle.change_record.specs.Machine.{Bfq}
-use Rattle.change_record.specs.Rules.{vtime_of, put_vtime, picked, jumped}
+use Rattle.change_record.specs.Rules.{vtime_of, put_vtime, picked, jumped, class_in, service_in}
 use Rattle.plain_machine.proofs.Puts.{put_here, some_is}
 use Rattle.plain_machine.proofs.Placed.{placed, places_of, least_of}
 
@@ -108,27 +112,46 @@ first-one [] e P Q ps qs = cc
 first-one (x ∷ xs) e P Q ps qs = (x, All-head P x xs ps, All-head Q x xs qs)
 
 -- there is a least start exactly where a member is active
-pub start-of-active : (b : Bfq) (group e : ℕ) (m : Member) → placed b group e ≡ Some m → m.state ≡ Active → is_some (least_of b group) ≡ true
-start-of-active b group e m there is =
-    let members : List (Option Member) = places_of b group in
-    least-some (actives members) (passing (λ x. is_active x.state) 0 members e m there (ap is_active is))
+pub start-of-active : (members : List (Option Member)) (e : ℕ) (m : Member) → slice_index_or members e None ≡ Some m → m.state ≡ Active → is_some (least_start members) ≡ true
+start-of-active members e m there is = least-some (actives members) (passing (λ x. is_active x.state) 0 members e m there (ap is_active is))
 
-pub active-of-start : (b : Bfq) (group : ℕ) → is_some (least_of b group) ≡ true → (e : ℕ) × (m : Member) × (placed b group e ≡ Some m) × (m.state ≡ Active)
-active-of-start b group e =
-    let members : List (Option Member) = places_of b group in
+active-of-start : (members : List (Option Member)) → is_some (least_start members) ≡ true → (e : ℕ) × (m : Member) × (slice_index_or members e None ≡ Some m) × (m.state ≡ Active)
+active-of-start members e =
     let passes : ℕ × Member → Bool = λ x. is_active x.1.state in
     let x = first-one (actives members) e (IsPlaced members) (λ y. passes y ≡ true) (All-filter passes (IsPlaced members) (numbered 0 members) (all-placed members)) (filter_passes passes (numbered 0 members)) in
     (x.0.0, x.0.1, x.1, active_is x.0.1.state x.2)
 
--- who is picked is active
-pub picked-is : (b : Bfq) (group entity : ℕ) → picked b group ≡ Some entity → (m : Member) × (placed b group entity ≡ Some m) × (m.state ≡ Active)
-picked-is b group entity e =
+-- a class has an active member exactly where a member is active
+pub class-of-active : (b : Bfq) (group e : ℕ) (m : Member) → placed b group e ≡ Some m → m.state ≡ Active → is_some (class_in b group) ≡ true
+class-of-active b group e m there is = elim (class_in b group) as (λ o. class_in b group ≡ o → is_some o ≡ true) [
+  | None ↦ λ no.
+      let members : List (Option Member) = only m.class (places_of b group) in
+      let some : is_some (least_start members) ≡ true = start-of-active members e m (only-own (places_of b group) e m there) is in
+      let none : is_some (least_start members) ≡ false = first_none (places_of b group) no m.class in cc
+  | Some class ↦ λ _. refl
+] refl
+
+some_class : (o : Option Class) → is_some o ≡ true → (class : Class) × (o ≡ Some class)
+some_class None e = cc
+some_class (Some class) e = (class, refl)
+
+pub active-of-class : (b : Bfq) (group : ℕ) → is_some (class_in b group) ≡ true → (e : ℕ) × (m : Member) × (placed b group e ≡ Some m) × (m.state ≡ Active)
+active-of-class b group e =
     let members : List (Option Member) = places_of b group in
-    let passes : ℕ × Member → Bool = λ x. is_eligible (vtime_of b group) x.1 in
+    let c = some_class (class_in b group) e in
+    let x = active-of-start (only c.0 members) (first_is members c.0 c.1) in
+    (x.0, x.1, (only-placed c.0 members x.0 x.1 x.2).0, x.3)
+
+-- who is picked is active, and of the class
+pub picked-is : (b : Bfq) (group : ℕ) (class : Class) (entity : ℕ) → picked b group class ≡ Some entity → (m : Member) × (placed b group entity ≡ Some m) × (m.state ≡ Active) × (m.class ≡ class)
+picked-is b group class entity e =
+    let members : List (Option Member) = (service_in b group class).members in
+    let passes : ℕ × Member → Bool = λ x. is_eligible (vtime_of b group class) x.1 in
     let x = first_of_some (soonest (filter passes (numbered 0 members))) entity e in
     let there : IsPlaced members x.0 = soonest-is (IsPlaced members) (filter passes (numbered 0 members)) (All-filter passes (IsPlaced members) (numbered 0 members) (all-placed members)) x.0 x.1 in
     let passed : passes x.0 ≡ true = soonest-is (λ y. passes y ≡ true) (filter passes (numbered 0 members)) (filter_passes passes (numbered 0 members)) x.0 x.1 in
-    (x.0.1, ap (λ n. placed b group n) (sym x.2) ∙ there, active_and x.0.1.state (nat_le x.0.1.start (vtime_of b group)) passed)
+    let own = only-placed class (places_of b group) x.0.0 x.0.1 there in
+    (x.0.1, ap (λ n. placed b group n) (sym x.2) ∙ own.0, active_and x.0.1.state (nat_le x.0.1.start (vtime_of b group class)) passed, own.1)
 
 -- an active member whose start is the virtual time is eligible
 eligible : (vtime : ℕ) (m : Member) → m.state ≡ Active → m.start ≡ vtime → is_eligible vtime m ≡ true
@@ -139,9 +162,9 @@ eligible vtime m is at =
     rw (act, le) refl
 
 -- at the least start as virtual time one is picked
-picked-at : (b : Bfq) (group start : ℕ) → least_of b group ≡ Some start → is_some (picked (put_vtime group start b) group) ≡ true
-picked-at b group start e =
-    let members : List (Option Member) = places_of b group in
+picked-at : (b : Bfq) (group : ℕ) (class : Class) (start : ℕ) → least_start (service_in b group class).members ≡ Some start → is_some (picked (put_vtime group class start b) group class) ≡ true
+picked-at b group class start e =
+    let members : List (Option Member) = (service_in b group class).members in
     let passes : ℕ × Member → Bool = λ x. is_active x.1.state in
     let x = has-least (IsPlaced members) (λ y. passes y ≡ true) (actives members) start
     (All-filter passes (IsPlaced members) (numbered 0 members) (all-placed members)) (filter_passes passes (numbered 0 members)) e in
@@ -149,18 +172,19 @@ picked-at b group start e =
     let is : is_eligible start m ≡ true = eligible start m (active_is m.state x.2) x.3 in
     let one : is_some (pick start members) ≡ true =
     soonest-some (filter (λ y. is_eligible start y.1) (numbered 0 members)) (passing (is_eligible start) 0 members x.0.0 m x.1 is) in
-    let tree : Service = with_vtime (b.service group) start in
-    ap (λ (t : Service). is_some (pick t.vtime t.members)) (put_here b.service group tree group refl) ∙ one
+    let tree : Classes = with_vtimes (b.service group) (with_time (b.service group).vtimes class start) in
+    ap (λ (t : Classes). is_some (pick (time_of t.vtimes class) (only class t.members))) (put_here b.service group tree group refl)
+    ∙ (ap (λ v. is_some (pick v members)) (time_of-with (b.service group).vtimes class start) ∙ one)
 
--- so one is picked after the jump, where a member is active
-pub jumped-picks : (b : Bfq) (group e : ℕ) (m : Member) → placed b group e ≡ Some m → m.state ≡ Active → is_some (picked (jumped group b) group) ≡ true
-jumped-picks b group e m there is =
-    let members : List (Option Member) = places_of b group in
-    let some : is_some (least_of b group) ≡ true = start-of-active b group e m there is in
-    elim (is_some (picked b group)) as (λ t. is_some (picked b group) ≡ t → is_some (picked (cond t b (option_map_or (λ start. put_vtime group start b) (least_start members) b)) group) ≡ true) [
+-- so one is picked after the jump, in the highest class with an active member
+pub jumped-picks : (b : Bfq) (group : ℕ) (class : Class) → class_in b group ≡ Some class → is_some (picked (jumped group class b) group class) ≡ true
+jumped-picks b group class first =
+    let members : List (Option Member) = (service_in b group class).members in
+    let some : is_some (least_start members) ≡ true = first_is (places_of b group) class first in
+    elim (is_some (picked b group class)) as (λ t. is_some (picked b group class) ≡ t → is_some (picked (cond t b (option_map_or (λ start. put_vtime group class start b) (least_start members) b)) group class) ≡ true) [
       | true ↦ λ ok. ok
-      | false ↦ λ _. elim (least_start members) as (λ o. least_start members ≡ o → is_some (picked (option_map_or (λ start. put_vtime group start b) o b) group) ≡ true) [
+      | false ↦ λ _. elim (least_start members) as (λ o. least_start members ≡ o → is_some (picked (option_map_or (λ start. put_vtime group class start b) o b) group class) ≡ true) [
         | None ↦ λ none. let no : is_some (least_start members) ≡ false = ap is_some none in cc
-        | Some start ↦ λ at. picked-at b group start at
+        | Some start ↦ λ at. picked-at b group class start at
       ] refl
     ] refl

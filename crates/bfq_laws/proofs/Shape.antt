@@ -4,10 +4,11 @@ use Rattle.std.proofs.lemmas.Bool.{cases_eq, cond-true}
 use Rattle.service_tree.specs.declared.member.Member.{Member}
 use Rattle.service_tree.specs.declared.member.State.{State}
 use Rattle.service_tree.specs.declared.member.State.TheVariants.{Idle, Active}
-use Rattle.service_tree.specs.Members.{Service}
+use Rattle.class_trees.specs.declared.Vtimes.{Vtimes}
+use Rattle.class_trees.specs.Classes.{Classes}
 use Rattle.group_tree.specs.Groups.{has_entity, entity_of, climb}
 use Rattle.change_record.specs.Machine.{Bfq, put}
-use Rattle.change_record.specs.Rules.{top, absent, group_of, member_of, put_member, put_vtime, finish_from, stamped, stamp}
+use Rattle.change_record.specs.Rules.{top, absent, group_of, member_of, put_member, put_vtimes, finish_from, stamped, stamp}
 use Rattle.plain_machine.proofs.Puts.{put_here, put_other, some_is}
 use Rattle.plain_machine.proofs.Placed.{placed, placed-here, placed-elsewhere, placed-other, placed-vtime, length-member, places_of, places-vtime}
 use Rattle.plain_machine.proofs.Rules.{unrefused}
@@ -137,7 +138,7 @@ climb-has above (suc n) k (Some g) x up i =
     ] i
 
 -- the places of the entities in the trees of groups: who is in a tree is in that group, and who is in a group is in its tree
-pub record Places (above : ℕ → Option ℕ) (service : ℕ → Service) : Type 0 where
+pub record Places (above : ℕ → Option ℕ) (service : ℕ → Classes) : Type 0 where
   pub known : (g e : ℕ) → is_some (slice_index_or (service g).members e None) ≡ true → above e ≡ Some g
   pub there : (g e : ℕ) → above e ≡ Some g → is_some (slice_index_or (service g).members e None) ≡ true
   pub lengths : (g : ℕ) → g < 32 → length (service g).members ≡ 48
@@ -220,14 +221,14 @@ stamp-at above levels st start k g b c at up e =
     let made = unrefused (nat_le (finish_from start k b) top) (stamped start k b) c e in
     subst (At above (put st k Active)) made.1 (own-at above levels st b k g _ at up)
 
--- a virtual time is another one
-pub vtime-at : (above : ℕ → Option ℕ) (st : ℕ → State) (b : Bfq) (g vtime : ℕ) → At above st b → At above st (put_vtime g vtime b)
-vtime-at above st b g vtime at = record {
+-- virtual times are other ones
+pub vtime-at : (above : ℕ → Option ℕ) (st : ℕ → State) (b : Bfq) (g : ℕ) (vtimes : Vtimes) → At above st b → At above st (put_vtimes g vtimes b)
+vtime-at above st b g vtimes at = record {
   parents = at.parents;
   places = record {
-    known = λ j e there. at.places.known j e (ap is_some (sym (placed-vtime b g vtime j e)) ∙ there);
-    there = λ j e is. ap is_some (placed-vtime b g vtime j e) ∙ at.places.there j e is;
-    lengths = λ j lt. ap length (places-vtime b g vtime j) ∙ at.places.lengths j lt;
+    known = λ j e there. at.places.known j e (ap is_some (sym (placed-vtime b g vtimes j e)) ∙ there);
+    there = λ j e is. ap is_some (placed-vtime b g vtimes j e) ∙ at.places.there j e is;
+    lengths = λ j lt. ap length (places-vtime b g vtimes j) ∙ at.places.lengths j lt;
   };
-  are = λ e. ap (λ o. (unwrap_or o absent).state) (placed-vtime b g vtime (group_of b e) e) ∙ at.are e;
+  are = λ e. ap (λ o. (unwrap_or o absent).state) (placed-vtime b g vtimes (group_of b e) e) ∙ at.are e;
 }

@@ -5,6 +5,7 @@ use Rattle.std.proofs.lemmas.Bool.{cases_eq}
 use Rattle.std.proofs.lemmas.List.Elements.{All-nil}
 use Rattle.sector_core.specs.declared.config.Scheduler.{Scheduler}
 use Rattle.sector_core.specs.declared.config.Scheduler.TheVariants.{Plain as PlainScheduler, Bfq as BfqScheduler}
+use Rattle.sector_core.specs.declared.class.Class.{Class}
 use Rattle.service_tree.specs.declared.member.State.{State}
 use Rattle.service_tree.specs.declared.member.State.TheVariants.{Idle}
 use Rattle.process_queue.specs.Queue.{is_empty}
@@ -36,6 +37,7 @@ use Rattle.bfq_laws.proofs.Alive.{Alive, activate-alive, charge-at}
 use Rattle.bfq_laws.proofs.Expiring.{expire-alive}
 use Rattle.bfq_laws.proofs.Choosing.{with_slot-alive}
 use Rattle.bfq_laws.proofs.Standing.{session-alive, made-alive, dropped-alive, left-alive}
+use Rattle.class_trees.specs.Classes.{same_times}
 
 -- the queue in service is that of a seat whose entity is not idle
 pub awake-slot : (seats : ℕ → Option Seat) (queue : ℕ → List WholeRequest) (b : Bfq) → Busy seats queue b → (slot : InService) → b.slot ≡ Some slot → (slot.seat < 16) × (idle b slot.seat ≡ false)
@@ -61,14 +63,14 @@ alive-same b c p s o h = record {
 }
 
 -- Attach: a free seat is in no group, and not in service.
-attached-alive : (l : Limits) (m : Plain) (n seat group prio : ℕ) → seat < 16 → m.seat seat ≡ None → stands m.bfq group ≡ true → Tidy m → Alive m.bfq → Alive (attached l m n seat group prio).bfq
-attached-alive l m n seat group prio small free stand tidy h =
-    let with_it : Bfq = with_entity l seat group (prio_weight prio) m.bfq in
+attached-alive : (l : Limits) (m : Plain) (n seat group prio : ℕ) (class : Class) → seat < 16 → m.seat seat ≡ None → stands m.bfq group ≡ true → Tidy m → Alive m.bfq → Alive (attached l m n seat group prio class).bfq
+attached-alive l m n seat group prio class small free stand tidy h =
+    let with_it : Bfq = with_entity l seat group class (prio_weight prio) m.bfq in
     let none : is_some (m.seat seat) ≡ false = ap is_some free in
     let alive : Alive with_it =
-    session-alive l m.bfq seat group (prio_weight prio) small stand (λ j there. let sits : is_some (m.seat seat) ≡ true = (tidy.busy.tree.known j seat small there).0 in cc)
+    session-alive l m.bfq seat group class (prio_weight prio) small stand (λ j there. let sits : is_some (m.seat seat) ≡ true = (tidy.busy.tree.known j seat small there).0 in cc)
     (λ slot is same. let sits : is_some (m.seat seat) ≡ true = ap (λ k. is_some (m.seat k)) (sym same) ∙ (tidy.busy.serves slot is).1 in cc) h in
-    alive-same with_it (attached l m n seat group prio).bfq refl refl refl alive
+    alive-same with_it (attached l m n seat group prio class).bfq refl refl refl alive
 
 -- Submit
 pub woken-alive : (m : Plain) (seat : ℕ) (next o : Plain) → next.bfq ≡ m.bfq → seat < 16 → is_some (m.seat seat) ≡ true → woken m seat next ≡ Some o → Tree m.seat m.bfq → Alive m.bfq → Alive o.bfq
@@ -209,7 +211,7 @@ begun-alive l scheduler b h =
     let c : Bfq = begun_again l scheduler b in
     let last : Q c = begun-keeps l Q (record {
       times = λ c e g up q. (timed-at l h.above h.levels h.st c e g up q.0, q.1);
-      vtimes = λ c g q. (vtime-at h.above h.st c g l.first_vtime q.0, q.1);
+      vtimes = λ c g q. (vtime-at h.above h.st c g (same_times l.first_vtime) q.0, q.1);
       budgets = λ c q. (record { parents = q.0.parents; places = q.0.places; are = q.0.are }, q.1);
     }) scheduler b (h.at, refl) in
     record {
@@ -263,10 +265,10 @@ not_bfq BfqScheduler e = cc
 -- every step
 pub keeps-sound : (l : Limits) → Keeps l Sound
 keeps-sound l = record {
-  attaches = λ m n seat group prio small free stand high h. record {
-    owned = (keeps-owned l).attaches m n seat group prio small free stand high h.owned;
-    calm = attached-tidy l (under m) n seat group prio small free stand h.calm;
-    alive = attached-alive l (under m) n seat group prio small free stand h.calm h.alive;
+  attaches = λ m n seat group prio class small free stand high h. record {
+    owned = (keeps-owned l).attaches m n seat group prio class small free stand high h.owned;
+    calm = attached-tidy l (under m) n seat group prio class small free stand h.calm;
+    alive = attached-alive l (under m) n seat group prio class small free stand h.calm h.alive;
   };
   submits = λ m n seat session op range payload next small its e h.
       let taken : is_some (m.seat seat) ≡ true = session-sits session (m.seat seat) its in

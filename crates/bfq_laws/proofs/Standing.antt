@@ -2,6 +2,8 @@
 use Rattle.std.proofs.Common.{true, false, Bool, ◌≡◌, ◌≢◌, ◌⊎◌, inl, inr, ℕ, zero, suc, ◌+◌, ◌<◌, ◌≤◌, nat_le, not, ◌==◌, eq-eqb, ne_eqb, List, [], ◌∷◌, length, Option, Some, None, is_some, unwrap_or, cond, refl, sym, ap, ◌∙◌, subst, arith}
 use Rattle.std.specs.List.{find}
 use Rattle.std.proofs.lemmas.Bool.{cases_eq, cond-true, cond-false, leb-false}
+use Rattle.sector_core.specs.declared.class.Class.{Class}
+use Rattle.sector_core.specs.declared.class.Class.TheVariants.{BestEffort}
 use Rattle.service_tree.specs.declared.member.Member.{Member}
 use Rattle.service_tree.specs.declared.member.State.{State}
 use Rattle.service_tree.specs.declared.member.State.TheVariants.{Idle, Active, Serving}
@@ -19,6 +21,7 @@ use Rattle.bfq_laws.proofs.Busy.{stood}
 use Rattle.bfq_laws.proofs.Shape.{In, Levels, Stands, stands-low, has-entity, climbing, climb-has, At, state, parent-at, group-at, member-at, vtime-at}
 use Rattle.bfq_laws.proofs.Upcoming.{some_of, passes-of, was-false}
 use Rattle.bfq_laws.proofs.Alive.{Alive, put-was}
+use Rattle.class_trees.specs.Classes.{same_times}
 
 -- the way up is as it was where the groups on it are in those they were in
 climb-same : (above after : ℕ → Option ℕ) → ((e j : ℕ) → above e ≡ Some j → j ≢ 0 → after (16 + j) ≡ above (16 + j)) → (n : ℕ) (o : Option ℕ)
@@ -54,10 +57,10 @@ nowhere-idle above st b k at nowhere = elim (idle_or (st k)) [
 ]
 
 -- a new entity
-enters-at : (l : Limits) (above : ℕ → Option ℕ) (st : ℕ → State) (b : Bfq) (k g weight : ℕ) → At above st b → k < 48 → g < 32 → ((j : ℕ) → is_some (placed b j k) ≡ true → ⊥)
-    → At (put above k (Some g)) st (with_entity l k g weight b)
-enters-at l above st b k g weight at small low nowhere =
-    let c : Bfq = with_entity l k g weight b in
+enters-at : (l : Limits) (above : ℕ → Option ℕ) (st : ℕ → State) (b : Bfq) (k g : ℕ) (class : Class) (weight : ℕ) → At above st b → k < 48 → g < 32 → ((j : ℕ) → is_some (placed b j k) ≡ true → ⊥)
+    → At (put above k (Some g)) st (with_entity l k g class weight b)
+enters-at l above st b k g class weight at small low nowhere =
+    let c : Bfq = with_entity l k g class weight b in
     let len : length (places_of b g) ≡ 48 = at.places.lengths g low in
     let room : k < length (places_of b g) = omega (arith, small, len) in
     let rests : st k ≡ Idle = nowhere-idle above st b k at nowhere in
@@ -90,11 +93,11 @@ enters-at l above st b k g weight at small low nowhere =
       ];
     }
 
-enters-alive : (l : Limits) (b : Bfq) (h : Alive b) (k g weight : ℕ) → k < 48 → g < 32 → ((j : ℕ) → is_some (placed b j k) ≡ true → ⊥) → Levels (put h.above k (Some g))
-    → ((e j : ℕ) → h.above e ≡ Some j → j ≢ 0 → 16 + j ≢ k) → ((slot : InService) → b.slot ≡ Some slot → slot.seat ≢ k) → Alive (with_entity l k g weight b)
-enters-alive l b h k g weight small low nowhere levels apart away =
+enters-alive : (l : Limits) (b : Bfq) (h : Alive b) (k g : ℕ) (class : Class) (weight : ℕ) → k < 48 → g < 32 → ((j : ℕ) → is_some (placed b j k) ≡ true → ⊥) → Levels (put h.above k (Some g))
+    → ((e j : ℕ) → h.above e ≡ Some j → j ≢ 0 → 16 + j ≢ k) → ((slot : InService) → b.slot ≡ Some slot → slot.seat ≢ k) → Alive (with_entity l k g class weight b)
+enters-alive l b h k g class weight small low nowhere levels apart away =
     let after : ℕ → Option ℕ = put h.above k (Some g) in
-    let at : At after h.st (with_entity l k g weight b) = enters-at l h.above h.st b k g weight h.at small low nowhere in
+    let at : At after h.st (with_entity l k g class weight b) = enters-at l h.above h.st b k g class weight h.at small low nowhere in
     let rests : h.st k ≡ Idle = nowhere-idle h.above h.st b k h.at nowhere in
     let agree : (e j : ℕ) → h.above e ≡ Some j → j ≢ 0 → after (16 + j) ≡ h.above (16 + j) = λ e j is nz. put_other h.above k (Some g) (16 + j) (apart e j is nz) in
     record {
@@ -130,9 +133,9 @@ stands-is b h g e =
     (lt, λ ne. some_of (h.above (16 + g)) (ap is_some (sym (parent-at h.above h.st b (16 + g) h.at)) ∙ sym (stands-test b g lt ne) ∙ e))
 
 -- a session's entity is new
-pub session-alive : (l : Limits) (b : Bfq) (k g weight : ℕ) → k < 16 → stands b g ≡ true → ((j : ℕ) → is_some (placed b j k) ≡ true → ⊥) → ((slot : InService) → b.slot ≡ Some slot → slot.seat ≢ k)
-    → Alive b → Alive (with_entity l k g weight b)
-session-alive l b k g weight small stand nowhere away h =
+pub session-alive : (l : Limits) (b : Bfq) (k g : ℕ) (class : Class) (weight : ℕ) → k < 16 → stands b g ≡ true → ((j : ℕ) → is_some (placed b j k) ≡ true → ⊥) → ((slot : InService) → b.slot ≡ Some slot → slot.seat ≢ k)
+    → Alive b → Alive (with_entity l k g class weight b)
+session-alive l b k g class weight small stand nowhere away h =
     let above : ℕ → Option ℕ = h.above in
     let after : ℕ → Option ℕ = put above k (Some g) in
     let stands : Stands above g = stands-is b h g stand in
@@ -155,7 +158,7 @@ session-alive l b k g weight small stand nowhere away h =
       rises = λ j i is. h.levels.rises j i (sym (kept j) ∙ is);
     } in
     let low : k < 48 = omega (arith, small) in
-    enters-alive l b h k g weight low stands.0 nowhere levels (λ e j is nz. far j) away
+    enters-alive l b h k g class weight low stands.0 nowhere levels (λ e j is nz. far j) away
 
 -- where nobody is found nobody passes
 find-none : (passes : ℕ → Bool) (from count e : ℕ) → is_some (find passes (numbers from count)) ≡ false → from ≤ e → e < from + count → passes e ≡ false
@@ -232,14 +235,14 @@ made-alive l b q p weight stand shallow free low_slot h =
       ];
     } in
     let lt : k < 48 = omega (arith, low) in
-    let in_it : Alive (with_entity l k p weight b) =
-    enters-alive l b h k p weight lt up.0 (λ j there. let bad : Some j ≡ None = sym (h.at.places.known j k there) ∙ none in cc) levels (λ e j is _. far j (unused e j is))
+    let in_it : Alive (with_entity l k p BestEffort weight b) =
+    enters-alive l b h k p BestEffort weight lt up.0 (λ j there. let bad : Some j ≡ None = sym (h.at.places.known j k there) ∙ none in cc) levels (λ e j is _. far j (unused e j is))
     (λ slot is its. let small : slot.seat < 16 = low_slot slot is in absurd (omega (arith, its, small))) in
     record {
       above = in_it.above;
       st = in_it.st;
       levels = in_it.levels;
-      at = vtime-at in_it.above in_it.st (with_entity l k p weight b) q l.first_vtime in_it.at;
+      at = vtime-at in_it.above in_it.st (with_entity l k p BestEffort weight b) q (same_times l.first_vtime) in_it.at;
       up = in_it.up;
       down = in_it.down;
       serving = in_it.serving;

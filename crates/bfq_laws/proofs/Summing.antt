@@ -1,16 +1,18 @@
 -- In each group on the path of the queue in service some weight counts, on the machine of every keeper.
-use Rattle.std.proofs.Common.{true, false, Bool, ◌≡◌, ℕ, zero, suc, ◌+◌, ◌≤◌, nat_lt, List, [], ◌∷◌, Option, Some, None, All, cond, slice_index_or, sum_by, inl, inr, refl, ap, ◌∙◌, arith}
+use Rattle.std.proofs.Common.{true, false, Bool, ◌≡◌, ℕ, zero, suc, ◌+◌, ◌≤◌, nat_lt, List, [], ◌∷◌, Option, Some, None, All, cond, slice_index_or, sum_by, unwrap_or, sym, subst, inl, inr, refl, ap, ◌∙◌, arith}
 use Rattle.std.specs.List.{filter}
 use Rattle.std.proofs.lemmas.List.Elements.{All-nil, All-cons}
 use Rattle.std.proofs.lemmas.List.Sums.{sum_by-cons}
+use Rattle.sector_core.specs.declared.class.Class.{Class}
 use Rattle.service_tree.specs.declared.member.Member.{Member}
 use Rattle.service_tree.specs.declared.member.State.{State}
 use Rattle.service_tree.specs.declared.member.State.TheVariants.{Idle, Active, Serving}
 use Rattle.service_tree.specs.Members.{counts_in, does_count, numbered}
+use Rattle.class_trees.proofs.Highest.{only-own}
 use Rattle.group_tree.specs.Groups.{path}
 use Rattle.change_record.specs.declared.change.InService.{InService}
 use Rattle.change_record.specs.Machine.{Bfq, Plain}
-use Rattle.change_record.specs.Rules.{group_of, vtime_of, wsum, is_idle}
+use Rattle.change_record.specs.Rules.{absent, class_of, group_of, service_in, vtime_of, wsum, is_idle}
 use Rattle.plain_machine.specs.declared.call.Call.{Call}
 use Rattle.plain_machine.specs.Step.{Limits, with_slot}
 use Rattle.plain_machine.specs.Keeper.{machine_of, replay}
@@ -70,15 +72,19 @@ awake-counts Active ahead e = refl
 awake-counts Serving ahead e = refl
 
 -- who is on the path of the queue in service is not idle, so it counts in its group
-sums-there : (b : Bfq) → Alive b → WeighEnough b → (slot : InService) → idle b slot.seat ≡ false → All (λ entity. 1 ≤ wsum b (group_of b entity)) (path b.parent slot.seat)
-sums-there b h weighs slot awake = all-of (λ entity. 1 ≤ wsum b (group_of b entity)) (path b.parent slot.seat)
+sums-there : (b : Bfq) → Alive b → WeighEnough b → (slot : InService) → idle b slot.seat ≡ false → All (λ entity. 1 ≤ wsum b (group_of b entity) (class_of b entity)) (path b.parent slot.seat)
+sums-there b h weighs slot awake = all-of (λ entity. 1 ≤ wsum b (group_of b entity) (class_of b entity)) (path b.parent slot.seat)
     (λ i within.
     let awake_i : is_idle (h.st i) ≡ false = path-awake b h slot.seat awake i within in
     let found = member-at h.above h.st b i h.at (not_idle (h.st i) awake_i) in
     let g : ℕ = group_of b i in
     let m : Member = found.0 in
     let awake_m : is_idle m.state ≡ false = ap is_idle found.2 ∙ awake_i in
-    sum-weighs (vtime_of b g) 0 (places_of b g) i m found.1 (awake-counts m.state (nat_lt (vtime_of b g) m.finish) awake_m) (weighs.1 g i m found.1))
+    let class : class_of b i ≡ m.class = ap (λ o. (unwrap_or o absent).class) found.1 in
+    let v : ℕ = vtime_of b g m.class in
+    let le : 1 ≤ wsum b g m.class =
+    sum-weighs v 0 (service_in b g m.class).members i m (only-own (places_of b g) i m found.1) (awake-counts m.state (nat_lt v m.finish) awake_m) (weighs.1 g i m found.1) in
+    subst (λ (k : Class). 1 ≤ wsum b g k) (sym class) le)
 
 sums-in : (l : Limits) (m : Plain) → Weighs m → SumsArePositiveIn l m
 sums-in l m h under =

@@ -3,13 +3,14 @@ use Rattle.std.proofs.Common.{true, false, Bool, ◌≡◌, ◌≢◌, inl, inr,
 use Rattle.std.specs.Option.{option_and_then}
 use Rattle.std.proofs.lemmas.Bool.{cases_eq, cond-true}
 use Rattle.service_tree.specs.declared.member.Member.{Member}
-use Rattle.service_tree.specs.Members.{Service}
+use Rattle.class_trees.specs.declared.Vtimes.{Vtimes}
+use Rattle.class_trees.specs.Classes.{Classes}
 use Rattle.group_tree.specs.Groups.{climb, most_levels, path}
 use Rattle.change_record.specs.declared.change.InService.{InService}
 use Rattle.change_record.specs.declared.change.Seat.{Seat}
 use Rattle.change_record.specs.Machine.{Bfq}
 use Rattle.change_record.specs.declared.change.Expiry.{Expiry}
-use Rattle.change_record.specs.Rules.{top, absent, group_of, member_of, put_member, put_vtime, is_idle, along, finish_from, stamped, stamp, start_from, activate_path, activate, in_service, select, served_more, charge, ended, is_backlogged, rested, expire_one, out_of_service, expire}
+use Rattle.change_record.specs.Rules.{top, absent, group_of, member_of, put_member, put_vtime, put_vtimes, class_in, is_idle, along, finish_from, stamped, stamp, start_from, activate_path, activate, in_service, select, served_more, charge, ended, is_backlogged, rested, expire_one, out_of_service, expire}
 use Rattle.plain_machine.proofs.Puts.{some_is, and_then_is}
 use Rattle.plain_machine.proofs.Placed.{placed, placed-here, placed-elsewhere, placed-other, placed-vtime, placed-same, put_place, places_of, places-vtime, length-member, least_of}
 use Rattle.plain_machine.proofs.Rules.{High, climb-high, StampsKeep, RestsKeep, selected, Selects, unrefused, activate_path-keeps, select-keeps, charge-is, charges-keep, expire-is, expires-keep}
@@ -25,7 +26,7 @@ pub Over-same : (b c : Bfq) → c.parent ≡ b.parent → c.service ≡ b.servic
 Over-same b c p s = record {
   parents = λ e _. ap (λ (f : ℕ → Option ℕ). f e) p;
   places = λ g e _. placed-same b c s g e;
-  lengths = λ g. ap (λ (f : ℕ → Service). length (f g).members) s;
+  lengths = λ g. ap (λ (f : ℕ → Classes). length (f g).members) s;
 }
 
 pub Over-trans : (b c d : Bfq) → Over b c → Over c d → Over b d
@@ -43,11 +44,11 @@ Over-member b group k new high = record {
   lengths = λ g. length-member b group k new g;
 }
 
-pub Over-vtime : (b : Bfq) (group vtime : ℕ) → Over b (put_vtime group vtime b)
-Over-vtime b group vtime = record {
+pub Over-vtime : (b : Bfq) (group : ℕ) (vtimes : Vtimes) → Over b (put_vtimes group vtimes b)
+Over-vtime b group vtimes = record {
   parents = λ e lt. refl;
-  places = λ g e lt. placed-vtime b group vtime g e;
-  lengths = λ g. ap length (places-vtime b group vtime g);
+  places = λ g e lt. placed-vtime b group vtimes g e;
+  lengths = λ g. ap length (places-vtime b group vtimes g);
 }
 
 -- an entity is idle
@@ -149,14 +150,14 @@ pub charge-over : (sectors : ℕ) (b c : Bfq) → charge sectors b ≡ Some c �
 charge-over sectors b c e =
     let slot = charge-is sectors b c e in
     let more : Bfq = served_more sectors slot.0 b in
-    charges-keep (Over b) (λ d group vtime _ _ h. Over-trans b d (put_vtime group vtime d) h (Over-vtime d group vtime)) sectors (path b.parent slot.0.seat) more c slot.2 (Over-same b more refl refl)
+    charges-keep (Over b) (λ d group class vtime _ _ h. Over-trans b d (put_vtime group class vtime d) h (Over-vtime d group _)) sectors (path b.parent slot.0.seat) more c slot.2 (Over-same b more refl refl)
 
 -- Expire
 expire_one-sets : (seats : ℕ → Option Seat) (service : ℕ) (queued : Bool) (k : ℕ) (b c : Bfq) → k < 16 → is_some (seats k) ≡ true → Tree seats b → expire_one service queued k b ≡ Some c → Sets seats k (not queued) b c
 expire_one-sets seats service queued k b c small sits tree e =
     let finish : ℕ = ended service k b in
     let yes : nat_lt k 16 ≡ true = search (rules, small) in
-    let its : is_backlogged queued k b ≡ queued = cond-true (nat_lt k 16) queued (is_some (least_of b (k - 16))) yes in
+    let its : is_backlogged queued k b ≡ queued = cond-true (nat_lt k 16) queued (is_some (class_in b (k - 16))) yes in
     elim (nat_le finish top) as (λ t. cond t (cond (is_backlogged queued k b) (stamp finish k b) (Some (rested finish k b))) None ≡ Some c → Sets seats k (not queued) b c) [
       | true ↦ λ f. elim (is_backlogged queued k b) as (λ t. is_backlogged queued k b ≡ t → cond t (stamp finish k b) (Some (rested finish k b)) ≡ Some c → Sets seats k (not queued) b c) [
         | true ↦ λ is s. subst (λ v. Sets seats k v b c) (ap not (sym is ∙ its)) (stamp-sets seats finish k b c small sits tree s)
@@ -199,10 +200,10 @@ Choice-over seats was b c over slots h = record {
 -- each change of select: who is picked was not idle
 choice-selects : (seats : ℕ → Option Seat) (was : ℕ → Bool) → Selects (Choice seats was)
 choice-selects seats was = record {
-  jumps = λ b group start nobody is h. Choice-over seats was b (put_vtime group start b) (Over-vtime b group start) refl h;
-  passes = λ b group entity is high h. Choice-over seats was b (in_service group entity b) (Over-member b group entity _ high) refl h;
-  begins = λ b group entity is small h.
-      let m = picked-is b group entity is in
+  jumps = λ b group class start nobody is h. Choice-over seats was b (put_vtime group class start b) (Over-vtime b group _) refl h;
+  passes = λ b group class entity is high h. Choice-over seats was b (in_service group entity b) (Over-member b group entity _ high) refl h;
+  begins = λ b group class entity is small h.
+      let m = picked-is b group class entity is in
       let c : Bfq = in_service group entity b in
       let slot : InService = record { seat = entity; service = 0; age = 0 } in
       let served : Bfq = selected group entity b in

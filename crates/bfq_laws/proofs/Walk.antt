@@ -8,6 +8,7 @@ use Rattle.sector_core.specs.declared.bio.Outcome.{Outcome}
 use Rattle.sector_core.specs.declared.range.Range.{Range}
 use Rattle.sector_core.specs.declared.config.Scheduler.{Scheduler}
 use Rattle.sector_core.specs.declared.config.Scheduler.TheVariants.{Plain as PlainScheduler, Bfq as BfqScheduler}
+use Rattle.sector_core.specs.declared.class.Class.{Class}
 use Rattle.change_record.specs.Blocks.{Blocks}
 use Rattle.process_queue.specs.Queue.{is_empty}
 use Rattle.group_tree.specs.Groups.{entity_of, depth, most_levels}
@@ -53,7 +54,7 @@ gone m seat = record m { seat = put m.seat seat None; bfq = without_entity seat 
 
 -- each change of a step keeps this
 pub record Keeps (l : Limits) (P : Plain → Type 0) : Type 0 where
-  pub attaches : (m : Plain) (n seat group prio : ℕ) → seat < 16 → m.seat seat ≡ None → stands m.bfq group ≡ true → prio ≤ 7 → P m → P (attached l m n seat group prio)
+  pub attaches : (m : Plain) (n seat group prio : ℕ) (class : Class) → seat < 16 → m.seat seat ≡ None → stands m.bfq group ≡ true → prio ≤ 7 → P m → P (attached l m n seat group prio class)
   pub submits : (m : Plain) (n seat session : ℕ) (op : Op) (range : Range) (payload : List ℕ) (next : Plain) → seat < 16 → is_session session (m.seat seat) ≡ true
       → woken m seat (submitted m n seat session op range payload) ≡ Some next → P m → P next
   pub enters : (m : Plain) (seat : ℕ) (f : Seat → Seat) (outbox : ℕ → List Bio) → Stays f → P m → P (entered m seat f outbox)
@@ -129,7 +130,7 @@ keeps-lead l P k =
     record {
       later = λ n n' m le h. h;
       stays = λ n m h. h;
-      attaches = λ n m seat group prio small free known few h. (w.attaches n m seat group prio small free known few h.0, k.attaches m n seat group prio small free known few h.1);
+      attaches = λ n m seat group prio class small free known few h. (w.attaches n m seat group prio class small free known few h.0, k.attaches m n seat group prio class small free known few h.1);
       submits = λ n m seat session op range payload next small its sized is h.
           (w.submits n m seat session op range payload next small its sized is h.0, k.submits m n seat session op range payload next small its is h.1);
       reaps = λ n m seat bio bios is h. (w.reaps n m seat bio bios is h.0, k.enters m seat (with_unreaped (unreaped m seat - 1)) (put m.outbox seat bios) (λ s. refl) h.1);

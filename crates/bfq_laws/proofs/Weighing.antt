@@ -6,10 +6,14 @@ use Rattle.service_tree.specs.declared.member.Member.{Member}
 use Rattle.service_tree.specs.declared.member.State.{State}
 use Rattle.service_tree.specs.declared.member.State.TheVariants.{Idle, Active, Serving}
 use Rattle.sector_core.specs.declared.config.Scheduler.{Scheduler}
+use Rattle.sector_core.specs.declared.class.Class.{Class}
+use Rattle.sector_core.specs.declared.class.Class.TheVariants.{BestEffort}
+use Rattle.class_trees.specs.declared.Vtimes.{Vtimes}
+use Rattle.class_trees.specs.Classes.{same_times}
 use Rattle.group_tree.specs.Groups.{entity_of, climb, most_levels, path}
 use Rattle.change_record.specs.declared.change.InService.{InService}
 use Rattle.change_record.specs.Machine.{Bfq, Plain, put}
-use Rattle.change_record.specs.Rules.{absent, group_of, member_in, member_of, put_member, put_vtime, is_idle, picked, in_service}
+use Rattle.change_record.specs.Rules.{absent, group_of, member_in, member_of, put_member, put_vtimes, is_idle, picked, in_service}
 use Rattle.plain_machine.specs.declared.call.Call.{Call}
 use Rattle.plain_machine.specs.Step.{Limits, opening, is_weight, with_entity, prio_weight, submitted, begun_again}
 use Rattle.bfq_laws.specs.Weights.{WeighEnough, WeightsArePositive}
@@ -39,9 +43,9 @@ member-weighs b group k new le h g e member is = elim (placed-either b group k n
 some-weighs : (new : Member) → 1 ≤ new.weight → (member : Member) → Some new ≡ Some member → 1 ≤ member.weight
 some-weighs new le member e = subst (λ (m : Member). 1 ≤ m.weight) (some_is new member e) le
 
--- a virtual time is another one
-vtime-weighs : (b : Bfq) (group vtime : ℕ) → AllWeigh b → AllWeigh (put_vtime group vtime b)
-vtime-weighs b group vtime h g e member is = h g e member (sym (placed-vtime b group vtime g e) ∙ is)
+-- virtual times are other ones
+vtime-weighs : (b : Bfq) (group : ℕ) (vtimes : Vtimes) → AllWeigh b → AllWeigh (put_vtimes group vtimes b)
+vtime-weighs b group vtimes h g e member is = h g e member (sym (placed-vtime b group vtimes g e) ∙ is)
 
 put-weighs : (pending : ℕ → ℕ) (entity v : ℕ) → 1 ≤ v → ((e : ℕ) → 1 ≤ pending e) → (e : ℕ) → 1 ≤ put pending entity v e
 put-weighs pending entity v le h e = elim (cases_eq e entity) [
@@ -57,8 +61,8 @@ some_member (Some m) e = (m, refl)
 put_member-weighs : (group k : ℕ) (new : Member) (b : Bfq) → 1 ≤ new.weight → WeighEnough b → WeighEnough (put_member group k new b)
 put_member-weighs group k new b le h = (h.0, member-weighs b group k (Some new) (some-weighs new le) h.1)
 
-put_vtime-weighs : (group vtime : ℕ) (b : Bfq) → WeighEnough b → WeighEnough (put_vtime group vtime b)
-put_vtime-weighs group vtime b h = (h.0, vtime-weighs b group vtime h.1)
+put_vtimes-weighs : (group : ℕ) (vtimes : Vtimes) (b : Bfq) → WeighEnough b → WeighEnough (put_vtimes group vtimes b)
+put_vtimes-weighs group vtimes b h = (h.0, vtime-weighs b group vtimes h.1)
 
 -- what an entity weighs in its own group
 abbrev weight_in : Bfq → ℕ → ℕ
@@ -138,9 +142,9 @@ one-in : (above : ℕ → Option ℕ) (new : InService) → InGroup above new.se
 one-in above new its slot e = subst (λ (s : InService). InGroup above s.seat) (some_is new slot e) its
 
 -- who is picked is in the group, and is in service now
-served-weighs_at : (above : ℕ → Option ℕ) (levels : Levels above) (b : Bfq) (group e : ℕ) → picked b group ≡ Some e → WeighAt above b → InGroup above e × WeighAt above (in_service group e b)
-served-weighs_at above levels b group e is h =
-    let there : is_some (placed b group e) ≡ true = ap is_some (picked-is b group e is).1 in
+served-weighs_at : (above : ℕ → Option ℕ) (levels : Levels above) (b : Bfq) (group : ℕ) (class : Class) (e : ℕ) → picked b group class ≡ Some e → WeighAt above b → InGroup above e × WeighAt above (in_service group e b)
+served-weighs_at above levels b group class e is h =
+    let there : is_some (placed b group e) ≡ true = ap is_some (picked-is b group class e is).1 in
     let up : above e ≡ Some group = h.at.places.known group e there in (
       (group, up),
       record {
@@ -151,8 +155,8 @@ served-weighs_at above levels b group e is h =
       },
     )
 
-vtime-weighs_at : (above : ℕ → Option ℕ) (b : Bfq) (group vtime : ℕ) → WeighAt above b → WeighAt above (put_vtime group vtime b)
-vtime-weighs_at above b group vtime h = record { weigh = put_vtime-weighs group vtime b h.weigh; st = h.st; at = vtime-at above h.st b group vtime h.at; seated = h.seated }
+vtime-weighs_at : (above : ℕ → Option ℕ) (b : Bfq) (group : ℕ) (vtimes : Vtimes) → WeighAt above b → WeighAt above (put_vtimes group vtimes b)
+vtime-weighs_at above b group vtimes h = record { weigh = put_vtimes-weighs group vtimes b h.weigh; st = h.st; at = vtime-at above h.st b group vtimes h.at; seated = h.seated }
 
 -- each change of a rule
 pub weigh_at-changes : (most : ℕ) (above : ℕ → Option ℕ) → Levels above → Changes most (InGroup above) (WeighAt above)
@@ -165,14 +169,14 @@ weigh_at-changes most above levels = record {
     seated = h.seated;
   };
   selects = record {
-    jumps = λ b group start nobody is h. vtime-weighs_at above b group start h;
-    passes = λ b group e is high h. (served-weighs_at above levels b group e is h).1;
-    begins = λ b group seat is small h.
-        let now = served-weighs_at above levels b group seat is h in
+    jumps = λ b group class start nobody is h. vtime-weighs_at above b group _ h;
+    passes = λ b group class e is high h. (served-weighs_at above levels b group class e is h).1;
+    begins = λ b group class seat is small h.
+        let now = served-weighs_at above levels b group class seat is h in
         slot-weighs_at above (in_service group seat b) b.budget _ (one-in above (record { seat = seat; service = 0; age = 0 }) now.0) now.1;
   };
   charges = λ b slot sectors is h. slot-weighs_at above b b.budget _ (one-in above (record slot { service = slot.service + sectors }) (h.seated slot is)) h;
-  rises = λ b group vtime rise le h. vtime-weighs_at above b group vtime h;
+  rises = λ b group class vtime rise le h. vtime-weighs_at above b group _ h;
   ends = λ b slot cause is h. slot-weighs_at above b _ None (λ other e. cc) h;
   rests = λ b finish e its le h. record {
     weigh = put_member-weighs (group_of b e) e _ b (in-weighs above h.st b e its.0 its.1 h.at h.weigh) h.weigh;
@@ -195,8 +199,8 @@ weigh_at-alive b h weighs = record {
 }
 
 -- a new entity
-entity-weighs : (l : Limits) (entity group weight : ℕ) (b : Bfq) → 1 ≤ weight → WeighEnough b → WeighEnough (with_entity l entity group weight b)
-entity-weighs l entity group weight b le h = (put-weighs b.pending entity weight le h.0, member-weighs b group entity _ (some-weighs _ le) h.1)
+entity-weighs : (l : Limits) (entity group : ℕ) (class : Class) (weight : ℕ) (b : Bfq) → 1 ≤ weight → WeighEnough b → WeighEnough (with_entity l entity group class weight b)
+entity-weighs l entity group class weight b le h = (put-weighs b.pending entity weight le h.0, member-weighs b group entity _ (some-weighs _ le) h.1)
 
 prio-weighs : (prio : ℕ) → prio ≤ 7 → 1 ≤ prio_weight prio
 prio-weighs prio le = omega (arith, le)
@@ -214,7 +218,7 @@ begun-weighs l scheduler b alive h =
     let Q : Bfq → Type 0 = λ c. At alive.above alive.st c × WeighEnough c in
     let last : Q (begun_again l scheduler b) = begun-keeps l Q (record {
       times = λ c e g up q. (timed-at l alive.above alive.levels alive.st c e g up q.0, put_member-weighs (group_of c e) e _ c (in-weighs alive.above alive.st c e g (sym (parent-at alive.above alive.st c e q.0) ∙ up) q.0 q.1) q.1);
-      vtimes = λ c g q. (vtime-at alive.above alive.st c g l.first_vtime q.0, put_vtime-weighs g l.first_vtime c q.1);
+      vtimes = λ c g q. (vtime-at alive.above alive.st c g (same_times l.first_vtime) q.0, put_vtimes-weighs g (same_times l.first_vtime) c q.1);
       budgets = λ c q. (record { parents = q.0.parents; places = q.0.places; are = q.0.are }, q.1);
     }) scheduler b (alive.at, h) in
     last.1
@@ -225,8 +229,8 @@ Weighs m = WeighEnough m.bfq × Sound m
 
 pub keeps-weighs : (l : Limits) → Keeps l Weighs
 keeps-weighs l = record {
-  attaches = λ m n seat group prio small free stand high h.
-      (entity-weighs l seat group (prio_weight prio) m.bfq (prio-weighs prio high) h.0, (keeps-sound l).attaches m n seat group prio small free stand high h.1);
+  attaches = λ m n seat group prio class small free stand high h.
+      (entity-weighs l seat group class (prio_weight prio) m.bfq (prio-weighs prio high) h.0, (keeps-sound l).attaches m n seat group prio class small free stand high h.1);
   submits = λ m n seat session op range payload next small its e h.
       (woken-bfq Any WeighEnough stamps-weigh m seat (submitted m n seat session op range payload) next (all_any (path m.bfq.parent seat)) e h.0 h.0, (keeps-sound l).submits m n seat session op range payload next small its e h.1);
   enters = λ m seat f outbox stays h. (h.0, (keeps-sound l).enters m seat f outbox stays h.1);
@@ -239,8 +243,8 @@ keeps-weighs l = record {
       (last.weigh, (keeps-sound l).sends m n tag o its whole e h.1);
   moves = λ m overlay requests outbox flight frozen h. (h.0, (keeps-sound l).moves m overlay requests outbox flight frozen h.1);
   makes = λ m group parent weight stand weighs few free h.
-      let now : WeighEnough (with_entity l (entity_of group) parent weight m.bfq) = entity-weighs l (entity_of group) parent weight m.bfq (weight-weighs weight weighs) h.0 in
-      ((now.0, vtime-weighs (with_entity l (entity_of group) parent weight m.bfq) group l.first_vtime now.1), (keeps-sound l).makes m group parent weight stand weighs few free h.1);
+      let now : WeighEnough (with_entity l (entity_of group) parent BestEffort weight m.bfq) = entity-weighs l (entity_of group) parent BestEffort weight m.bfq (weight-weighs weight weighs) h.0 in
+      ((now.0, vtime-weighs (with_entity l (entity_of group) parent BestEffort weight m.bfq) group (same_times l.first_vtime) now.1), (keeps-sound l).makes m group parent weight stand weighs few free h.1);
   drops = λ m group stand other unused h.
       ((h.0.0, member-weighs m.bfq (group_of m.bfq (entity_of group)) (entity_of group) None gone-weighs h.0.1), (keeps-sound l).drops m group stand other unused h.1);
   weighs = λ m group weight fits h.

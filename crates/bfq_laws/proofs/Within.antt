@@ -4,6 +4,9 @@ use Rattle.std.specs.List.{find}
 use Rattle.std.specs.Option.{is_none, option_map, option_map_or}
 use Rattle.std.proofs.lemmas.Bool.{cases_eq}
 use Rattle.sector_core.specs.declared.bio.Bio.{Bio}
+use Rattle.sector_core.specs.declared.class.Class.{Class}
+use Rattle.sector_core.specs.declared.class.Class.TheVariants.{BestEffort}
+use Rattle.class_trees.specs.Classes.{same_times}
 use Rattle.process_queue.specs.Queue.{is_empty}
 use Rattle.process_queue.specs.Next.{has_start, wanted, starts}
 use Rattle.group_tree.specs.Groups.{entity_of}
@@ -66,9 +69,9 @@ mapped-some f None e = e
 mapped-some f (Some s) e = refl
 
 -- Attach: a free seat is not that of the queue in service.
-attached-within : (l : Limits) → 256 ≤ l.first_budget → (m : Plain) (n seat group prio : ℕ) → m.seat seat ≡ None → Within m → Within (attached l m n seat group prio)
-attached-within l first m n seat group prio free h =
-    let next : Plain = attached l m n seat group prio in
+attached-within : (l : Limits) → 256 ≤ l.first_budget → (m : Plain) (n seat group prio : ℕ) (class : Class) → m.seat seat ≡ None → Within m → Within (attached l m n seat group prio class)
+attached-within l first m n seat group prio class free h =
+    let next : Plain = attached l m n seat group prio class in
     let grows : Grows m.seat next.seat = put-grows m.seat seat _ (λ _. refl) in
     record {
       enough = put-enough m.bfq.budget seat l.first_budget first h.enough;
@@ -231,7 +234,7 @@ Serves m = Within m × Sound m
 
 keeps-within : (l : Limits) → 256 ≤ l.first_budget → 256 ≤ l.max_budget → Keeps l Serves
 keeps-within l first most = record {
-  attaches = λ m n seat group prio small free stand high h. (attached-within l first m n seat group prio free h.0, (keeps-sound l).attaches m n seat group prio small free stand high h.1);
+  attaches = λ m n seat group prio class small free stand high h. (attached-within l first m n seat group prio class free h.0, (keeps-sound l).attaches m n seat group prio class small free stand high h.1);
   submits = λ m n seat session op range payload next small its e h. (
     woken-within m seat (submitted m n seat session op range payload) next refl (put-grows m.seat seat _ (λ sits. mapped-some _ (m.seat seat) sits)) (session-sits session (m.seat seat) its) e h.0,
     (keeps-sound l).submits m n seat session op range payload next small its e h.1,
@@ -258,7 +261,7 @@ keeps-within l first most = record {
     record {
       enough = h.0.enough;
       known =
-          vtime-known m.seat (with_entity l (entity_of group) parent weight m.bfq) group l.first_vtime
+          vtime-known m.seat (with_entity l (entity_of group) parent BestEffort weight m.bfq) group (same_times l.first_vtime)
           (member-known m.seat m.bfq parent (entity_of group) _ (λ small. absurd (omega (arith, small))) h.0.known);
       served = h.0.served;
     },

@@ -7,3 +7,4 @@ pub mod Members
 pub mod Queues
 pub mod Served
 pub mod Seats
+pub mod Order

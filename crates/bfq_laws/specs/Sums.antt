@@ -1,16 +1,17 @@
 -- What the sums of weights are by which a charge divides.
 use Rattle.std.specs.Prelude.{◌≡◌, ℕ, ◌≤◌, true, List, All, Some}
 use Rattle.group_tree.specs.Groups.{path}
-use Rattle.change_record.specs.Rules.{group_of, wsum}
+use Rattle.change_record.specs.Rules.{class_of, group_of, wsum}
 use Rattle.change_record.specs.declared.change.InService.{InService}
 use Rattle.change_record.specs.Machine.{Bfq, Plain}
 use Rattle.plain_machine.specs.declared.call.Call.{Call}
 use Rattle.plain_machine.specs.Step.{Limits, is_bfq, with_budget_in, with_slot}
 use Rattle.plain_machine.specs.Keeper.{machine_of, replay}
 
--- where a queue is in service, in each group on its path some weight counts (B-WF2Q+: a virtual time rises by the share of a sum of weights)
+-- if a queue is in service, some weight counts in the class of each entity on its path, in its group (B-WF2Q+: a virtual time rises by the
+-- share of a sum of weights)
 abbrev pub SumsAreThere : Bfq → Type 0
-SumsAreThere b = (slot : InService) → b.slot ≡ Some slot → All (λ entity. 1 ≤ wsum b (group_of b entity)) (path b.parent slot.seat)
+SumsAreThere b = (slot : InService) → b.slot ≡ Some slot → All (λ entity. 1 ≤ wsum b (group_of b entity) (class_of b entity)) (path b.parent slot.seat)
 
 -- so it is under bfq, and where a dispatch has a queue in service, before it charges
 abbrev pub SumsArePositiveIn : Limits → Plain → Type 0

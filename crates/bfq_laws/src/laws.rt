@@ -8,6 +8,7 @@ ghost use Rattle.bfq_laws.specs.Members.{EntitiesAreMembers};
 ghost use Rattle.bfq_laws.specs.Queues.{QueuesAreOfTheirSessions};
 ghost use Rattle.bfq_laws.specs.Served.{ThePathIsServed};
 ghost use Rattle.bfq_laws.specs.Seats.{TakenSeatsAreInGroups};
+ghost use Rattle.bfq_laws.specs.Order.{ClassesAreInOrder};
 ghost use Rattle.plain_machine.specs.Step.{Limits};
 ghost use Rattle.plain_machine.specs.declared.call.Call.{Call};
 ghost use Rattle.std.specs.Prelude.{ℕ, List};
@@ -72,4 +73,10 @@ pub fn serving_is_the_path()
 /// there. The body is empty: the contract is the law.
 pub fn seats_are_in_groups()
     ensures { (l : Limits) (most : ℕ) (journal : List Call) → TakenSeatsAreInGroups l most journal }
+{}
+
+/// On the machine of every keeper that a journal makes, if a dispatch under BFQ selects a queue, no sibling of a higher class
+/// waits: of its session, nor of a group above it. The body is empty: the contract is the law.
+pub fn classes_are_in_order()
+    ensures { (l : Limits) (most : ℕ) (journal : List Call) → ClassesAreInOrder l most journal }
 {}

@@ -2,7 +2,7 @@
 use Rattle.std.specs.Prelude.{slice_get}
 use Rattle.std.proofs.Common.{◌≡◌, ℕ, zero, suc, List, [], ◌∷◌, Option, Some, None, slice_index_or, refl, sym, ap, ◌∙◌}
 use Rattle.service_tree.specs.declared.member.Member.{Member}
-use Rattle.service_tree.specs.Members.{Service}
+use Rattle.class_trees.specs.Classes.{Classes, same_times}
 use Rattle.change_record.specs.Tables.{Tables}
 use Rattle.change_record.specs.Exchange.{tree_at}
 
@@ -19,7 +19,7 @@ looked_some (x ∷ xs) zero d y e = cc
 looked_some (x ∷ xs) (suc i) d y e = looked_some xs i d y e
 
 -- what stands at an entity's place in the tree of a group that is there
-pub looked_in : (t : Tables) (group entity : ℕ) (tree : Service) (o p : Option Member) → slice_get t.trees group ≡ Some tree → o ≡ slice_index_or tree.members entity None → o ≡ p
+pub looked_in : (t : Tables) (group entity : ℕ) (tree : Classes) (o p : Option Member) → slice_get t.trees group ≡ Some tree → o ≡ slice_index_or tree.members entity None → o ≡ p
     → slice_index_or (tree_at t group).members entity None ≡ p
 looked_in t group entity tree o p found read is =
-    ap (λ (s : Service). slice_index_or s.members entity None) (looked_some t.trees group (record { vtime = 0; members = [] }) tree found) ∙ sym read ∙ is
+    ap (λ (s : Classes). slice_index_or s.members entity None) (looked_some t.trees group (record { vtimes = same_times 0; members = [] }) tree found) ∙ sym read ∙ is

@@ -1,6 +1,8 @@
 -- Tables on which the rules of BFQ run: their lengths, and the bounds of their numbers (our profile).
 use Rattle.std.specs.Prelude.{◌≡◌, ℕ, ◌<◌, ◌≤◌, ◌^◌, length, None, Some, slice_index_or}
+use Rattle.sector_core.specs.declared.class.Class.{Class}
 use Rattle.service_tree.specs.declared.member.Member.{Member}
+use Rattle.class_trees.specs.Classes.{time_of}
 use Rattle.change_record.specs.declared.change.InService.{InService}
 use Rattle.change_record.specs.Tables.{Tables}
 use Rattle.change_record.specs.Machine.{Bfq, bfq_of}
@@ -16,7 +18,7 @@ pub record IsSized (t : Tables) : Type 0 where
 
 -- the times are at most 2^62, the budgets 256 to 65536, and the service in the slot is at most 65536
 pub record IsBounded (b : Bfq) : Type 0 where
-  pub vtimes : (group : ℕ) → (b.service group).vtime ≤ 2 ^ 62
+  pub vtimes : (group : ℕ) (class : Class) → time_of (b.service group).vtimes class ≤ 2 ^ 62
   pub starts : (group entity : ℕ) (m : Member) → slice_index_or (b.service group).members entity None ≡ Some m → m.start ≤ 2 ^ 62
   pub finishes : (group entity : ℕ) (m : Member) → slice_index_or (b.service group).members entity None ≡ Some m → m.finish ≤ 2 ^ 62
   pub least_budgets : (entity : ℕ) → 256 ≤ b.budget entity

@@ -11,7 +11,7 @@ use crate::stamping::stamp;
 use change_record::{Parts, Tape};
 use sector_core::Entity;
 
-// Each entity of a path, the leaf first, until one is not idle: it starts at the later of its group's virtual time and its last finish.
+// Each entity of a path, the leaf first, until one is not idle: it starts at the later of its last finish and the virtual time of its class.
 pub fn activate_path(parts: &mut Parts, tape: &mut Tape, path: &[Entity]) -> Result<(), VtimeFull>
     requires room { length path.now ≤ tape.old.room }
     requires sized { IsSized parts.old.tables }
@@ -27,7 +27,7 @@ pub fn activate_path(parts: &mut Parts, tape: &mut Tape, path: &[Entity]) -> Res
         if !is_idle(member) {
             return Ok(());
         }
-        let start = vtime_of(parts, group).max(member.finish);
+        let start = vtime_of(parts, group, member.class).max(member.finish);
         stamp(parts, tape, start, *entity)?;
     }
     Ok(())

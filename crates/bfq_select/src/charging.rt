@@ -7,12 +7,12 @@ ghost use Rattle.bfq_select.specs.Course.{Exchanges};
 
 use crate::VtimeFull;
 use crate::places::set_vtime;
-use crate::reading::{group_of, vtime_of, weight_sum_of};
+use crate::reading::{group_of, member_in, vtime_of, weight_sum_of};
 use crate::stamping::{TOP, delta};
 use change_record::{Parts, Tape};
 use sector_core::Entity;
 
-// The virtual time of an entity's group rises by its share of the sum of weights, as it was before.
+// The virtual time of an entity's class in its group rises by its share of the sum of weights, as it was before.
 pub fn charge_one(
     parts: &mut Parts,
     tape: &mut Tape,
@@ -28,11 +28,12 @@ pub fn charge_one(
     ensures course { Exchanges 1 parts.old.tables tape.old parts.new.tables tape.new }
 {
     let group = group_of(parts, entity);
-    let risen = vtime_of(parts, group) + delta(sectors, weight_sum_of(parts, group));
+    let class = member_in(parts, group, entity).class;
+    let risen = vtime_of(parts, group, class) + delta(sectors, weight_sum_of(parts, group, class));
     if risen > TOP {
         return Err(VtimeFull);
     }
-    set_vtime(parts, tape, group, risen);
+    set_vtime(parts, tape, group, class, risen);
     Ok(())
 }
 

@@ -6,7 +6,7 @@ ghost use Rattle.bfq_select.specs.Service.{IsSized, IsBounded};
 ghost use Rattle.bfq_select.specs.Course.{Exchanges};
 
 use crate::places::set_member;
-use crate::reading::{group_of, least_start_of, member_in};
+use crate::reading::{class_in, group_of, member_in};
 use crate::stamping::{TOP, delta, stamp};
 use crate::{Expiry, VtimeFull};
 use change_record::{Parts, Tape};
@@ -32,7 +32,7 @@ fn is_backlogged(parts: &Parts, queued: bool, entity: Entity) -> bool
     if entity < 16 {
         queued
     } else {
-        least_start_of(parts, entity - 16).is_some()
+        class_in(parts, entity - 16).is_some()
     }
 }
 
@@ -68,7 +68,7 @@ pub fn expire_one(
         state: State::Idle,
         start: finish,
         finish,
-        weight: member.weight,
+        ..member
     };
     set_member(parts, tape, group, entity, rested);
     Ok(())

@@ -4,10 +4,11 @@
 //! | call | rule that it meets |
 //! |---|---|
 //! | [`activate`] | a session waits to be served, and so does each group above it that was idle |
-//! | [`select`] | at each level from the root down the pick is taken into service |
-//! | [`charge`] | the virtual times on the path of the queue in service rise by what it was sent |
+//! | [`select`] | at each level from the root down the pick of the highest class that waits is taken into service |
+//! | [`charge`] | on the path of the queue in service the virtual time of each entity's class rises by what it was sent |
 //! | [`expire`] | the queue in service leaves it with a new budget, and its path at the finish of what it was served |
-//! | [`member_in`] | what a group's tree knows of an entity; the rules read it |
+//! | [`member_in`] | what a group's trees know of an entity; the rules read it |
+//! | [`vtime_of`] | the virtual time of a class of a group; the rules read it |
 //!
 //! The rules stand in `Rules.antt` of `change_record`, beside the plain machine that they speak of: a call makes the
 //! exchanges that lead there, through the tape. An exchange on one place is made by its setter alone, whose clauses
@@ -25,6 +26,6 @@ mod selecting;
 mod stamping;
 
 pub use change_record::Expiry;
-pub use reading::member_in;
+pub use reading::{member_in, vtime_of};
 pub use refused::VtimeFull;
 pub use rules::{activate, charge, expire, select};

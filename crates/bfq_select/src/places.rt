@@ -6,8 +6,9 @@ ghost use Rattle.change_record.specs.Rules.{put_member, put_vtime};
 ghost use Rattle.bfq_select.specs.Service.{IsSized, IsBounded};
 ghost use Rattle.bfq_select.specs.Course.{Exchanges};
 
+use crate::reading::vtimes_of;
 use change_record::{Change, InService, Parts, Tape};
-use sector_core::Entity;
+use sector_core::{Class, Entity};
 use service_tree::Member;
 
 // This at an entity's place in a group's tree.
@@ -30,17 +31,18 @@ pub fn set_member(parts: &mut Parts, tape: &mut Tape, group: u8, entity: Entity,
     );
 }
 
-// This as a group's virtual time.
-pub fn set_vtime(parts: &mut Parts, tape: &mut Tape, group: u8, vtime: u64)
+// This as the virtual time of a class of a group.
+pub fn set_vtime(parts: &mut Parts, tape: &mut Tape, group: u8, class: Class, vtime: u64)
     requires room { 1 ≤ tape.old.room }
     requires sized { IsSized parts.old.tables }
     requires group { group < 32 }
-    ensures made { bfq_of parts.new.tables ≡ put_vtime group vtime (bfq_of parts.old.tables) }
+    ensures made { bfq_of parts.new.tables ≡ put_vtime group class vtime (bfq_of parts.old.tables) }
     ensures sized { IsSized parts.new.tables }
     ensures bounded { IsBounded (bfq_of parts.old.tables) → vtime ≤ 2 ^ 62 → IsBounded (bfq_of parts.new.tables) }
     ensures course { Exchanges 1 parts.old.tables tape.old parts.new.tables tape.new }
 {
-    tape.exchange(parts, Change::Vtime { group, vtime });
+    let vtimes = vtimes_of(parts, group).with(class, vtime);
+    tape.exchange(parts, Change::Vtime { group, vtimes });
 }
 
 // This as an entity's budget.

@@ -1,16 +1,18 @@
 // What the rules read of entities and groups.
 ghost use Rattle.std.specs.Prelude.{◌≡◌, ◌<◌, ◌≤◌, ◌^◌, IfSome};
 ghost use Rattle.change_record.specs.Machine.{bfq_of};
-ghost use Rattle.change_record.specs.Rules.{group_of, member_in, vtime_of, wsum, picked, is_idle};
+ghost use Rattle.change_record.specs.Rules.{class_in, group_of, member_in, service_in, vtime_of, wsum, picked, is_idle};
 ghost use Rattle.service_tree.specs.Members.{least_start};
 ghost use Rattle.bfq_select.specs.Service.{IsSized, IsBounded};
 
 use change_record::Parts;
-use sector_core::Entity;
+use class_trees::Vtimes;
+use sector_core::{Class, Entity};
 use service_tree::{Member, State};
 
 // What is known of an entity that is no member.
 const ABSENT: Member = Member {
+    class: Class::BestEffort,
     state: State::Idle,
     start: 0,
     finish: 0,
@@ -38,51 +40,68 @@ pub fn member_in(parts: &Parts, group: u8, entity: Entity) -> Member
     let Some(tree) = parts.tree(group) else {
         return ABSENT;
     };
-    match tree.get(entity) {
+    match tree.member(entity) {
         Some(member) => return member,
         None => return ABSENT,
     }
 }
 
-// The virtual time of a group.
-pub fn vtime_of(parts: &Parts, group: u8) -> u64
-    ensures value { result ≡ vtime_of (bfq_of parts.now.tables) group }
+// The virtual times of a group.
+pub fn vtimes_of(parts: &Parts, group: u8) -> Vtimes
+    ensures { result ≡ ((bfq_of parts.now.tables).service group).vtimes }
+{
+    match parts.tree(group) {
+        Some(tree) => return tree.vtimes(),
+        None => return Vtimes::same(0),
+    }
+}
+
+/// The virtual time of a class of a group; 0 for a group that there is not.
+pub fn vtime_of(parts: &Parts, group: u8, class: Class) -> u64
+    ensures value { result ≡ vtime_of (bfq_of parts.now.tables) group class }
     ensures small { IsBounded (bfq_of parts.now.tables) → result ≤ 2 ^ 62 }
 {
-    match parts.tree(group) {
-        Some(tree) => return tree.vtime(),
-        None => return 0,
-    }
+    vtimes_of(parts, group).of(class)
 }
 
-// The sum of the weights in a group, at its virtual time.
-pub fn weight_sum_of(parts: &Parts, group: u8) -> u64
-    ensures { result ≡ wsum (bfq_of parts.now.tables) group }
+// The highest class of a group with an active entity, if one is active.
+pub fn class_in(parts: &Parts, group: u8) -> Option<Class>
+    ensures { result ≡ class_in (bfq_of parts.now.tables) group }
 {
     match parts.tree(group) {
-        Some(tree) => return tree.weight_sum(tree.vtime()),
-        None => return 0,
-    }
-}
-
-// The entity that is picked in a group, if one is eligible.
-pub fn picked(parts: &Parts, group: u8) -> Option<Entity>
-    ensures value { result ≡ picked (bfq_of parts.now.tables) group }
-    ensures within { IfSome result (λ entity. entity < 48) }
-{
-    match parts.tree(group) {
-        Some(tree) => return tree.pick(tree.vtime()),
+        Some(tree) => return tree.first_class(),
         None => return None,
     }
 }
 
-// The least start of the active entities of a group, if one is active.
-pub fn least_start_of(parts: &Parts, group: u8) -> Option<u64>
-    ensures value { result ≡ least_start ((bfq_of parts.now.tables).service group).members }
+// The sum of the weights in a class of a group, at its virtual time.
+pub fn weight_sum_of(parts: &Parts, group: u8, class: Class) -> u64
+    ensures { result ≡ wsum (bfq_of parts.now.tables) group class }
+{
+    match parts.tree(group) {
+        Some(tree) => return tree.weight_sum(class, tree.vtime(class)),
+        None => return 0,
+    }
+}
+
+// The entity that is picked in a class of a group, if one is eligible.
+pub fn picked(parts: &Parts, group: u8, class: Class) -> Option<Entity>
+    ensures value { result ≡ picked (bfq_of parts.now.tables) group class }
+    ensures within { IfSome result (λ entity. entity < 48) }
+{
+    match parts.tree(group) {
+        Some(tree) => return tree.pick(class, tree.vtime(class)),
+        None => return None,
+    }
+}
+
+// The least start of the active entities in a class of a group, if one is active.
+pub fn least_start_of(parts: &Parts, group: u8, class: Class) -> Option<u64>
+    ensures value { result ≡ least_start (service_in (bfq_of parts.now.tables) group class).members }
     ensures small { IsBounded (bfq_of parts.now.tables) → IfSome result (λ start. start ≤ 2 ^ 62) }
 {
     match parts.tree(group) {
-        Some(tree) => return tree.least_start(),
+        Some(tree) => return tree.least_start(class),
         None => return None,
     }
 }

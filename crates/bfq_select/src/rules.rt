@@ -10,6 +10,7 @@ use crate::activating::activate_path;
 use crate::charging::charge_path;
 use crate::expiring::{budget_after, expire_path};
 use crate::places::{set_budget, set_slot};
+use crate::reading::class_in;
 use crate::selecting::{jump, serve};
 use crate::{Expiry, VtimeFull};
 use change_record::{InService, Parts, Tape};
@@ -42,7 +43,8 @@ pub fn activate(parts: &mut Parts, tape: &mut Tape, seat: u8) -> Result<(), Vtim
     }
 }
 
-/// A queue is taken into service: at each level from the root down the entity that the pick names.
+/// A queue is taken into service: at each level from the root down the entity that the pick names, in the highest class with an active
+/// one.
 pub fn select(parts: &mut Parts, tape: &mut Tape)
     requires room { 11 ≤ tape.old.room }
     requires sized { IsSized parts.old.tables }
@@ -60,7 +62,10 @@ pub fn select(parts: &mut Parts, tape: &mut Tape)
 {
     let mut group: u8 = 0;
     for _level in 0..5u8 {
-        let Some(entity) = jump(parts, tape, group) else {
+        let Some(class) = class_in(parts, group) else {
+            return;
+        };
+        let Some(entity) = jump(parts, tape, group, class) else {
             return;
         };
         serve(parts, tape, group, entity);

@@ -1,4 +1,4 @@
-// The choice in one group.
+// The choice in one class of a group.
 ghost use Rattle.std.specs.Prelude.{◌≡◌, ◌≤◌, ◌<◌, IfSome};
 ghost use Rattle.change_record.specs.Machine.{bfq_of};
 ghost use Rattle.change_record.specs.Rules.{jumped, picked, in_service};
@@ -8,32 +8,32 @@ ghost use Rattle.bfq_select.specs.Course.{Exchanges};
 use crate::places::{set_member, set_vtime};
 use crate::reading::{least_start_of, member_in, picked};
 use change_record::{Parts, Tape};
-use sector_core::Entity;
+use sector_core::{Class, Entity};
 use service_tree::{Member, State};
 
-// Where nobody in a group is eligible, its virtual time becomes the least start of those that are active. The entity that
+// Where nobody in a class of a group is eligible, its virtual time becomes the least start of those that are active. The entity that
 // is picked then comes back: it is asked for again only where the virtual time has changed.
-pub fn jump(parts: &mut Parts, tape: &mut Tape, group: u8) -> Option<Entity>
+pub fn jump(parts: &mut Parts, tape: &mut Tape, group: u8, class: Class) -> Option<Entity>
     requires room { 1 ≤ tape.old.room }
     requires sized { IsSized parts.old.tables }
     requires bounded { IsBounded (bfq_of parts.old.tables) }
     requires group { group < 32 }
-    ensures made { bfq_of parts.new.tables ≡ jumped group (bfq_of parts.old.tables) }
-    ensures picked { result ≡ picked (bfq_of parts.new.tables) group }
+    ensures made { bfq_of parts.new.tables ≡ jumped group class (bfq_of parts.old.tables) }
+    ensures picked { result ≡ picked (bfq_of parts.new.tables) group class }
     ensures within { IfSome result (λ entity. entity < 48) }
     ensures sized { IsSized parts.new.tables }
     ensures bounded { IsBounded (bfq_of parts.new.tables) }
     ensures course { Exchanges 1 parts.old.tables tape.old parts.new.tables tape.new }
 {
-    let entity = picked(parts, group);
+    let entity = picked(parts, group, class);
     if entity.is_some() {
         return entity;
     }
-    let Some(start) = least_start_of(parts, group) else {
+    let Some(start) = least_start_of(parts, group, class) else {
         return entity;
     };
-    set_vtime(parts, tape, group, start);
-    picked(parts, group)
+    set_vtime(parts, tape, group, class, start);
+    picked(parts, group, class)
 }
 
 // An entity of a group is in service.

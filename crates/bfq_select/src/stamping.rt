@@ -7,7 +7,7 @@ ghost use Rattle.bfq_select.specs.Course.{Exchanges};
 
 use crate::VtimeFull;
 use crate::places::set_member;
-use crate::reading::group_of;
+use crate::reading::{group_of, member_in};
 use change_record::{Parts, Tape};
 use sector_core::Entity;
 use service_tree::{Member, State};
@@ -54,6 +54,7 @@ pub fn stamp(
         start,
         finish,
         weight,
+        ..member_in(parts, group, entity)
     };
     set_member(parts, tape, group, entity, stamped);
     Ok(())

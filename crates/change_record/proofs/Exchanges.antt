@@ -8,9 +8,10 @@ use Rattle.overlay.specs.Blocks.{Blocks, exchanged}
 use Rattle.change_record.specs.declared.change.Change.{Change}
 use Rattle.change_record.specs.declared.change.Change.TheVariants.{Sector, RequestSlot, BioSlot, Tag, QueueLink, OutboxWhole, SeatEntry, Requeued, Mode, Head, TreeMember, Vtime, GroupEntry, Pending, Budget, Serving}
 use Rattle.service_tree.specs.declared.member.Member.{Member}
-use Rattle.service_tree.specs.Members.{Service}
+use Rattle.class_trees.specs.declared.Vtimes.{Vtimes}
+use Rattle.class_trees.specs.Classes.{Classes, same_times}
 use Rattle.change_record.specs.Tables.{Tables}
-use Rattle.change_record.specs.Exchange.{with_member, with_vtime, after, left_by, FitsAt, FitsIn, IsPut, ArePuts, FitBack, forth_tables, forth_left, back_tables, back_left}
+use Rattle.change_record.specs.Exchange.{with_member, with_vtimes, after, left_by, FitsAt, FitsIn, IsPut, ArePuts, FitBack, forth_tables, forth_left, back_tables, back_left}
 
 -- lists: putting back what stood there
 set-set_back : {A : Type 0} (xs : List A) (i : ℕ) (y : A) → set (set xs i y) i (get_or xs i y) ≡ xs
@@ -49,34 +50,34 @@ pub get-exchanged_here : (m : Blocks) (k : ℕ) (w : Option (List ℕ)) → map.
 get-exchanged_here m k w = get-exchanged m k w k ∙ ap (λ b. cond b w (map.get m k)) ((eq_by_cmp_equiv nat_cmp_total).refl k)
 
 -- trees: putting back what stood in one of them
-abbrev tree_in : List Service → ℕ → Service
-tree_in trees group = get_or trees group (record { vtime = 0; members = [] })
+abbrev tree_in : List Classes → ℕ → Classes
+tree_in trees group = get_or trees group (record { vtimes = same_times 0; members = [] })
 
-tree_member_back : (trees : List Service) (group entity : ℕ) (member : Option Member) →
+tree_member_back : (trees : List Classes) (group entity : ℕ) (member : Option Member) →
     let now = set trees group (with_member (tree_in trees group) entity member) in
     set now group (with_member (tree_in now group) entity (get_or (tree_in trees group).members entity member)) ≡ trees
 tree_member_back [] group entity member = refl
 tree_member_back (t ∷ ts) zero entity member = ap (λ l. record t { members = l } ∷ ts) (set-set_back t.members entity member)
 tree_member_back (t ∷ ts) (suc group) entity member = ap (λ l. t ∷ l) (tree_member_back ts group entity member)
 
-member_left_back : (trees : List Service) (group entity : ℕ) (member : Option Member) →
+member_left_back : (trees : List Classes) (group entity : ℕ) (member : Option Member) →
     let now = set trees group (with_member (tree_in trees group) entity member) in
     get_or (tree_in now group).members entity (get_or (tree_in trees group).members entity member) ≡ member
 member_left_back [] group entity member = refl
 member_left_back (t ∷ ts) zero entity member = get_or-set_back t.members entity member
 member_left_back (t ∷ ts) (suc group) entity member = member_left_back ts group entity member
 
-vtime_back : (trees : List Service) (group vtime : ℕ) →
-    let now = set trees group (with_vtime (tree_in trees group) vtime) in
-    set now group (with_vtime (tree_in now group) (get_or trees group (with_vtime (tree_in trees group) vtime)).vtime) ≡ trees
+vtime_back : (trees : List Classes) (group : ℕ) (vtime : Vtimes) →
+    let now = set trees group (with_vtimes (tree_in trees group) vtime) in
+    set now group (with_vtimes (tree_in now group) (get_or trees group (with_vtimes (tree_in trees group) vtime)).vtimes) ≡ trees
 vtime_back [] group vtime = refl
 vtime_back (t ∷ ts) zero vtime = refl
 vtime_back (t ∷ ts) (suc group) vtime = ap (λ l. t ∷ l) (vtime_back ts group vtime)
 
-vtime_left_back : (trees : List Service) (group vtime : ℕ) →
-    let old = (get_or trees group (with_vtime (tree_in trees group) vtime)).vtime in
-    let now = set trees group (with_vtime (tree_in trees group) vtime) in
-    (get_or now group (with_vtime (tree_in now group) old)).vtime ≡ vtime
+vtime_left_back : (trees : List Classes) (group : ℕ) (vtime : Vtimes) →
+    let old = (get_or trees group (with_vtimes (tree_in trees group) vtime)).vtimes in
+    let now = set trees group (with_vtimes (tree_in trees group) vtime) in
+    (get_or now group (with_vtimes (tree_in now group) old)).vtimes ≡ vtime
 vtime_left_back [] group vtime = refl
 vtime_left_back (t ∷ ts) zero vtime = refl
 vtime_left_back (t ∷ ts) (suc group) vtime = vtime_left_back ts group vtime

@@ -5,22 +5,23 @@ use Rattle.overlay.specs.Blocks.{Blocks, exchanged}
 use Rattle.change_record.specs.declared.change.Change.{Change}
 use Rattle.change_record.specs.declared.change.Change.TheVariants.{Sector, RequestSlot, BioSlot, Tag, QueueLink, OutboxWhole, SeatEntry, Requeued, Mode, Head, TreeMember, Vtime, GroupEntry, Pending, Budget, Serving}
 use Rattle.service_tree.specs.declared.member.Member.{Member}
-use Rattle.service_tree.specs.Members.{Service}
+use Rattle.class_trees.specs.declared.Vtimes.{Vtimes}
+use Rattle.class_trees.specs.Classes.{Classes, same_times}
 use Rattle.change_record.specs.Tables.{Tables}
 
--- the tree of a group; where there is no such group, one without a place
-abbrev pub tree_of : List Service → ℕ → Service
-tree_of trees group = slice_index_or trees group (record { vtime = 0; members = [] })
+-- the trees of a group; where there is no such group, one without a place
+abbrev pub tree_of : List Classes → ℕ → Classes
+tree_of trees group = slice_index_or trees group (record { vtimes = same_times 0; members = [] })
 
-abbrev pub tree_at : Tables → ℕ → Service
+abbrev pub tree_at : Tables → ℕ → Classes
 tree_at t group = tree_of t.trees group
 
--- a tree with this at an entity's place, and one at this virtual time
-abbrev pub with_member : Service → ℕ → Option Member → Service
+-- trees with this at an entity's place, and ones at these virtual times
+abbrev pub with_member : Classes → ℕ → Option Member → Classes
 with_member tree entity member = record tree { members = slice_set tree.members entity member }
 
-abbrev pub with_vtime : Service → ℕ → Service
-with_vtime tree vtime = record tree { vtime = vtime }
+abbrev pub with_vtimes : Classes → Vtimes → Classes
+with_vtimes tree vtimes = record tree { vtimes = vtimes }
 
 -- the tables with the change's value at its place
 abbrev pub after : Tables → Change → Tables
@@ -35,7 +36,7 @@ after t (Requeued slot link) = record t { requeued = slice_set t.requeued slot l
 after t (Mode scheduler frozen served) = record t { scheduler = scheduler; frozen = frozen; served = served }
 after t (Head seat head) = record t { heads = slice_set t.heads seat head }
 after t (TreeMember group entity member) = record t { trees = slice_set t.trees group (with_member (tree_at t group) entity member) }
-after t (Vtime group vtime) = record t { trees = slice_set t.trees group (with_vtime (tree_at t group) vtime) }
+after t (Vtime group vtimes) = record t { trees = slice_set t.trees group (with_vtimes (tree_at t group) vtimes) }
 after t (GroupEntry entity group) = record t { parents = slice_set t.parents entity group }
 after t (Pending entity weight) = record t { weights = slice_set t.weights entity weight }
 after t (Budget entity budget) = record t { budgets = slice_set t.budgets entity budget }
@@ -54,7 +55,7 @@ left_by t (Requeued slot link) = Requeued slot (slice_index_or t.requeued slot l
 left_by t (Mode scheduler frozen served) = Mode t.scheduler t.frozen t.served
 left_by t (Head seat head) = Head seat (slice_index_or t.heads seat head)
 left_by t (TreeMember group entity member) = TreeMember group entity (slice_index_or (tree_at t group).members entity member)
-left_by t (Vtime group vtime) = Vtime group (slice_index_or t.trees group (with_vtime (tree_at t group) vtime)).vtime
+left_by t (Vtime group vtimes) = Vtime group (slice_index_or t.trees group (with_vtimes (tree_at t group) vtimes)).vtimes
 left_by t (GroupEntry entity group) = GroupEntry entity (slice_index_or t.parents entity group)
 left_by t (Pending entity weight) = Pending entity (slice_index_or t.weights entity weight)
 left_by t (Budget entity budget) = Budget entity (slice_index_or t.budgets entity budget)
@@ -73,7 +74,7 @@ AddsBlock t (Requeued slot link) = ⊥
 AddsBlock t (Mode scheduler frozen served) = ⊥
 AddsBlock t (Head seat head) = ⊥
 AddsBlock t (TreeMember group entity member) = ⊥
-AddsBlock t (Vtime group vtime) = ⊥
+AddsBlock t (Vtime group vtimes) = ⊥
 AddsBlock t (GroupEntry entity group) = ⊥
 AddsBlock t (Pending entity weight) = ⊥
 AddsBlock t (Budget entity budget) = ⊥
@@ -92,7 +93,7 @@ IsBesideOverlay (Requeued slot link) = Unit {0}
 IsBesideOverlay (Mode scheduler frozen served) = Unit {0}
 IsBesideOverlay (Head seat head) = Unit {0}
 IsBesideOverlay (TreeMember group entity member) = Unit {0}
-IsBesideOverlay (Vtime group vtime) = Unit {0}
+IsBesideOverlay (Vtime group vtimes) = Unit {0}
 IsBesideOverlay (GroupEntry entity group) = Unit {0}
 IsBesideOverlay (Pending entity weight) = Unit {0}
 IsBesideOverlay (Budget entity budget) = Unit {0}
@@ -116,7 +117,7 @@ FitsIn t (Requeued slot link) = Unit {0}
 FitsIn t (Mode scheduler frozen served) = Unit {0}
 FitsIn t (Head seat head) = Unit {0}
 FitsIn t (TreeMember group entity member) = Unit {0}
-FitsIn t (Vtime group vtime) = Unit {0}
+FitsIn t (Vtime group vtimes) = Unit {0}
 FitsIn t (GroupEntry entity group) = Unit {0}
 FitsIn t (Pending entity weight) = Unit {0}
 FitsIn t (Budget entity budget) = Unit {0}
@@ -163,7 +164,7 @@ IsPut (Requeued slot link) = Unit {0}
 IsPut (Mode scheduler frozen served) = Unit {0}
 IsPut (Head seat head) = Unit {0}
 IsPut (TreeMember group entity member) = Unit {0}
-IsPut (Vtime group vtime) = Unit {0}
+IsPut (Vtime group vtimes) = Unit {0}
 IsPut (GroupEntry entity group) = Unit {0}
 IsPut (Pending entity weight) = Unit {0}
 IsPut (Budget entity budget) = Unit {0}

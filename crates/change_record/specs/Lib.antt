@@ -9,6 +9,7 @@ pub use Rattle.overlay.specs.Blocks
 pub use Rattle.request_pool.specs.Slots
 pub use Rattle.process_queue.specs.Queue
 pub use Rattle.service_tree.specs.Members
+pub use Rattle.class_trees.specs.Classes
 pub use Rattle.group_tree.specs.Groups
 pub use Rattle.sector_core.specs.Table
 pub use Rattle.sector_core.specs.First

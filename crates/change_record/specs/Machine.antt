@@ -13,7 +13,7 @@ use Rattle.process_queue.specs.Merge.{bios_at}
 use Rattle.change_record.specs.Tables.{Tables}
 use Rattle.change_record.specs.Exchange.{tree_at}
 use Rattle.change_record.specs.declared.change.InService.{InService}
-use Rattle.service_tree.specs.Members.{Service}
+use Rattle.class_trees.specs.Classes.{Classes}
 use Rattle.group_tree.specs.Groups.{parent}
 use Rattle.sector_core.specs.declared.config.Scheduler.{Scheduler}
 
@@ -32,8 +32,8 @@ pub record Flight : Type 0 where
 pub record Bfq : Type 0 where
   -- the group that an entity is in; group 0 is the root
   pub parent : ℕ → Option ℕ
-  -- B-WF2Q+: of each group its virtual time, and its members: of each its state, start, finish and weight in effect
-  pub service : ℕ → Service
+  -- B-WF2Q+: of each group its virtual time in each class, and its members: of each its class, state, start, finish and weight in effect
+  pub service : ℕ → Classes
   -- the weight that an entity gets when it is stamped next
   pub pending : ℕ → ℕ
   -- bfq: how many sectors an entity may be served at a time

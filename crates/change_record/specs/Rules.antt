@@ -1,13 +1,18 @@
 -- The four rules of BFQ, on the plain machine: activate, select, charge and expire.
 use Rattle.std.specs.Prelude.{ℕ, zero, suc, ◌+◌, ◌-◌, ◌*◌, ◌/◌, ◌^◌, ◌==◌, nat_le, nat_lt, min, max, Bool, true, false, List, [], ◌∷◌, Option, None, Some, is_some, unwrap_or, if◌then◌else◌, slice_index_or}
 use Rattle.std.specs.Option.{option_and_then, option_map_or}
+use Rattle.sector_core.specs.declared.class.Class.{Class}
+use Rattle.sector_core.specs.declared.class.Class.TheVariants.{BestEffort}
 use Rattle.service_tree.specs.declared.member.State.{State}
 use Rattle.service_tree.specs.declared.member.State.TheVariants.{Idle, Active, Serving}
 use Rattle.service_tree.specs.declared.member.Member.{Member}
+use Rattle.class_trees.specs.declared.Vtimes.{Vtimes}
+use Rattle.class_trees.specs.Classes.{first_class, of_class, time_of, with_time}
 use Rattle.service_tree.specs.Members.{weight_sum, least_start, pick}
 use Rattle.group_tree.specs.Groups.{path, has_entity}
 use Rattle.change_record.specs.declared.change.InService.{InService}
-use Rattle.change_record.specs.Exchange.{with_member, with_vtime}
+use Rattle.service_tree.specs.Members.{Service}
+use Rattle.change_record.specs.Exchange.{with_member, with_vtimes}
 use Rattle.change_record.specs.Machine.{Bfq, put}
 use Rattle.change_record.specs.declared.change.Expiry.{Expiry}
 use Rattle.change_record.specs.declared.change.Expiry.TheVariants.{Exhaustion, Timeout, Emptying}
@@ -29,7 +34,7 @@ group_of b entity = unwrap_or (b.parent entity) 0
 
 -- what is known of an entity that is no member (our profile)
 abbrev pub absent : Member
-absent = record { state = Idle; start = 0; finish = 0; weight = 0 }
+absent = record { class = BestEffort; state = Idle; start = 0; finish = 0; weight = 0 }
 
 -- what a group's tree knows of an entity (B-WF2Q+)
 abbrev pub member_in : Bfq → ℕ → ℕ → Member
@@ -39,20 +44,31 @@ member_in b group entity = unwrap_or (slice_index_or (b.service group).members e
 abbrev pub member_of : Bfq → ℕ → Member
 member_of b entity = member_in b (group_of b entity) entity
 
--- the virtual time of a group (B-WF2Q+)
-abbrev pub vtime_of : Bfq → ℕ → ℕ
-vtime_of b group = (b.service group).vtime
+-- the class of an entity (bfq)
+abbrev pub class_of : Bfq → ℕ → Class
+class_of b entity = (member_of b entity).class
 
--- the sum of the weights in a group, at its virtual time (B-WF2Q+; who counts is our profile)
-abbrev pub wsum : Bfq → ℕ → ℕ
-wsum b group = weight_sum (vtime_of b group) (b.service group).members
+-- a class of a group: its virtual time, and its members by number (bfq: a service tree)
+abbrev pub service_in : Bfq → ℕ → Class → Service
+service_in b group class = of_class class (b.service group)
 
--- this at an entity's place in a group's tree, and this as a group's virtual time (B-WF2Q+)
+-- the virtual time of a class of a group (B-WF2Q+)
+abbrev pub vtime_of : Bfq → ℕ → Class → ℕ
+vtime_of b group class = (service_in b group class).vtime
+
+-- the sum of the weights in a class of a group, at its virtual time (B-WF2Q+; who counts is our profile)
+abbrev pub wsum : Bfq → ℕ → Class → ℕ
+wsum b group class = weight_sum (vtime_of b group class) (service_in b group class).members
+
+-- this at an entity's place in a group's trees, and these as its virtual times or this as that of a class (B-WF2Q+)
 abbrev pub put_member : ℕ → ℕ → Member → Bfq → Bfq
 put_member group entity member b = record b { service = put b.service group (with_member (b.service group) entity (Some member)) }
 
-abbrev pub put_vtime : ℕ → ℕ → Bfq → Bfq
-put_vtime group vtime b = record b { service = put b.service group (with_vtime (b.service group) vtime) }
+abbrev pub put_vtimes : ℕ → Vtimes → Bfq → Bfq
+put_vtimes group vtimes b = record b { service = put b.service group (with_vtimes (b.service group) vtimes) }
+
+abbrev pub put_vtime : ℕ → Class → ℕ → Bfq → Bfq
+put_vtime group class vtime b = put_vtimes group (with_time (b.service group).vtimes class vtime) b
 
 abbrev pub is_idle : State → Bool
 is_idle Idle = true
@@ -70,15 +86,15 @@ finish_from start entity b = start + delta (b.budget entity) (b.pending entity)
 
 abbrev pub stamped : ℕ → ℕ → Bfq → Bfq
 stamped start entity b =
-    put_member (group_of b entity) entity (record { state = Active; start = start; finish = finish_from start entity b; weight = b.pending entity }) b
+    put_member (group_of b entity) entity (record (member_of b entity) { state = Active; start = start; finish = finish_from start entity b; weight = b.pending entity }) b
 
 abbrev pub stamp : ℕ → ℕ → Bfq → Option Bfq
 stamp start entity b = if nat_le (finish_from start entity b) top then Some (stamped start entity b) else None
 
--- Activate: from an entity upwards to the first that is not idle; the start is the later of its group's virtual time and its last finish
--- (B-WF2Q+).
+-- Activate: from an entity upwards to the first that is not idle; the start is the later of its last finish and the virtual
+-- time of its class in its group (B-WF2Q+).
 abbrev pub start_from : Bfq → ℕ → ℕ
-start_from b entity = max (vtime_of b (group_of b entity)) (member_of b entity).finish
+start_from b entity = max (vtime_of b (group_of b entity) (class_of b entity)) (member_of b entity).finish
 
 abbrev pub activate_path : List ℕ → Bfq → Option Bfq
 activate_path [] b = Some b
@@ -88,13 +104,18 @@ activate_path (entity ∷ entities) b =
 abbrev pub activate : ℕ → Bfq → Option Bfq
 activate seat b = activate_path (path b.parent seat) b
 
--- Select: from the root down to a session, at each level the pick; where nobody is eligible, the virtual time first becomes the least
--- start (B-WF2Q+). The session's queue is in service then, with no sector sent yet (bfq).
-abbrev pub picked : Bfq → ℕ → Option ℕ
-picked b group = pick (vtime_of b group) (b.service group).members
+-- Select: from the root down to a session, at each level the highest class with an active child (bfq), and of that class the pick; where
+-- nobody of it is eligible, its virtual time first becomes the least start (B-WF2Q+). The session's queue is in service then, with no
+-- sector sent yet (bfq).
+abbrev pub class_in : Bfq → ℕ → Option Class
+class_in b group = first_class (b.service group).members
 
-abbrev pub jumped : ℕ → Bfq → Bfq
-jumped group b = if is_some (picked b group) then b else option_map_or (λ start. put_vtime group start b) (least_start (b.service group).members) b
+abbrev pub picked : Bfq → ℕ → Class → Option ℕ
+picked b group class = pick (vtime_of b group class) (service_in b group class).members
+
+abbrev pub jumped : ℕ → Class → Bfq → Bfq
+jumped group class b =
+    if is_some (picked b group class) then b else option_map_or (λ start. put_vtime group class start b) (least_start (service_in b group class).members) b
 
 abbrev pub in_service : ℕ → ℕ → Bfq → Bfq
 in_service group entity b = put_member group entity (record (member_in b group entity) { state = Serving }) b
@@ -109,23 +130,33 @@ taken choose group b entity =
     if nat_lt entity 16 then record (in_service group entity b) { slot = Some (record { seat = entity; service = 0; age = 0 }) }
     else choose (entity - 16) (in_service group entity b)
 
+-- the choice in one class of a group
+abbrev pub chosen_in : (ℕ → Bfq → Bfq) → ℕ → Bfq → Class → Bfq
+chosen_in choose group b class = on_pick (picked (jumped group class b) group class) (jumped group class b) (taken choose group (jumped group class b))
+
+abbrev pub on_class : Option Class → Bfq → (Class → Bfq) → Bfq
+on_class None b chosen = b
+on_class (Some class) b chosen = chosen class
+
 -- so many levels at most
 unfoldable pub select_from : ℕ → ℕ → Bfq → Bfq
 select_from zero group b = b
-select_from (suc levels) group b = on_pick (picked (jumped group b) group) (jumped group b) (taken (λ h c. select_from levels h c) group (jumped group b))
+select_from (suc levels) group b = on_class (class_in b group) b (chosen_in (λ h c. select_from levels h c) group b)
 
 -- the root and four levels of groups under it
 abbrev pub select : Bfq → Bfq
 select b = select_from 5 0 b
 
--- Charge: the queue in service has been sent some sectors more; the virtual time of each group on its path rises by their share of the
--- sum of weights, as it was before (B-WF2Q+).
-abbrev pub risen : ℕ → ℕ → Bfq → ℕ
-risen sectors group b = vtime_of b group + delta sectors (wsum b group)
+-- Charge: the queue in service has been sent some sectors more; the virtual time of each entity's class in its group, on the whole
+-- path, rises by their share of the sum of weights, as it was before (B-WF2Q+).
+abbrev pub risen : ℕ → ℕ → Class → Bfq → ℕ
+risen sectors group class b = vtime_of b group class + delta sectors (wsum b group class)
 
 abbrev pub charge_one : ℕ → ℕ → Bfq → Option Bfq
 charge_one sectors entity b =
-    if nat_le (risen sectors (group_of b entity) b) top then Some (put_vtime (group_of b entity) (risen sectors (group_of b entity) b) b) else None
+    if nat_le (risen sectors (group_of b entity) (class_of b entity) b) top
+    then Some (put_vtime (group_of b entity) (class_of b entity) (risen sectors (group_of b entity) (class_of b entity) b) b)
+    else None
 
 abbrev pub served_more : ℕ → InService → Bfq → Bfq
 served_more sectors slot b = record b { slot = Some (record slot { service = slot.service + sectors }) }
@@ -144,9 +175,9 @@ budget_after Emptying budget service most = max service 256
 abbrev pub ended : ℕ → ℕ → Bfq → ℕ
 ended service entity b = (member_of b entity).start + delta service (member_of b entity).weight
 
--- there is more to serve: the session's queue is not empty, or the group has an active child (so it has a least start)
+-- there is more to serve: the session's queue is not empty, or the group has an active child, of whatever class
 abbrev pub is_backlogged : Bool → ℕ → Bfq → Bool
-is_backlogged queued entity b = if nat_lt entity 16 then queued else is_some (least_start (b.service (entity - 16)).members)
+is_backlogged queued entity b = if nat_lt entity 16 then queued else is_some (class_in b (entity - 16))
 
 abbrev pub rested : ℕ → ℕ → Bfq → Bfq
 rested finish entity b = put_member (group_of b entity) entity (record (member_of b entity) { state = Idle; start = finish; finish = finish }) b

@@ -7,7 +7,7 @@ use Rattle.sector_core.specs.declared.config.Scheduler.{Scheduler}
 use Rattle.request_pool.specs.declared.Request.{Request}
 use Rattle.tag_set.specs.declared.Issue.{Issue}
 use Rattle.process_queue.specs.declared.Link.{Link}
-use Rattle.service_tree.specs.Members.{Service}
+use Rattle.class_trees.specs.Classes.{Classes, same_times}
 use Rattle.change_record.specs.declared.change.Seat.{Seat}
 use Rattle.change_record.specs.declared.change.InService.{InService}
 use Rattle.change_record.specs.declared.change.Making.{Making}
@@ -27,8 +27,8 @@ pub record Tables : Type 0 where
   pub served : ℕ
   -- where each queue's head is, a sector
   pub heads : List ℕ
-  -- of each group its virtual time and its members
-  pub trees : List Service
+  -- of each group its virtual times and its members
+  pub trees : List Classes
   -- of each entity its group, its pending weight and its budget
   pub parents : List (Option ℕ)
   pub weights : List ℕ
@@ -42,8 +42,8 @@ pub record Loose : Type 0 where
   pub turns : ℕ
 
 -- a group without a member, at a virtual time
-abbrev pub empty_service : ℕ → Service
-empty_service vtime = record { vtime = vtime; members = replicate 48 None }
+abbrev pub empty_service : ℕ → Classes
+empty_service vtime = record { vtimes = same_times vtime; members = replicate 48 None }
 
 -- the tables of a new machine: every place is free, and the round robin begins at seat 0
 abbrev pub empty_tables : Making → Tables

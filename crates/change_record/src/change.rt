@@ -1,5 +1,6 @@
 // One exchange on one place.
 use arrayvec::ArrayVec;
+use class_trees::Vtimes;
 use process_queue::Link;
 use request_pool::Request;
 use sector_core::{Bio, Block, Entity, Scheduler, Slot};
@@ -121,10 +122,10 @@ pub enum Change {
         entity: Entity,
         member: Option<Member>,
     },
-    /// The virtual time of a group.
+    /// The virtual times of a group, one of each class.
     Vtime {
         group: u8,
-        vtime: u64,
+        vtimes: Vtimes,
     },
     /// The group that an entity is in.
     GroupEntry {

@@ -4,16 +4,17 @@ ghost use Rattle.std.specs.Option.{option_copied};
 ghost use Rattle.change_record.specs.Tables.{empty_tables, empty_service};
 ghost use Rattle.std.specs.FinMap as map;
 ghost use Rattle.overlay.specs.Blocks.{exchanged};
-ghost use Rattle.change_record.specs.Exchange.{IsBesideOverlay, after, left_by, AddsBlock, FitsAt, FitsIn, tree_of, with_member, with_vtime};
+ghost use Rattle.change_record.specs.Exchange.{IsBesideOverlay, after, left_by, AddsBlock, FitsAt, FitsIn, tree_of, with_member, with_vtimes};
 
 use crate::{Change, InService, Making, Outbox, Seat};
 use arrayvec::ArrayVec;
+use class_trees::{ClassTrees, Vtimes};
 use group_tree::GroupTree;
 use overlay::Overlay;
 use process_queue::{Link, ProcessQueue};
 use request_pool::{Request, RequestPool};
 use sector_core::{Bio, Block, Entity, OutOfMemory, Scheduler, Slot, empty_table};
-use service_tree::{Member, ServiceTree};
+use service_tree::Member;
 use std::alloc::Global;
 use std::marker::Model;
 use std::mem;
@@ -32,7 +33,7 @@ pub struct Parts {
     frozen: bool,
     served: u8,
     heads: Vec<u64>,
-    trees: Vec<ServiceTree>,
+    trees: Vec<ClassTrees>,
     groups: GroupTree,
     weights: Vec<u32>,
     budgets: Vec<u32>,
@@ -212,8 +213,8 @@ impl Parts {
         }
     }
 
-    /// The tree of a group.
-    pub fn tree(&self, group: u8) -> Option<&ServiceTree>
+    /// The trees of a group.
+    pub fn tree(&self, group: u8) -> Option<&ClassTrees>
         ensures { option_copied result ≡ slice_get self.now.tables.trees group }
     {
         self.trees.get(usize::from(group))
@@ -313,7 +314,7 @@ impl Parts {
                 entity,
                 member,
             } => exchange_member(&mut self.trees, *group, *entity, member),
-            Change::Vtime { group, vtime } => exchange_vtime(&mut self.trees, *group, vtime),
+            Change::Vtime { group, vtimes } => exchange_vtimes(&mut self.trees, *group, vtimes),
             Change::GroupEntry { entity, group } => *group = self
                 .groups
                 .exchange_group(*entity, *group),
@@ -392,7 +393,7 @@ fn swap_at<T>(table: &mut Vec<T>, at: u8, value: &mut T)
 
 // Puts a member, or none, at an entity's place in a group's tree, and what stood there into its stead.
 fn exchange_member(
-    trees: &mut Vec<ServiceTree>,
+    trees: &mut Vec<ClassTrees>,
     group: u8,
     entity: Entity,
     member: &mut Option<Member>,
@@ -405,13 +406,13 @@ fn exchange_member(
     }
 }
 
-// Puts a virtual time at a group, and the one that stood there into its stead.
-fn exchange_vtime(trees: &mut Vec<ServiceTree>, group: u8, vtime: &mut u64)
-    ensures trees { trees.new.items ≡ slice_set trees.old.items group (with_vtime (tree_of trees.old.items group) vtime.old) }
-    ensures left { vtime.new ≡ (slice_index_or trees.old.items group (with_vtime (tree_of trees.old.items group) vtime.old)).vtime }
+// Puts virtual times at a group, and those that stood there into their stead.
+fn exchange_vtimes(trees: &mut Vec<ClassTrees>, group: u8, vtimes: &mut Vtimes)
+    ensures trees { trees.new.items ≡ slice_set trees.old.items group (with_vtimes (tree_of trees.old.items group) vtimes.old) }
+    ensures left { vtimes.new ≡ (slice_index_or trees.old.items group (with_vtimes (tree_of trees.old.items group) vtimes.old)).vtimes }
 {
     if let Some(tree) = trees.get_mut(usize::from(group)) {
-        *vtime = tree.exchange_vtime(*vtime);
+        *vtimes = tree.exchange_vtimes(*vtimes);
     }
 }
 
@@ -452,7 +453,7 @@ fn empty_seats(alloc: Global) -> Result<(Vec<Outbox>, Vec<Option<Seat>>, Vec<u64
 fn empty_entities(
     alloc: Global,
     making: Making,
-) -> Result<(Vec<ServiceTree>, Vec<u32>, Vec<u32>), OutOfMemory>
+) -> Result<(Vec<ClassTrees>, Vec<u32>, Vec<u32>), OutOfMemory>
     ensures trees { IfOk result (λ made. made.0.items ≡ replicate 32 (empty_service making.first_vtime)) }
     ensures weights { IfOk result (λ made. made.1.items ≡ replicate 48 1) }
     ensures budgets { IfOk result (λ made. made.2.items ≡ replicate 16 making.first_budget ++ replicate 32 making.max_budget) }
@@ -498,12 +499,12 @@ fn first_budgets(alloc: Global, seats: u32, groups: u32) -> Result<Vec<u32>, Out
 }
 
 // The trees of the 32 groups, without a member.
-fn empty_trees(alloc: Global, vtime: u64) -> Result<Vec<ServiceTree>, OutOfMemory>
+fn empty_trees(alloc: Global, vtime: u64) -> Result<Vec<ClassTrees>, OutOfMemory>
     ensures { IfOk result (λ trees. trees.items ≡ replicate 32 (empty_service vtime)) }
 {
     let mut trees = Vec::with_capacity(alloc, 32)?;
     for _ in 0..32u8 {
-        trees.push(ServiceTree::new(vtime))?;
+        trees.push(ClassTrees::new(vtime))?;
     }
     Ok(trees)
 }

@@ -4,7 +4,7 @@ use bytes::Bytes;
 use history::RunStop;
 use host_console::put_answer;
 use plain_machine::{Call, Step};
-use sector_core::{Op, Outcome, Range};
+use sector_core::{Class, Op, Outcome, Range};
 use std::alloc::Global;
 use std::test::Fail;
 
@@ -60,6 +60,7 @@ fn stale_finish_after_undo(rt: HostRuntime) -> Result<(), Fail> {
             seat: 0,
             group: 0,
             prio: 4,
+            class: Class::BestEffort,
         }),
         write(),
         dispatch(),

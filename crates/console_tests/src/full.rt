@@ -6,6 +6,7 @@ ghost use Rattle.plain_machine.specs.Keeper.{opened};
 use host_console::{Content, Keeps};
 use plain_machine::{Answer, Call, Cause, Code, EntityView, RequestView, Work};
 use script_line::Look;
+use sector_core::Class;
 use std::alloc::Global;
 use std::io::{self, ErrorKind};
 
@@ -47,7 +48,7 @@ impl Keeps for Full {
         RequestView::Free
     }
 
-    fn vtime(&self, group: u8) -> Option<u64> {
+    fn vtime(&self, group: u8, _class: Class) -> Option<u64> {
         if group == 0 { Some(7) } else { None }
     }
 

@@ -11,12 +11,15 @@
 //! | `ends` | a host's keeper run from a script, where its input or its output fails |
 //! | `device_work` | the same over images that are busy, fail or end early |
 //! | `calls` | `history`: calls made one after the other, with no script |
+//! | `classes` | scripts of sessions of each class at a host |
 //!
 //! What a script prints at a host is compared by the rows of `tests/scripts` at the top of the repository, which the built
 //! program runs.
 
 #[cfg(test)]
 mod calls;
+#[cfg(test)]
+mod classes;
 #[cfg(test)]
 mod device_work;
 #[cfg(test)]

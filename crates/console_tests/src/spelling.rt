@@ -1,9 +1,9 @@
 // Each form of a line, the silent lines, and numbers.
 use script_line::{Ending, Line, Look, line_of, number};
-use sector_core::Scheduler;
+use sector_core::{Class, Scheduler};
 
 // A line, as it is spelled and as it is.
-const FORMS: [(&[u8], Line); 50] = [
+const FORMS: [(&[u8], Line); 60] = [
     (
         b"attach 0 1 4",
         Line::Attach {
@@ -18,6 +18,33 @@ const FORMS: [(&[u8], Line); 50] = [
             seat: 255,
             group: 255,
             prio: 255,
+        },
+    ),
+    (
+        b"attach 2 0 7 rt",
+        Line::ClassAttach {
+            seat: 2,
+            group: 0,
+            prio: 7,
+            class: Class::RealTime,
+        },
+    ),
+    (
+        b"attach 0 0 4 be",
+        Line::ClassAttach {
+            seat: 0,
+            group: 0,
+            prio: 4,
+            class: Class::BestEffort,
+        },
+    ),
+    (
+        b"attach 255 254 253 idle",
+        Line::ClassAttach {
+            seat: 255,
+            group: 254,
+            prio: 253,
+            class: Class::Idle,
         },
     ),
     (
@@ -152,8 +179,33 @@ const FORMS: [(&[u8], Line); 50] = [
     (b"line", Line::Cursor),
     (b"vtime 0", Line::Vtime { group: 0 }),
     (b"vtime 255", Line::Vtime { group: 255 }),
+    (
+        b"vtime 0 rt",
+        Line::ClassVtime {
+            group: 0,
+            class: Class::RealTime,
+        },
+    ),
+    (
+        b"vtime 31 be",
+        Line::ClassVtime {
+            group: 31,
+            class: Class::BestEffort,
+        },
+    ),
+    (
+        b"vtime 255 idle",
+        Line::ClassVtime {
+            group: 255,
+            class: Class::Idle,
+        },
+    ),
     (b"entity 47", Line::Entity { number: 47 }),
     (b"entity 255", Line::Entity { number: 255 }),
+    (b"class 0", Line::Class { number: 0 }),
+    (b"class 16", Line::Class { number: 16 }),
+    (b"class 47", Line::Class { number: 47 }),
+    (b"class 255", Line::Class { number: 255 }),
     (
         b"show seat 0",
         Line::Show {
@@ -223,6 +275,64 @@ fn each_form_is_read(rt: HostRuntime) {
 #[test]
 fn silent_lines_are_none(rt: HostRuntime) {
     for text in ["", "#"] {
+        assert!(rt; line_of(text.as_bytes()).is_none(), "{text}");
+    }
+}
+
+// Lines with a class that are none; each is one number, letter, space or word away from a line.
+const CLASSLESS: &str = "\
+attach 0 0 4 real
+attach 0 0 4 RT
+attach 0 0 4 r
+attach 0 0 4 rtt
+attach 0 0 4 xrt
+attach 0 0 4rt
+attach 0 0 4  rt
+attach 0 0 4 rt\x20
+attach 0 0 4 rt x
+attach 0 0 4 rt rt
+attach 0 0 4 rt be
+attach 0 0 rt 4
+attach 0 0 4 idl
+attach 0 0 4 1
+attach 0 0 rt
+attach 0 0 4 4 rt
+attach 0 0 256 rt
+attach 256 0 4 be
+attach 0 256 4 idle
+attach 0 0 04 be
+attach rt
+attach rt 0 0 4
+attachrt
+vtime rt
+vtime 0 xx
+vtime 0 Idle
+vtime 256 be
+vtime 00 be
+vtime 0 rt 1
+vtime 0 0 rt
+vtime 0 be idle
+class
+class rt
+class 0 rt
+class 256
+class 01
+class -1
+class 0 0
+classes 0
+entity 0 rt
+drop 0 be
+read 0 1 0 8 rt
+leave 0 idle
+dispatch rt
+hold be
+finish 0 1 rt
+switch rt
+show tree 0 rt";
+
+#[test]
+fn no_line_ends_in_another_word(rt: HostRuntime) {
+    for text in CLASSLESS.lines() {
         assert!(rt; line_of(text.as_bytes()).is_none(), "{text}");
     }
 }

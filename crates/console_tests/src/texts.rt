@@ -119,6 +119,7 @@ fn replies(rt: HostRuntime) -> Result<(), Fail> {
 
 // Each form of a line, at a keeper that is held, has a full history and 8 sectors; the last line is bad.
 const SCRIPT: &[u8] = b"attach 0 0 4
+attach 0 0 4 rt
 read 0 1 4 2
 write 0 1 5 1 65
 write 0 1 5 64 65
@@ -153,13 +154,21 @@ queue 255
 vtime 0
 vtime 1
 vtime 255
+vtime 0 rt
+vtime 0 be
+vtime 1 idle
+vtime 255 be
 entity 0
 entity 255
+class 0
+class 16
+class 255
 line
 lines
 ";
 
 const TEXT: &[u8] = b"notyet 41
+notyet 41
 notyet 41
 notyet 41
 notyet 41
@@ -194,10 +203,17 @@ queue none
 vtime 0 7
 vtime 1 none
 vtime 255 none
+vtime 0 rt 7
+vtime 0 be 7
+vtime 1 idle none
+vtime 255 be none
 entity 0 none
 entity 255 none
+class 0 none
+class 16 none
+class 255 none
 line 0 0 0
-bad line 39
+bad line 47
 ";
 
 // How the run of these lines ends, what it writes, and how many calls the keeper got.
@@ -219,5 +235,5 @@ fn run(alloc: Global) -> (ScriptEnd, Vec<u8>, u64) {
 fn each_line_prints_one(rt: HostRuntime) {
     let (end, written, calls) = run(rt.alloc());
     assert_eq!(rt; written.as_slice(), TEXT);
-    assert_eq!(rt; (end, calls), (ScriptEnd::BadLine(39), 28));
+    assert_eq!(rt; (end, calls), (ScriptEnd::BadLine(47), 29));
 }

@@ -8,7 +8,6 @@ use Rattle.std.proofs.lemmas.List.{get_or-set_same, get_or-set_other, get_or_pas
 use Rattle.std.proofs.lemmas.List.Sums.{sum_by-cons}
 use Rattle.soft_queue.specs.Turn.{numbers}
 use Rattle.service_tree.specs.declared.member.Member.{Member}
-use Rattle.service_tree.specs.Members.{Service}
 use Rattle.change_record.specs.Tables.{Tables}
 use Rattle.change_record.specs.Exchange.{with_member, tree_at}
 use Rattle.change_record.specs.Machine.{Bfq, bfq_of, put}
@@ -16,6 +15,7 @@ use Rattle.change_record.specs.Rules.{put_member}
 use Rattle.plain_machine.specs.Step.{Limits, with_first_budgets}
 use Rattle.dispatch_core.specs.WellFormed.{one}
 use Rattle.dispatch_core.proofs.Ruling.{put_set}
+use Rattle.class_trees.specs.Classes.{Classes, same_times}
 
 -- the numbers from one on are this one, and those from the next one on
 pub numbers_more : (k n : ℕ) → k < n → numbers k (n - k) ≡ k ∷ numbers (k + 1) (n - (k + 1))
@@ -52,8 +52,8 @@ grouped_same t u entity others = ap (λ (x : Tables). one ((bfq_of x).parent ent
 pub member_put : (t : Tables) (group entity : ℕ) (m : Member) → length t.trees ≡ 32 → group < 32
     → bfq_of (record t { trees = set t.trees group (with_member (tree_at t group) entity (Some m)) }) ≡ put_member group entity m (bfq_of t)
 member_put t group entity m long within =
-    ap (λ (s : ℕ → Service). let b : Bfq = record (bfq_of t) { service = s } in b)
-    (put_set t.trees group (with_member (tree_at t group) entity (Some m)) (record { vtime = 0; members = [] }) (omega (arith, within, long)))
+    ap (λ (s : ℕ → Classes). let b : Bfq = record (bfq_of t) { service = s } in b)
+    (put_set t.trees group (with_member (tree_at t group) entity (Some m)) (record { vtimes = same_times 0; members = [] }) (omega (arith, within, long)))
 
 -- a number below another, and not
 is_lt : (a b : ℕ) → a < b → nat_lt a b ≡ true

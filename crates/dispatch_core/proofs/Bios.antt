@@ -8,6 +8,7 @@ use Rattle.sector_core.specs.declared.bio.Bio.{Bio}
 use Rattle.request_pool.specs.declared.Request.{Request}
 use Rattle.request_pool.specs.Slots.{seat_slots}
 use Rattle.sector_core.specs.Table.{AllTaken}
+use Rattle.sector_core.specs.declared.class.Class.{Class}
 use Rattle.change_record.specs.declared.change.Seat.{Seat}
 use Rattle.change_record.specs.Tables.{Tables}
 use Rattle.process_queue.specs.Merge.{bios_at}
@@ -24,8 +25,8 @@ use Rattle.dispatch_core.proofs.Reaps as reap
 use Rattle.dispatch_core.proofs.Reaps.{first_done, counted_once, entry_of}
 
 -- Attach
-pub attached-seated : (l : Limits) (n : ℕ) (t : Tables) (seat group prio : ℕ) → WellFormed l n t → CanAttach t seat → Seated (n + 1) (attached_tables l t n seat group prio)
-attached-seated l n t seat group prio w can = record {
+pub attached-seated : (l : Limits) (n : ℕ) (t : Tables) (seat group prio : ℕ) (class : Class) → WellFormed l n t → CanAttach t seat → Seated (n + 1) (attached_tables l t n seat group prio class)
+attached-seated l n t seat group prio class w can = record {
   early = early_set n t.seats seat entry within (omega arith) w.seated.early;
   apart = apart_set t.seats seat entry within w.seated.apart (λ j a h e. let early = w.seated.early j a h in absurd (omega arith));
   counted = λ k h. counted_attach k h;
@@ -43,18 +44,18 @@ attached-seated l n t seat group prio w can = record {
     | inr other ↦ ap (λ o. option_map_or (λ s. s.unreaped) o 0) other.1 ∙ w.seated.counted k h
   ]
 
-pub attached-kept : (l : Limits) (n : ℕ) (t : Tables) (seat group prio : ℕ) → WellFormed l n t → CanAttach t seat → Kept l (attached_tables l t n seat group prio)
-attached-kept l n t seat group prio w can = record {
+pub attached-kept : (l : Limits) (n : ℕ) (t : Tables) (seat group prio : ℕ) (class : Class) → WellFormed l n t → CanAttach t seat → Kept l (attached_tables l t n seat group prio class)
+attached-kept l n t seat group prio class w can = record {
   bio = w.kept.bio;
-  request = λ k r h. owned_by t (attached_tables l t n seat group prio) r
+  request = λ k r h. owned_by t (attached_tables l t n seat group prio class) r
       (sessions_free t.seats seat (record { session = n; prio = prio; unreaped = 0; leaving = false }) (omega (arith, can.within, w.sized.seats)) can.free) (λ j all. all) (w.kept.request k r h);
   outbox = w.kept.outbox;
   once = w.kept.once;
 }
 
-pub attached-seat : (l : Limits) (n : ℕ) (t : Tables) (seat group prio : ℕ) → WellFormed l n t → CanAttach t seat
-    → (meaning (attached_tables l t n seat group prio)).seat ≡ put (meaning t).seat seat (Some (record { session = n; prio = prio; unreaped = 0; leaving = false }))
-attached-seat l n t seat group prio w can = put-set t.seats seat (Some (record { session = n; prio = prio; unreaped = 0; leaving = false })) (omega (arith, can.within, w.sized.seats))
+pub attached-seat : (l : Limits) (n : ℕ) (t : Tables) (seat group prio : ℕ) (class : Class) → WellFormed l n t → CanAttach t seat
+    → (meaning (attached_tables l t n seat group prio class)).seat ≡ put (meaning t).seat seat (Some (record { session = n; prio = prio; unreaped = 0; leaving = false }))
+attached-seat l n t seat group prio class w can = put-set t.seats seat (Some (record { session = n; prio = prio; unreaped = 0; leaving = false })) (omega (arith, can.within, w.sized.seats))
 
 -- Submit: where fewer than 32 bios are not yet reaped, the seat has a free slot
 pub free_place : (l : Limits) (n : ℕ) (t : Tables) (seat : ℕ) (entry : Seat) → WellFormed l n t → seat < 16 → at t.seats seat ≡ Some entry → entry.unreaped < 32

@@ -50,7 +50,7 @@ switch_few m BfqScheduler = omega (arith, count_by-le-length (λ entity. is_some
 
 -- so no step makes more than 512, where no outbox has more than 32 bios
 pub exchanges_few : (m : Plain) (s : Step) → AreWhole m → ((seat : ℕ) → length (m.outbox seat) ≤ 32) → exchanges_of m s + rule_exchanges m s ≤ 512
-exchanges_few m (Attach seat group prio) whole short = omega arith
+exchanges_few m (Attach seat group prio class) whole short = omega arith
 exchanges_few m (Submit seat session op range payload) whole short = omega (arith, submit_few (merge_in m seat session op range), rules_few (is_bfq m.scheduler) 5 (omega arith))
 exchanges_few m (Reap seat session) whole short = omega arith
 exchanges_few m (Leave seat why) whole short = omega (arith, short seat)

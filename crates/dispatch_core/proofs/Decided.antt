@@ -19,6 +19,7 @@ use Rattle.group_tree.specs.Groups.{has_entity}
 use Rattle.std.proofs.lemmas.Bool.{cases_lt}
 use Rattle.change_record.specs.Rules.{activate, stands}
 use Rattle.sector_core.specs.declared.config.Scheduler.{Scheduler}
+use Rattle.sector_core.specs.declared.class.Class.{Class}
 use Rattle.plain_machine.specs.declared.answer.Reply.{Reply}
 use Rattle.plain_machine.specs.declared.answer.Code.TheVariants.{NoSession, StaleSession, BadCount, BadLength, OutOfRange, TooManyBios, BadSeat, SeatTaken, NoGroup, BadPrio, VtimeFull, NothingQueued, NoTag, BadTag, NotInFlight, BadOutcome, HistoryFull}
 use Rattle.plain_machine.specs.declared.answer.Cause.TheVariants.{Frozen, RequestsFull, NotCompleted}
@@ -83,19 +84,19 @@ stands_below b group h = elim (cases_lt group 32) [
 ]
 
 -- Attach where its tests have passed
-pub attach_does : (l : Limits) (m : Plain) (n : ℕ) (room : Bool) (seat group prio : ℕ) → seat < 16 → m.seat seat ≡ None → stands m.bfq group ≡ true → prio ≤ 7 → room ≡ true
-    → attach l m n room seat group prio ≡ (attached l m n seat group prio, Accepted (Attached n))
-attach_does l m n room seat group prio h free there low e =
+pub attach_does : (l : Limits) (m : Plain) (n : ℕ) (room : Bool) (seat group prio : ℕ) (class : Class) → seat < 16 → m.seat seat ≡ None → stands m.bfq group ≡ true → prio ≤ 7 → room ≡ true
+    → attach l m n room seat group prio class ≡ (attached l m n seat group prio class, Accepted (Attached n))
+attach_does l m n room seat group prio class h free there low e =
     let e1 = lt_16 seat h in
     let e2 : is_some (m.seat seat) ≡ false = ap is_some free in
     let e3 : not (stands m.bfq group) ≡ false = ap not there in
     let e4 = not_lt prio 7 low in
     tested (nat_le 16 seat) (is_some (m.seat seat)) (not (stands m.bfq group)) (nat_lt 7 prio) e1 e2 e3 e4
-    ∙ ap (λ b. accepted b m (attached l m n seat group prio) (Attached n)) e
+    ∙ ap (λ b. accepted b m (attached l m n seat group prio class) (Attached n)) e
   where
     tested : (a b c d : Bool) → a ≡ false → b ≡ false → c ≡ false → d ≡ false
-        → unless ((a, Refused BadSeat) ∷ (b, Refused SeatTaken) ∷ (c, Refused NoGroup) ∷ (d, Refused BadPrio) ∷ []) m (accepted room m (attached l m n seat group prio) (Attached n))
-        ≡ accepted room m (attached l m n seat group prio) (Attached n)
+        → unless ((a, Refused BadSeat) ∷ (b, Refused SeatTaken) ∷ (c, Refused NoGroup) ∷ (d, Refused BadPrio) ∷ []) m (accepted room m (attached l m n seat group prio class) (Attached n))
+        ≡ accepted room m (attached l m n seat group prio class) (Attached n)
     tested a b c d p q r s = rw (p, q, r, s) refl
 
 -- a queue with a request that a bio joins is not empty

@@ -1,17 +1,18 @@
 -- Groups: what the steps of groups make of the tables, and what the plain steps say where the code has made its tests.
-use Rattle.std.proofs.Common.{◌≡◌, ◌≢◌, inl, inr, ℕ, zero, suc, ◌+◌, ◌<◌, ◌≤◌, ◌==◌, List, [], ◌∷◌, length, Option, None, Some, MatchOption, Bool, true, false, cond, not, is_some, nat_le, unwrap_or, get_or, set, refl, sym, ap, ◌∙◌, subst, arith, length-set}
+use Rattle.std.proofs.Common.{◌≡◌, ◌≢◌, inl, inr, ℕ, zero, suc, ◌+◌, ◌^◌, ◌<◌, ◌≤◌, ◌==◌, List, [], ◌∷◌, length, Option, None, Some, MatchOption, Bool, true, false, cond, not, is_some, nat_le, unwrap_or, get_or, set, refl, sym, ap, ◌∙◌, subst, arith, length-set}
 use Rattle.std.specs.Prelude.{slice_get}
 use Rattle.std.specs.List.{find}
 use Rattle.std.proofs.lemmas.Bool.{cases_eq, eq-eqb, ne_eqb}
 use Rattle.std.proofs.lemmas.Bool.Decides.{nat_tests}
 use Rattle.std.proofs.lemmas.Option.{same_Some}
+use Rattle.sector_core.specs.declared.class.Class.TheVariants.{BestEffort}
 use Rattle.soft_queue.specs.Turn.{numbers}
 use Rattle.group_tree.specs.Groups.{depth, entity_of, most_levels, parent}
 use Rattle.service_tree.specs.declared.member.Member.{Member}
 use Rattle.service_tree.specs.declared.member.State.TheVariants.{Idle}
 use Rattle.change_record.specs.declared.change.Change.TheVariants.{TreeMember, Vtime, GroupEntry, Pending}
 use Rattle.change_record.specs.Tables.{Tables}
-use Rattle.change_record.specs.Exchange.{after, with_member, with_vtime, tree_at}
+use Rattle.change_record.specs.Exchange.{after, with_member, with_vtimes, tree_at}
 use Rattle.change_record.specs.Machine.{Bfq, Plain, bfq_of, meaning, put}
 use Rattle.change_record.specs.Rules.{stands, group_of, put_vtime}
 use Rattle.bfq_select.specs.Service.{IsSized, IsBounded}
@@ -25,6 +26,9 @@ use Rattle.dispatch_core.specs.Changes.{entered}
 use Rattle.dispatch_core.proofs.QueueLists.{find_first, find_none}
 use Rattle.dispatch_core.proofs.Ruling.{put_set, well_with, entered-bfq, bounded_entity, bounded_without, bounded_vtime, bounded_pending, ruled_of, groups_set}
 use Rattle.dispatch_core.proofs.Laws.{WellFormed-later}
+use Rattle.class_trees.specs.Classes.{same_times}
+use Rattle.change_record.specs.Rules.{put_vtimes}
+use Rattle.class_trees.proofs.Times.{same_most}
 
 -- a list past its end
 pub get-none : {A : Type 0} (xs : List A) (i : ℕ) (d : A) → slice_get xs i ≡ None → get_or xs i d ≡ d
@@ -119,11 +123,11 @@ group_make_goes l m room parent weight there good high =
 
 pub group_make_does : (l : Limits) (m : Plain) (room : Bool) (parent weight group : ℕ) → stands m.bfq parent ≡ true → is_weight weight ≡ true → depth m.bfq.parent parent < 4
     → free_group m.bfq ≡ Some group → room ≡ true
-    → group_make l m room parent weight ≡ (record m { bfq = put_vtime group l.first_vtime (with_entity l (entity_of group) parent weight m.bfq) }, Accepted (Group group))
+    → group_make l m room parent weight ≡ (record m { bfq = put_vtimes group (same_times l.first_vtime) (with_entity l (entity_of group) parent BestEffort weight m.bfq) }, Accepted (Group group))
 group_make_does l m room parent weight group there good high free e =
     group_make_goes l m room parent weight there good high
     ∙ ap (made_group l m room parent weight) free
-    ∙ ap (λ b. accepted b m (record m { bfq = put_vtime group l.first_vtime (with_entity l (entity_of group) parent weight m.bfq) }) (Group group)) e
+    ∙ ap (λ b. accepted b m (record m { bfq = put_vtimes group (same_times l.first_vtime) (with_entity l (entity_of group) parent BestEffort weight m.bfq) }) (Group group)) e
 
 -- the group of an entity is below 32
 pub group_of_below : (t : Tables) (entity : ℕ) → IsSized t → group_of (bfq_of t) entity < 32
@@ -161,7 +165,7 @@ module _ (l : Limits) (n : ℕ) (t : Tables) (entity : ℕ) (w : WellFormed l n 
       let group = group_of (bfq_of t) entity in
       record (bfq_of t) {
         parent = put_set t.parents entity None None (omega (arith, within, w.ruled.sized.parents)) i;
-        service = put_set t.trees group (with_member (tree_at t group) entity None) (record { vtime = 0; members = [] }) (omega (arith, group_of_below t entity w.ruled.sized, w.ruled.sized.trees)) i;
+        service = put_set t.trees group (with_member (tree_at t group) entity None) (record { vtimes = same_times 0; members = [] }) (omega (arith, group_of_below t entity w.ruled.sized, w.ruled.sized.trees)) i;
       }
 
   pub dropped-meaning : meaning (after (after t (TreeMember (group_of (bfq_of t) entity) entity None)) (GroupEntry entity None)) ≡ record (meaning t) { bfq = without_entity entity (bfq_of t) }
@@ -191,16 +195,16 @@ module _ (l : Limits) (n : ℕ) (t : Tables) (entity : ℕ) (w : WellFormed l n 
 -- with a new group
 module _ (l : Limits) (n : ℕ) (t : Tables) (group parent weight : ℕ) (w : WellFormed l n t) (g_within : group < 32) (p_within : parent < 32) where
   abbrev inside : Tables
-  inside = entered l t (16 + group) parent weight
+  inside = entered l t (16 + group) parent BestEffort weight
 
   abbrev made : Tables
-  made = after inside (Vtime group l.first_vtime)
+  made = after inside (Vtime group (same_times l.first_vtime))
 
   inside-ruled : Ruled l inside
   inside-ruled =
       let s = w.ruled.sized in
-      let member : Option Member = Some (record { state = Idle; start = l.first_vtime; finish = l.first_vtime; weight = weight }) in
-      ruled_of l t (entered l t (16 + group) parent weight) w.ruled w.ruled.heads
+      let member : Option Member = Some (record { class = BestEffort; state = Idle; start = l.first_vtime; finish = l.first_vtime; weight = weight }) in
+      ruled_of l t (entered l t (16 + group) parent BestEffort weight) w.ruled w.ruled.heads
       (record {
         trees = length-set t.trees parent (with_member (tree_at t parent) (16 + group) member) ∙ s.trees;
         parents = length-set t.parents (16 + group) (Some parent) ∙ s.parents;
@@ -209,19 +213,19 @@ module _ (l : Limits) (n : ℕ) (t : Tables) (group parent weight : ℕ) (w : We
         groups = groups_set t (16 + group) (Some parent) (λ g h. let e : parent ≡ g = same_Some parent g h in omega arith) s;
         seat = s.seat;
       })
-      (subst IsBounded (sym (entered-bfq l t (16 + group) parent weight (omega arith) p_within w.ruled))
-      (bounded_entity l (16 + group) parent weight (bfq_of t) w.ruled.first_vtime w.ruled.bounded))
+      (subst IsBounded (sym (entered-bfq l t (16 + group) parent BestEffort weight (omega arith) p_within w.ruled))
+      (bounded_entity l (16 + group) parent BestEffort weight (bfq_of t) w.ruled.first_vtime w.ruled.bounded))
 
-  begun-bfq : bfq_of made ≡ put_vtime group l.first_vtime (bfq_of inside)
+  begun-bfq : bfq_of made ≡ put_vtimes group (same_times l.first_vtime) (bfq_of inside)
   begun-bfq i = record (bfq_of inside) {
-    service = put_set inside.trees group (with_vtime (tree_at inside group) l.first_vtime) (record { vtime = 0; members = [] }) (omega (arith, g_within, inside-ruled.sized.trees)) i;
+    service = put_set inside.trees group (with_vtimes (tree_at inside group) (same_times l.first_vtime)) (record { vtimes = same_times 0; members = [] }) (omega (arith, g_within, inside-ruled.sized.trees)) i;
   }
 
-  made-bfq : bfq_of made ≡ put_vtime group l.first_vtime (with_entity l (16 + group) parent weight (bfq_of t))
-  made-bfq = begun-bfq ∙ ap (put_vtime group l.first_vtime) (entered-bfq l t (16 + group) parent weight (omega arith) p_within w.ruled)
+  made-bfq : bfq_of made ≡ put_vtimes group (same_times l.first_vtime) (with_entity l (16 + group) parent BestEffort weight (bfq_of t))
+  made-bfq = begun-bfq ∙ ap (put_vtimes group (same_times l.first_vtime)) (entered-bfq l t (16 + group) parent BestEffort weight (omega arith) p_within w.ruled)
 
-  pub made-meaning : meaning (after (entered l t (16 + group) parent weight) (Vtime group l.first_vtime))
-      ≡ record (meaning t) { bfq = put_vtime group l.first_vtime (with_entity l (16 + group) parent weight (bfq_of t)) }
+  pub made-meaning : meaning (after (entered l t (16 + group) parent BestEffort weight) (Vtime group (same_times l.first_vtime)))
+      ≡ record (meaning t) { bfq = put_vtimes group (same_times l.first_vtime) (with_entity l (16 + group) parent BestEffort weight (bfq_of t)) }
   made-meaning = ap (λ b. let m : Plain = record (meaning t) { bfq = b } in m) made-bfq
 
   made-ruled : Ruled l made
@@ -229,15 +233,15 @@ module _ (l : Limits) (n : ℕ) (t : Tables) (group parent weight : ℕ) (w : We
       let s = inside-ruled.sized in
       ruled_of l inside made inside-ruled inside-ruled.heads
       (record {
-        trees = length-set inside.trees group (with_vtime (tree_at inside group) l.first_vtime) ∙ s.trees;
+        trees = length-set inside.trees group (with_vtimes (tree_at inside group) (same_times l.first_vtime)) ∙ s.trees;
         parents = s.parents;
         weights = s.weights;
         budgets = s.budgets;
         groups = s.groups;
         seat = s.seat;
       })
-      (subst IsBounded (sym begun-bfq) (bounded_vtime group l.first_vtime (bfq_of inside) w.ruled.first_vtime inside-ruled.bounded))
+      (subst IsBounded (sym begun-bfq) (bounded_vtime group (same_times l.first_vtime) (bfq_of inside) (same_most l.first_vtime (2 ^ 62) w.ruled.first_vtime) inside-ruled.bounded))
 
-  pub made-well : WellFormed l (n + 1) (after (entered l t (16 + group) parent weight) (Vtime group l.first_vtime))
+  pub made-well : WellFormed l (n + 1) (after (entered l t (16 + group) parent BestEffort weight) (Vtime group (same_times l.first_vtime)))
   made-well = WellFormed-later l n made
       (well_with l n t t.heads made.trees made.parents made.weights t.budgets t.slot w made-ruled w.young)

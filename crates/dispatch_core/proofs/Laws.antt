@@ -13,6 +13,7 @@ use Rattle.process_queue.specs.Merge.{bios_at, merge_place}
 use Rattle.change_record.specs.Machine.{WholeRequest, Plain, meaning, put}
 use Rattle.plain_machine.specs.Step.{Limits, attached, submitted, merge_in, queue_with, new_bio, unreaped, with_unreaped}
 use Rattle.std.specs.Option.{option_map}
+use Rattle.sector_core.specs.declared.class.Class.{Class}
 use Rattle.dispatch_core.specs.WellFormed.{WellFormed, IsSound}
 use Rattle.dispatch_core.specs.Changes.{attached_tables, submitted_tables, joined_tables, reaped_tables, sent_tables}
 use Rattle.dispatch_core.proofs.Sides.{CanAttach, CanSubmit, CanJoin, CanReap, CanSend}
@@ -67,8 +68,8 @@ WellFormed-later l n t w = record {
 pub IsSound-later : (l : Limits) (n : ℕ) (t : Tables) → IsSound l n t → IsSound l (n + 1) t
 IsSound-later l n t h = (WellFormed-later l n t h.0, h.1)
 
-pub attached-well : (l : Limits) (n : ℕ) (t : Tables) (seat group prio : ℕ) → WellFormed l n t → CanAttach t seat → group < 32 → WellFormed l (n + 1) (attached_tables l t n seat group prio)
-attached-well l n t seat group prio w can there = record {
+pub attached-well : (l : Limits) (n : ℕ) (t : Tables) (seat group prio : ℕ) (class : Class) → WellFormed l n t → CanAttach t seat → group < 32 → WellFormed l (n + 1) (attached_tables l t n seat group prio class)
+attached-well l n t seat group prio class w can there = record {
   sized = record {
     requests = w.sized.requests;
     bios = w.sized.bios;
@@ -81,20 +82,20 @@ attached-well l n t seat group prio w can there = record {
     few_requests = w.sized.few_requests;
     small_image = w.sized.small_image;
   };
-  seated = attached-seated l n t seat group prio w can;
-  kept = attached-kept l n t seat group prio w can;
-  placed = attached-placed l n t seat group prio w can;
-  ruled = ruled_attached l n t seat group prio w can.within there;
+  seated = attached-seated l n t seat group prio class w can;
+  kept = attached-kept l n t seat group prio class w can;
+  placed = attached-placed l n t seat group prio class w can;
+  ruled = ruled_attached l n t seat group prio class w can.within there;
   young = young_later n t.slot w.young;
   first = let h = w.first in omega arith;
   served = w.served;
 }
 
-pub attached-meaning : (l : Limits) (n : ℕ) (t : Tables) (seat group prio : ℕ) → WellFormed l n t → CanAttach t seat → group < 32
-    → meaning (attached_tables l t n seat group prio) ≡ attached l (meaning t) n seat group prio
-attached-meaning l n t seat group prio w can there i = record {
+pub attached-meaning : (l : Limits) (n : ℕ) (t : Tables) (seat group prio : ℕ) (class : Class) → WellFormed l n t → CanAttach t seat → group < 32
+    → meaning (attached_tables l t n seat group prio class) ≡ attached l (meaning t) n seat group prio class
+attached-meaning l n t seat group prio class w can there i = record {
   overlay = t.overlay;
-  seat = attached-seat l n t seat group prio w can i;
+  seat = attached-seat l n t seat group prio class w can i;
   queue = (meaning t).queue;
   requeued = (meaning t).requeued;
   outbox = (meaning t).outbox;
@@ -102,7 +103,7 @@ attached-meaning l n t seat group prio w can there i = record {
   frozen = t.frozen;
   served = t.served;
   head = put_set t.heads seat 0 0 (omega (arith, can.within, w.ruled.heads)) i;
-  bfq = attached-bfq l n t seat group prio w can.within there i;
+  bfq = attached-bfq l n t seat group prio class w can.within there i;
   scheduler = t.scheduler;
 }
 

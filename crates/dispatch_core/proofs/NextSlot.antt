@@ -4,6 +4,7 @@ use Rattle.std.specs.List.{find}
 use Rattle.std.specs.Option.{option_map_or, option_and_then}
 use Rattle.std.proofs.lemmas.Option.{same_Some}
 use Rattle.std.proofs.lemmas.List.Elements.{All-head, All-tail}
+use Rattle.sector_core.specs.declared.class.Class.{Class}
 use Rattle.service_tree.specs.Members.{least_start}
 use Rattle.group_tree.specs.Groups.{path}
 use Rattle.change_record.specs.declared.change.InService.{InService}
@@ -16,6 +17,7 @@ use Rattle.change_record.specs.declared.change.Expiry.{Expiry}
 use Rattle.change_record.specs.Rules.{top, put_vtime, group_of, along, finish_from, stamped, stamp, picked, jumped, in_service, on_pick, taken, select_from, select, risen, charge_one, served_more, charge, ended, is_backlogged, rested, expire_one, out_of_service, expire}
 use Rattle.plain_machine.specs.Step.{shape, size_of, next_request, next_size}
 use Rattle.plain_machine.specs.Whole.{IsWhole, AreWhole}
+use Rattle.change_record.specs.Rules.{chosen_in, class_in, class_of, on_class, service_in}
 
 -- a stamp leaves the slot
 stamp_slot : (start entity : ℕ) (b c : Bfq) → stamp start entity b ≡ Some c → c.slot ≡ b.slot
@@ -57,9 +59,9 @@ expire_slot cause most queued b c e =
 -- a charge leaves the slot at each entity
 charge_one_slot : (sectors entity : ℕ) (b c : Bfq) → charge_one sectors entity b ≡ Some c → c.slot ≡ b.slot
 charge_one_slot sectors entity b c e =
-    let vtime : ℕ = risen sectors (group_of b entity) b in
-    elim (nat_le vtime top) as (λ t. cond t (Some (put_vtime (group_of b entity) vtime b)) None ≡ Some c → c.slot ≡ b.slot) [
-      | true ↦ λ f. ap (λ (x : Bfq). x.slot) (sym (same_Some (put_vtime (group_of b entity) vtime b) c f))
+    let vtime : ℕ = risen sectors (group_of b entity) (class_of b entity) b in
+    elim (nat_le vtime top) as (λ t. cond t (Some (put_vtime (group_of b entity) (class_of b entity) vtime b)) None ≡ Some c → c.slot ≡ b.slot) [
+      | true ↦ λ f. ap (λ (x : Bfq). x.slot) (sym (same_Some (put_vtime (group_of b entity) (class_of b entity) vtime b) c f))
       | false ↦ λ f. cc
     ] e
 
@@ -85,11 +87,11 @@ abbrev IsFresh : Option InService → Type 0
 IsFresh o = (slot : InService) → o ≡ Some slot → (slot.service ≡ 0) × (slot.age ≡ 0)
 
 -- a jump of the virtual time leaves the slot
-jumped_slot : (group : ℕ) (b : Bfq) → (jumped group b).slot ≡ b.slot
-jumped_slot group b =
-    elim (is_some (picked b group)) as (λ t. (let c : Bfq = cond t b (option_map_or (λ start. put_vtime group start b) (least_start (b.service group).members) b) in c.slot) ≡ b.slot) [
+jumped_slot : (group : ℕ) (class : Class) (b : Bfq) → (jumped group class b).slot ≡ b.slot
+jumped_slot group class b =
+    elim (is_some (picked b group class)) as (λ t. (let c : Bfq = cond t b (option_map_or (λ start. put_vtime group class start b) (least_start (service_in b group class).members) b) in c.slot) ≡ b.slot) [
       | true ↦ refl
-      | false ↦ elim (least_start (b.service group).members) as (λ o. (let c : Bfq = option_map_or (λ start. put_vtime group start b) o b in c.slot) ≡ b.slot) [
+      | false ↦ elim (least_start (service_in b group class).members) as (λ o. (let c : Bfq = option_map_or (λ start. put_vtime group class start b) o b in c.slot) ≡ b.slot) [
         | None ↦ refl
         | Some start ↦ refl
       ]
@@ -112,15 +114,20 @@ on_pick_fresh : (found : Option ℕ) (b : Bfq) (next : ℕ → Bfq) → IsFresh 
 on_pick_fresh None b next fresh each = fresh
 on_pick_fresh (Some entity) b next fresh each = each entity
 
+on_class_fresh : (found : Option Class) (b : Bfq) (next : Class → Bfq) → IsFresh b.slot → ((class : Class) → IsFresh (next class).slot) → IsFresh (on_class found b next).slot
+on_class_fresh None b next fresh each = fresh
+on_class_fresh (Some class) b next fresh each = each class
+
 -- and what so many levels choose
 select_from_fresh : (levels group : ℕ) (b : Bfq) → IsFresh b.slot → IsFresh (select_from levels group b).slot
 unfolding select_from
 select_from_fresh zero group b fresh = fresh
 select_from_fresh (suc levels) group b fresh =
-    let c : Bfq = jumped group b in
     let choose : ℕ → Bfq → Bfq = λ h d. select_from levels h d in
-    let still : IsFresh c.slot = λ slot e. fresh slot (sym (jumped_slot group b) ∙ e) in
-    on_pick_fresh (picked c group) c (taken choose group c) still (λ entity. taken_fresh choose (λ h d. select_from_fresh levels h d) group c entity still)
+    on_class_fresh (class_in b group) b (chosen_in choose group b) fresh (λ class.
+    let c : Bfq = jumped group class b in
+    let still : IsFresh c.slot = λ slot e. fresh slot (sym (jumped_slot group class b) ∙ e) in
+    on_pick_fresh (picked c group class) c (taken choose group c) still (λ entity. taken_fresh choose (λ h d. select_from_fresh levels h d) group c entity still))
 
 -- a queue that was selected has been served nothing yet
 pub select_fresh : (b : Bfq) (slot : InService) → b.slot ≡ None → (select b).slot ≡ Some slot → slot.service ≡ 0

@@ -13,6 +13,7 @@ use Rattle.std.proofs.Math.Path.{fun_ext}
 use Rattle.std.specs.FinMap as map
 use Rattle.arrayvec.specs.ArrayVec.{ArrayVec}
 use Rattle.sector_core.specs.declared.bio.Bio.{Bio}
+use Rattle.sector_core.specs.declared.class.Class.{Class}
 use Rattle.request_pool.specs.declared.Request.{Request}
 use Rattle.tag_set.specs.declared.Issue.{Issue}
 use Rattle.process_queue.specs.declared.Link.{Link}
@@ -21,12 +22,13 @@ use Rattle.change_record.specs.declared.change.Seat.{Seat}
 use Rattle.change_record.specs.Tables.{empty_tables, empty_service}
 use Rattle.change_record.specs.declared.change.Making.{Making}
 use Rattle.service_tree.specs.declared.member.Member.{Member}
-use Rattle.service_tree.specs.Members.{Service}
 use Rattle.bfq_select.specs.Service.{IsBounded}
 use Rattle.plain_machine.specs.Step.{Limits, opening, opening_bfq}
 use Rattle.process_queue.specs.Merge.{bios_at}
 use Rattle.change_record.specs.Machine.{Bfq, bfq_of, meaning, outbox_at, whole_at}
 use Rattle.dispatch_core.specs.WellFormed.{at, one, taken, times, named, bears, IsCompleted, WellFormed, Ruled}
+use Rattle.class_trees.specs.Classes.{Classes, same_times, time_of}
+use Rattle.class_trees.proofs.Times.{same_most}
 
 at-replicate : {A : Type 0} (n k : ℕ) → at (replicate {A = Option A} n None) k ≡ None
 at-replicate zero k = refl
@@ -124,7 +126,7 @@ weights_one k = get-replicate {A = ℕ} 48 1 1 k ∙ same (nat_lt k 48) where
 bfq_opening : (l : Limits) → bfq_of (empty_tables (for_limits l)) ≡ opening_bfq l
 bfq_opening l i = record {
   parent = fun_ext {f = (bfq_of (empty_tables (for_limits l))).parent} {g = λ _. None} (λ k. at-replicate {A = ℕ} 48 k) i;
-  service = fun_ext {f = (bfq_of (empty_tables (for_limits l))).service} {g = (opening_bfq l).service} (λ k. get-replicate 32 (empty_service l.first_vtime) (record { vtime = 0; members = [] }) k) i;
+  service = fun_ext {f = (bfq_of (empty_tables (for_limits l))).service} {g = (opening_bfq l).service} (λ k. get-replicate 32 (empty_service l.first_vtime) (record { vtimes = same_times 0; members = [] }) k) i;
   pending = fun_ext {f = (bfq_of (empty_tables (for_limits l))).pending} {g = λ _. 1} weights_one i;
   budget = fun_ext {f = (bfq_of (empty_tables (for_limits l))).budget} {g = (opening_bfq l).budget} (λ k. get-replicate_two 16 32 l.first_budget l.max_budget 256 k) i;
   slot = None;
@@ -176,11 +178,11 @@ module _ (l : Limits) (least : 256 ≤ l.first_budget) (first : l.first_budget �
   ]
 
 -- the times of a new machine are within their limits, and there is no member
-first_times : (l : Limits) → l.first_vtime ≤ 2 ^ 62 → (k : ℕ) → ((opening_bfq l).service k).vtime ≤ 2 ^ 62
-first_times l h k = elim (nat_lt k 32) as (λ b. (let s : Service = cond b (empty_service l.first_vtime) (record { vtime = 0; members = [] }) in s.vtime) ≤ 2 ^ 62) [ true ↦ h | false ↦ omega arith ]
+first_times : (l : Limits) → l.first_vtime ≤ 2 ^ 62 → (k : ℕ) (d : Class) → time_of ((opening_bfq l).service k).vtimes d ≤ 2 ^ 62
+first_times l h k d = elim (nat_lt k 32) as (λ b. (let s : Classes = cond b (empty_service l.first_vtime) (record { vtimes = same_times 0; members = [] }) in time_of s.vtimes d) ≤ 2 ^ 62) [ true ↦ same_most l.first_vtime (2 ^ 62) h d | false ↦ same_most 0 (2 ^ 62) (omega arith) d ]
 
 no_member : (l : Limits) (k e : ℕ) (m : Member) → get_or ((opening_bfq l).service k).members e None ≡ Some m → ⊥
-no_member l k e m = elim (nat_lt k 32) as (λ b. get_or (let s : Service = cond b (empty_service l.first_vtime) (record { vtime = 0; members = [] }) in s.members) e None ≡ Some m → ⊥) [
+no_member l k e m = elim (nat_lt k 32) as (λ b. get_or (let s : Classes = cond b (empty_service l.first_vtime) (record { vtimes = same_times 0; members = [] }) in s.members) e None ≡ Some m → ⊥) [
   | true ↦ λ h. none_some _ m (at-replicate {A = Member} 48 e) h
   | false ↦ λ h. cc
 ]

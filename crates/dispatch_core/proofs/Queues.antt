@@ -13,6 +13,7 @@ use Rattle.sector_core.specs.declared.bio.Op.{Op}
 use Rattle.sector_core.specs.declared.bio.Bio.{Bio}
 use Rattle.sector_core.specs.declared.bio.Outcome.{Outcome}
 use Rattle.sector_core.specs.Table.{AllTaken, IsFirstFree}
+use Rattle.sector_core.specs.declared.class.Class.{Class}
 use Rattle.request_pool.specs.declared.Request.{Request}
 use Rattle.tag_set.specs.declared.Issue.{Issue}
 use Rattle.process_queue.specs.declared.Link.{Link}
@@ -164,18 +165,18 @@ counted_again t u seat entry count sits same k s e = elim (cases_eq k seat) [
 ]
 
 -- a new session moves no request
-pub attached-placed : (l : Limits) (n : ℕ) (t : Tables) (seat group prio : ℕ) → WellFormed l n t → CanAttach t seat → Placed (n + 1) (attached_tables l t n seat group prio)
-attached-placed l n t seat group prio w can =
-    let same : (k : ℕ) (s : Seat) → at t.seats k ≡ Some s → IsKept t (attached_tables l t n seat group prio) k s = λ k s e. record {
+pub attached-placed : (l : Limits) (n : ℕ) (t : Tables) (seat group prio : ℕ) (class : Class) → WellFormed l n t → CanAttach t seat → Placed (n + 1) (attached_tables l t n seat group prio class)
+attached-placed l n t seat group prio class w can =
+    let same : (k : ℕ) (s : Seat) → at t.seats k ≡ Some s → IsKept t (attached_tables l t n seat group prio class) k s = λ k s e. record {
       now = s;
       there = get_or-set_other t.seats seat k _ None (λ f. let g : at t.seats k ≡ None = ap (at t.seats) f ∙ can.free in cc) ∙ e;
       session = refl;
     } in
     record {
-      link = λ slot link e. moved n t (attached_tables l t n seat group prio) slot link (w.placed.link slot link e) refl same;
+      link = λ slot link e. moved n t (attached_tables l t n seat group prio class) slot link (w.placed.link slot link e) refl same;
       apart = w.placed.apart;
       again = w.placed.again;
-      requeued = λ slot link e. let q = w.placed.requeued slot link e in requeued_still n t (attached_tables l t n seat group prio) slot link q q.here;
+      requeued = λ slot link e. let q = w.placed.requeued slot link e in requeued_still n t (attached_tables l t n seat group prio class) slot link q q.here;
       tag = λ tag issue e. let h = w.placed.tag tag issue e in (omega (arith, h.0), h.1);
       once = w.placed.once;
       counted = w.placed.counted;

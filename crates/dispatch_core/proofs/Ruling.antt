@@ -4,18 +4,21 @@ use Rattle.std.proofs.Math.Path.{fun_ext}
 use Rattle.std.proofs.lemmas.Bool.{cases_eq, eq-eqb, ne_eqb}
 use Rattle.std.proofs.lemmas.List.{get_or-set_same, get_or-set_other}
 use Rattle.std.proofs.lemmas.Option.{same_Some}
+use Rattle.sector_core.specs.declared.class.Class.{Class}
 use Rattle.service_tree.specs.declared.member.Member.{Member}
 use Rattle.service_tree.specs.declared.member.State.TheVariants.{Idle}
-use Rattle.service_tree.specs.Members.{Service}
 use Rattle.change_record.specs.declared.change.InService.{InService}
 use Rattle.change_record.specs.Tables.{Tables}
-use Rattle.change_record.specs.Exchange.{with_member, with_vtime, tree_at}
+use Rattle.change_record.specs.Exchange.{with_member, with_vtimes, tree_at}
 use Rattle.change_record.specs.Machine.{Bfq, Plain, bfq_of, meaning, put}
 use Rattle.change_record.specs.Rules.{put_vtime, group_of}
 use Rattle.bfq_select.specs.Service.{IsSized, IsBounded, OnlyServes}
 use Rattle.plain_machine.specs.Step.{Limits, with_entity, without_entity, prio_weight}
 use Rattle.dispatch_core.specs.WellFormed.{WellFormed, Ruled}
 use Rattle.dispatch_core.specs.Changes.{entered, attached_tables}
+use Rattle.class_trees.specs.declared.Vtimes.{Vtimes}
+use Rattle.class_trees.specs.Classes.{Classes, same_times, time_of}
+use Rattle.change_record.specs.Rules.{put_vtimes}
 
 -- tables with what bfq has in others
 abbrev pub like : Tables → Tables → Tables
@@ -49,7 +52,7 @@ written (x ∷ xs) (suc k) zero v w h = inr h
 written (x ∷ xs) (suc k) (suc n) v w h = written xs k n v w h
 
 -- what a tree has of an entity, after one place of one tree was written
-placed : (b : ℕ → Service) (g e : ℕ) (v : Option Member) (group entity : ℕ) (m : Member)
+placed : (b : ℕ → Classes) (g e : ℕ) (v : Option Member) (group entity : ℕ) (m : Member)
     → get_or (put b g (with_member (b g) e v) group).members entity None ≡ Some m → (v ≡ Some m) ⊎ (get_or (b group).members entity None ≡ Some m)
 placed b g e v group entity m h =
     either (group == g) refl h where
@@ -61,7 +64,7 @@ placed b g e v group entity m h =
       either false p k = inr k
 
 -- tables with other values of bfq
-abbrev pub with_bfq : Tables → List ℕ → List Service → List (Option ℕ) → List ℕ → List ℕ → Option InService → Tables
+abbrev pub with_bfq : Tables → List ℕ → List Classes → List (Option ℕ) → List ℕ → List ℕ → Option InService → Tables
 with_bfq t heads trees parents weights budgets slot =
     record t { heads = heads; trees = trees; parents = parents; weights = weights; budgets = budgets; slot = slot }
 
@@ -70,7 +73,7 @@ abbrev pub IsYoung : ℕ → Option InService → Type 0
 IsYoung n o = (slot : InService) → o ≡ Some slot → slot.age < n
 
 -- all else holds of them as before
-pub well_with : (l : Limits) (n : ℕ) (t : Tables) (heads : List ℕ) (trees : List Service) (parents : List (Option ℕ)) (weights budgets : List ℕ) (slot : Option InService)
+pub well_with : (l : Limits) (n : ℕ) (t : Tables) (heads : List ℕ) (trees : List Classes) (parents : List (Option ℕ)) (weights budgets : List ℕ) (slot : Option InService)
     → WellFormed l n t → Ruled l (with_bfq t heads trees parents weights budgets slot) → IsYoung n slot → WellFormed l n (with_bfq t heads trees parents weights budgets slot)
 well_with l n t heads trees parents weights budgets slot w ruled young = record {
   sized = record {
@@ -133,40 +136,40 @@ serves_then t u v first second =
     second ∙ ap (λ (x : Tables). let y : Tables = record x { trees = v.trees; budgets = v.budgets; slot = v.slot } in y) first
 
 -- a new entity in a group
-module _ (l : Limits) (t : Tables) (entity group weight : ℕ) (e_within : entity < 48) (g_within : group < 32) (r : Ruled l t) where
+module _ (l : Limits) (t : Tables) (entity group : ℕ) (class : Class) (weight : ℕ) (e_within : entity < 48) (g_within : group < 32) (r : Ruled l t) where
   member : Member
-  member = record { state = Idle; start = l.first_vtime; finish = l.first_vtime; weight = weight }
+  member = record { class = class; state = Idle; start = l.first_vtime; finish = l.first_vtime; weight = weight }
 
-  pub entered-bfq : bfq_of (entered l t entity group weight) ≡ with_entity l entity group weight (bfq_of t)
+  pub entered-bfq : bfq_of (entered l t entity group class weight) ≡ with_entity l entity group class weight (bfq_of t)
   unfolding member
   entered-bfq i = record {
     parent = put_set t.parents entity (Some group) None (omega (arith, e_within, r.sized.parents)) i;
-    service = put_set t.trees group (with_member (tree_at t group) entity (Some member)) (record { vtime = 0; members = [] }) (omega (arith, g_within, r.sized.trees)) i;
+    service = put_set t.trees group (with_member (tree_at t group) entity (Some member)) (record { vtimes = same_times 0; members = [] }) (omega (arith, g_within, r.sized.trees)) i;
     pending = put_set t.weights entity weight 1 (omega (arith, e_within, r.sized.weights)) i;
     budget = (bfq_of t).budget;
     slot = t.slot;
   }
 
 -- the members of a tree where one was put
-pub bounded-put_member : (b : Bfq) (group entity : ℕ) (v : Option Member) (f : ℕ → Service) → f ≡ put b.service group (with_member (b.service group) entity v)
+pub bounded-put_member : (b : Bfq) (group entity : ℕ) (v : Option Member) (f : ℕ → Classes) → f ≡ put b.service group (with_member (b.service group) entity v)
     → ((m : Member) → v ≡ Some m → (m.start ≤ 2 ^ 62) × (m.finish ≤ 2 ^ 62)) → IsBounded b
-    → ((g e : ℕ) (m : Member) → get_or (f g).members e None ≡ Some m → (m.start ≤ 2 ^ 62) × (m.finish ≤ 2 ^ 62)) × ((g : ℕ) → (f g).vtime ≤ 2 ^ 62)
+    → ((g e : ℕ) (m : Member) → get_or (f g).members e None ≡ Some m → (m.start ≤ 2 ^ 62) × (m.finish ≤ 2 ^ 62)) × ((g : ℕ) (d : Class) → time_of (f g).vtimes d ≤ 2 ^ 62)
 bounded-put_member b group entity v f is new old = (
-  λ g e m h. elim (placed b.service group entity v g e m (sym (ap (λ (s : ℕ → Service). get_or (s g).members e None) is) ∙ h)) [
+  λ g e m h. elim (placed b.service group entity v g e m (sym (ap (λ (s : ℕ → Classes). get_or (s g).members e None) is) ∙ h)) [
     | inl k ↦ new m k
     | inr k ↦ (old.starts g e m k, old.finishes g e m k)
   ],
-  λ g. let P : (ℕ → Service) → Type 0 = λ s. (s g).vtime ≤ 2 ^ 62 in
-      subst P (sym is) (vtime_same b.service group entity v g (old.vtimes g) (old.vtimes group)),
+  λ g d. let P : (ℕ → Classes) → Type 0 = λ s. time_of (s g).vtimes d ≤ 2 ^ 62 in
+      subst P (sym is) (vtime_same b.service group entity v g d (old.vtimes g d) (old.vtimes group d)),
 ) where
-  vtime_same : (s : ℕ → Service) (group entity : ℕ) (v : Option Member) (g : ℕ) → (s g).vtime ≤ 2 ^ 62 → (s group).vtime ≤ 2 ^ 62
-      → (put s group (with_member (s group) entity v) g).vtime ≤ 2 ^ 62
-  vtime_same s group entity v g h k = elim (g == group) as (λ c. (let x : Service = cond c (with_member (s group) entity v) (s g) in x.vtime) ≤ 2 ^ 62) [ true ↦ k | false ↦ h ]
+  vtime_same : (s : ℕ → Classes) (group entity : ℕ) (v : Option Member) (g : ℕ) (d : Class) → time_of (s g).vtimes d ≤ 2 ^ 62 → time_of (s group).vtimes d ≤ 2 ^ 62
+      → time_of (put s group (with_member (s group) entity v) g).vtimes d ≤ 2 ^ 62
+  vtime_same s group entity v g d h k = elim (g == group) as (λ c. (let x : Classes = cond c (with_member (s group) entity v) (s g) in time_of x.vtimes d) ≤ 2 ^ 62) [ true ↦ k | false ↦ h ]
 
 -- with a new entity the numbers of bfq are within their limits
-pub bounded_entity : (l : Limits) (entity group weight : ℕ) (b : Bfq) → l.first_vtime ≤ 2 ^ 62 → IsBounded b → IsBounded (with_entity l entity group weight b)
-bounded_entity l entity group weight b first old =
-    let v : Option Member = Some (record { state = Idle; start = l.first_vtime; finish = l.first_vtime; weight = weight }) in
+pub bounded_entity : (l : Limits) (entity group : ℕ) (class : Class) (weight : ℕ) (b : Bfq) → l.first_vtime ≤ 2 ^ 62 → IsBounded b → IsBounded (with_entity l entity group class weight b)
+bounded_entity l entity group class weight b first old =
+    let v : Option Member = Some (record { class = class; state = Idle; start = l.first_vtime; finish = l.first_vtime; weight = weight }) in
     let times = bounded-put_member b group entity v (put b.service group (with_member (b.service group) entity v)) refl
     (λ m h. let p : Member → Type 0 = λ x. (x.start ≤ 2 ^ 62) × (x.finish ≤ 2 ^ 62) in subst p (same_Some _ m h) (first, first)) old in
     record {
@@ -204,17 +207,17 @@ bounded_budget seat budget b least most old = record {
 }
 
 -- with another virtual time
-pub bounded_vtime : (group vtime : ℕ) (b : Bfq) → vtime ≤ 2 ^ 62 → IsBounded b → IsBounded (put_vtime group vtime b)
+pub bounded_vtime : (group : ℕ) (vtime : Vtimes) (b : Bfq) → ((d : Class) → time_of vtime d ≤ 2 ^ 62) → IsBounded b → IsBounded (put_vtimes group vtime b)
 bounded_vtime group vtime b h old = record {
-  vtimes = λ g. let here = old.vtimes g in elim (g == group) as (λ c. (let s : Service = cond c (with_vtime (b.service group) vtime) (b.service g) in s.vtime) ≤ 2 ^ 62) [ true ↦ h | false ↦ here ];
+  vtimes = λ g d. let here = old.vtimes g d in elim (g == group) as (λ c. (let s : Classes = cond c (with_vtimes (b.service group) vtime) (b.service g) in time_of s.vtimes d) ≤ 2 ^ 62) [ true ↦ h d | false ↦ here ];
   starts = λ g e m k. old.starts (cond (g == group) group g) e m (same_members g e m k);
   finishes = λ g e m k. old.finishes (cond (g == group) group g) e m (same_members g e m k);
   least_budgets = old.least_budgets;
   most_budgets = old.most_budgets;
   served = old.served;
 } where
-  same_members : (g e : ℕ) (m : Member) → get_or (put b.service group (with_vtime (b.service group) vtime) g).members e None ≡ Some m → get_or (b.service (cond (g == group) group g)).members e None ≡ Some m
-  same_members g e m = elim (g == group) as (λ c. get_or (let s : Service = cond c (with_vtime (b.service group) vtime) (b.service g) in s.members) e None ≡ Some m
+  same_members : (g e : ℕ) (m : Member) → get_or (put b.service group (with_vtimes (b.service group) vtime) g).members e None ≡ Some m → get_or (b.service (cond (g == group) group g)).members e None ≡ Some m
+  same_members g e m = elim (g == group) as (λ c. get_or (let s : Classes = cond c (with_vtimes (b.service group) vtime) (b.service g) in s.members) e None ≡ Some m
       → get_or (b.service (cond c group g)).members e None ≡ Some m) [ true ↦ λ k. k | false ↦ λ k. k ]
 
 -- with another pending weight
@@ -241,18 +244,18 @@ groups_set t entity v new sized e g h = elim (written t.parents entity e v g h) 
 ]
 
 -- Attach.
-module _ (l : Limits) (n : ℕ) (t : Tables) (seat group prio : ℕ) (w : WellFormed l n t) (s_within : seat < 16) (g_within : group < 32) where
-  pub attached-bfq : bfq_of (attached_tables l t n seat group prio)
-      ≡ record (with_entity l seat group (prio_weight prio) (bfq_of t)) { budget = put (bfq_of t).budget seat l.first_budget }
+module _ (l : Limits) (n : ℕ) (t : Tables) (seat group prio : ℕ) (class : Class) (w : WellFormed l n t) (s_within : seat < 16) (g_within : group < 32) where
+  pub attached-bfq : bfq_of (attached_tables l t n seat group prio class)
+      ≡ record (with_entity l seat group class (prio_weight prio) (bfq_of t)) { budget = put (bfq_of t).budget seat l.first_budget }
   attached-bfq i =
-      let b = entered-bfq l t seat group (prio_weight prio) (omega arith) g_within w.ruled i in
+      let b = entered-bfq l t seat group class (prio_weight prio) (omega arith) g_within w.ruled i in
       record b { budget = put_set t.budgets seat l.first_budget 256 (omega (arith, s_within, w.ruled.sized.budgets)) i }
 
-  pub ruled_attached : Ruled l (attached_tables l t n seat group prio)
+  pub ruled_attached : Ruled l (attached_tables l t n seat group prio class)
   ruled_attached =
       let r = w.ruled in
-      let member : Option Member = Some (record { state = Idle; start = l.first_vtime; finish = l.first_vtime; weight = prio_weight prio }) in
-      ruled_of l t (attached_tables l t n seat group prio) r (length-set t.heads seat 0 ∙ r.heads)
+      let member : Option Member = Some (record { class = class; state = Idle; start = l.first_vtime; finish = l.first_vtime; weight = prio_weight prio }) in
+      ruled_of l t (attached_tables l t n seat group prio class) r (length-set t.heads seat 0 ∙ r.heads)
       (record {
         trees = length-set t.trees group (with_member (tree_at t group) seat member) ∙ r.sized.trees;
         parents = length-set t.parents seat (Some group) ∙ r.sized.parents;
@@ -262,5 +265,5 @@ module _ (l : Limits) (n : ℕ) (t : Tables) (seat group prio : ℕ) (w : WellFo
         seat = r.sized.seat;
       })
       (subst IsBounded (sym attached-bfq)
-      (bounded_budget seat l.first_budget (with_entity l seat group (prio_weight prio) (bfq_of t)) r.least_budget (omega (arith, r.first_budget, r.most_budget))
-      (bounded_entity l seat group (prio_weight prio) (bfq_of t) r.first_vtime r.bounded)))
+      (bounded_budget seat l.first_budget (with_entity l seat group class (prio_weight prio) (bfq_of t)) r.least_budget (omega (arith, r.first_budget, r.most_budget))
+      (bounded_entity l seat group class (prio_weight prio) (bfq_of t) r.first_vtime r.bounded)))

@@ -4,7 +4,6 @@ use Rattle.std.proofs.Math.Path.{fun_ext}
 use Rattle.std.proofs.lemmas.Bool.Decides.{nat_tests}
 use Rattle.std.proofs.lemmas.List.Sums.{sum_by-cons}
 use Rattle.sector_core.specs.declared.config.Scheduler.{Scheduler}
-use Rattle.service_tree.specs.Members.{Service}
 use Rattle.change_record.specs.Tables.{Tables}
 use Rattle.change_record.specs.Machine.{Bfq, Plain, bfq_of, meaning}
 use Rattle.bfq_select.specs.Service.{IsSized, IsBounded}
@@ -18,6 +17,7 @@ use Rattle.dispatch_core.proofs.QueueFacts.{queued_is, in_flight_is}
 use Rattle.dispatch_core.proofs.Requeued.{requeued_is}
 use Rattle.dispatch_core.proofs.Ruling.{with_bfq, well_with}
 use Rattle.dispatch_core.proofs.Laws.{WellFormed-later}
+use Rattle.class_trees.specs.Classes.{Classes}
 
 -- a table with a place that is taken has one at least
 some_counted : {A : Type 0} (xs : List (Option A)) (k : ℕ) → is_some (at xs k) ≡ true → 1 ≤ taken xs
@@ -73,7 +73,7 @@ module _ (l : Limits) (m : Plain) (room : Bool) (scheduler : Scheduler) where
       switch_accepts other e = let P : Plain × Answer → Type 0 = λ o. MayGiveWay o.1 in subst P (sym (switch_does other e)) tt
 
 -- the tables with another scheduler, where the turns, the heads, the trees and the budgets begin again
-abbrev pub begun : Tables → Scheduler → List ℕ → List Service → List ℕ → Tables
+abbrev pub begun : Tables → Scheduler → List ℕ → List Classes → List ℕ → Tables
 begun t scheduler heads trees budgets =
     record t { scheduler = scheduler; frozen = true; served = 15; heads = heads; trees = trees; budgets = budgets }
 
@@ -97,7 +97,7 @@ sized_kept t h scheduler e s =
     subst IsSized (sym e) now
 
 -- they mean the plain step
-pub begun-meaning : (l : Limits) (t : Tables) (scheduler : Scheduler) (heads : List ℕ) (trees : List Service) (budgets : List ℕ) → t.frozen ≡ true
+pub begun-meaning : (l : Limits) (t : Tables) (scheduler : Scheduler) (heads : List ℕ) (trees : List Classes) (budgets : List ℕ) → t.frozen ≡ true
     → ((k : ℕ) → get_or heads k 0 ≡ 0) → bfq_of (begun t scheduler heads trees budgets) ≡ begun_again l scheduler (bfq_of t)
     → meaning (begun t scheduler heads trees budgets) ≡ switched l (meaning t) scheduler
 begun-meaning l t scheduler heads trees budgets frozen each again =
@@ -152,7 +152,7 @@ moded-well l n t scheduler w = record {
 }
 
 -- and so they do where the rest begins again
-pub begun-well : (l : Limits) (n : ℕ) (t : Tables) (scheduler : Scheduler) (heads : List ℕ) (trees : List Service) (budgets : List ℕ) → WellFormed l n t
+pub begun-well : (l : Limits) (n : ℕ) (t : Tables) (scheduler : Scheduler) (heads : List ℕ) (trees : List Classes) (budgets : List ℕ) → WellFormed l n t
     → length heads ≡ 16 → IsSized (begun t scheduler heads trees budgets) → IsBounded (bfq_of (begun t scheduler heads trees budgets))
     → WellFormed l (n + 1) (begun t scheduler heads trees budgets)
 begun-well l n t scheduler heads trees budgets w long s bounded =

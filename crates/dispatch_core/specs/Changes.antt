@@ -5,6 +5,7 @@ use Rattle.sector_core.specs.declared.range.Range.{Range}
 use Rattle.sector_core.specs.declared.bio.Op.{Op}
 use Rattle.sector_core.specs.declared.bio.Bio.{Bio}
 use Rattle.sector_core.specs.declared.bio.Outcome.{Outcome}
+use Rattle.sector_core.specs.declared.class.Class.{Class}
 use Rattle.request_pool.specs.declared.Request.{Request}
 use Rattle.change_record.specs.declared.change.Seat.{Seat}
 use Rattle.change_record.specs.Tables.{Tables}
@@ -19,15 +20,15 @@ abbrev pub unreaped_at : Tables → ℕ → ℕ
 unreaped_at t seat = option_map_or (λ s. s.unreaped) (at t.seats seat) 0
 
 -- an entity of this weight in a group, with its times at the first virtual time
-abbrev pub entered : Limits → Tables → ℕ → ℕ → ℕ → Tables
-entered l t entity group weight = record t {
+abbrev pub entered : Limits → Tables → ℕ → ℕ → Class → ℕ → Tables
+entered l t entity group class weight = record t {
   parents = slice_set t.parents entity (Some group);
-  trees = slice_set t.trees group (with_member (tree_at t group) entity (Some (record { state = Idle; start = l.first_vtime; finish = l.first_vtime; weight = weight })));
+  trees = slice_set t.trees group (with_member (tree_at t group) entity (Some (record { class = class; state = Idle; start = l.first_vtime; finish = l.first_vtime; weight = weight })));
   weights = slice_set t.weights entity weight;
 }
 
-abbrev pub attached_tables : Limits → Tables → ℕ → ℕ → ℕ → ℕ → Tables
-attached_tables l t n seat group prio = record (entered l t seat group (prio_weight prio)) {
+abbrev pub attached_tables : Limits → Tables → ℕ → ℕ → ℕ → ℕ → Class → Tables
+attached_tables l t n seat group prio class = record (entered l t seat group class (prio_weight prio)) {
   seats = slice_set t.seats seat (Some (record { session = n; prio = prio; unreaped = 0; leaving = false }));
   heads = slice_set t.heads seat 0;
   budgets = slice_set t.budgets seat l.first_budget;

@@ -45,7 +45,7 @@ switch_exchanges m BfqScheduler = 65 + count_by (λ entity. is_some (m.bfq.paren
 -- queue's head. Requeue: the tag and the link. GroupMake: of its entity the group, the tree's member and the pending weight, and the
 -- group's virtual time. GroupDrop: the tree's member and the group. SetWeight: the pending weight. Freeze, Thaw: the mode. Tick: the slot.
 abbrev pub exchanges_of : Plain → Step → ℕ
-exchanges_of m (Attach seat group prio) = 6
+exchanges_of m (Attach seat group prio class) = 6
 exchanges_of m (Submit seat session op range payload) = submit_exchanges (merge_in m seat session op range)
 exchanges_of m (Reap seat session) = 3
 exchanges_of m (Leave seat why) = length (m.outbox seat) + 2
@@ -68,7 +68,7 @@ is_of_leaver m (Some flight) = option_map_or (λ seat. is_leaving (m.seat seat))
 -- how many more there may be: under bfq five entities are activated at most; at a dispatch one queue expires, one is selected at five
 -- levels, is charged, and expires; and with the last request of a session that leaves its entity goes, the tree's member and the group
 abbrev pub rule_exchanges : Plain → Step → ℕ
-rule_exchanges m (Attach seat group prio) = 0
+rule_exchanges m (Attach seat group prio class) = 0
 rule_exchanges m (Submit seat session op range payload) = if is_bfq m.scheduler then 5 else 0
 rule_exchanges m (Reap seat session) = 0
 rule_exchanges m (Leave seat why) = 2

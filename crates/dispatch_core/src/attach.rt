@@ -8,9 +8,9 @@ ghost use Rattle.dispatch_core.specs.WellFormed.{WellFormed};
 use crate::entering::{enter, stands};
 use crate::{Answer, Code, Reply, Sizes};
 use change_record::{Change, Parts, Seat, Tape};
-use sector_core::OutOfMemory;
+use sector_core::{Class, OutOfMemory};
 
-/// The session is named by the step's serial; its entity is new in its group, with a weight by its priority.
+/// The session is named by the step's serial; its entity is new in its group, of the class that is asked for, with a weight by its priority.
 pub fn run_attach(
     sizes: Sizes,
     parts: &mut Parts,
@@ -20,9 +20,10 @@ pub fn run_attach(
     seat: u8,
     group: u8,
     prio: u8,
+    class: Class,
 ) -> Result<Answer, OutOfMemory>
     requires { WellFormed (of_sizes sizes) serial parts.old.tables }
-    ensures answers { Answers (λ m. attach (of_sizes sizes) m serial room seat group prio) parts.old.tables result parts.new.tables }
+    ensures answers { Answers (λ m. attach (of_sizes sizes) m serial room seat group prio class) parts.old.tables result parts.new.tables }
     ensures leaves { IfOk result (λ answer. Leaves (of_sizes sizes) serial 6 0 answer parts.old.tables tape.old.current parts.new.tables tape.new.current tape.new.spare) }
     ensures trail { KeepsTrail tape.old.current parts.old.tables tape.new.current parts.new.tables }
     ensures steps { tape.new.steps ≡ tape.old.steps }
@@ -43,7 +44,7 @@ pub fn run_attach(
         return Ok(Answer::Refused(Code::HistoryFull));
     }
     tape.reserve(6)?;
-    enter(sizes, parts, tape, seat, group, weight_of(prio));
+    enter(sizes, parts, tape, seat, group, class, weight_of(prio));
     sit(sizes, parts, tape, serial, seat, prio);
     Ok(Answer::Accepted(Reply::Attached { session: serial }))
 }

@@ -9,7 +9,7 @@ ghost use Rattle.dispatch_core.specs.Changes.{entered};
 
 use crate::Sizes;
 use change_record::{Change, Parts, Tape};
-use sector_core::Entity;
+use sector_core::{Class, Entity};
 use service_tree::{Member, State};
 
 /// Whether a group stands: the root does always.
@@ -32,10 +32,11 @@ pub fn enter(
     tape: &mut Tape,
     entity: Entity,
     group: u8,
+    class: Class,
     weight: u32,
 )
     requires { 3 ≤ tape.old.room }
-    ensures tables { parts.new.tables ≡ entered (of_sizes sizes) parts.old.tables entity group weight }
+    ensures tables { parts.new.tables ≡ entered (of_sizes sizes) parts.old.tables entity group class weight }
     ensures trail { KeepsTrail tape.old.current parts.old.tables tape.new.current parts.new.tables }
     ensures steps { tape.new.steps ≡ tape.old.steps }
     ensures count { length tape.new.current ≡ length tape.old.current + 3 }
@@ -43,6 +44,7 @@ pub fn enter(
     ensures spare { tape.new.spare ≡ tape.old.spare }
 {
     let member = Member {
+        class,
         state: State::Idle,
         start: sizes.first_vtime,
         finish: sizes.first_vtime,

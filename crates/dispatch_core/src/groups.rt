@@ -9,8 +9,9 @@ ghost use Rattle.dispatch_core.specs.WellFormed.{WellFormed};
 use crate::entering::{enter, stands};
 use crate::{Answer, Code, Reply, Sizes};
 use change_record::{Change, Parts, Tape};
+use class_trees::Vtimes;
 use group_tree::MOST_LEVELS;
-use sector_core::OutOfMemory;
+use sector_core::{Class, OutOfMemory};
 
 /// The group gets the lowest number that is free.
 pub fn run_group_make(
@@ -44,12 +45,20 @@ pub fn run_group_make(
         return Ok(Answer::Refused(Code::HistoryFull));
     }
     tape.reserve(4)?;
-    enter(sizes, parts, tape, 16 + group, parent, u32::from(weight));
+    enter(
+        sizes,
+        parts,
+        tape,
+        16 + group,
+        parent,
+        Class::BestEffort,
+        u32::from(weight),
+    );
     tape.exchange(
         parts,
         Change::Vtime {
             group,
-            vtime: sizes.first_vtime,
+            vtimes: Vtimes::same(sizes.first_vtime),
         },
     );
     Ok(Answer::Accepted(Reply::Group { number: group }))

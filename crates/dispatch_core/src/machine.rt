@@ -28,10 +28,10 @@ use crate::slots::outbox_slots;
 use crate::submit::run_submit;
 use crate::switch::run_switch;
 use crate::{Answer, Code, EntityView, RequestView, Sizes, Step, Work};
-use bfq_select::member_in;
+use bfq_select::{member_in, vtime_of};
 use change_record::{Making, Parts, Tape};
 use plain_machine::requests_stay_whole;
-use sector_core::{Block, Config, OutOfMemory, Scheduler};
+use sector_core::{Block, Class, Config, OutOfMemory, Scheduler};
 use std::alloc::Global;
 use std::marker::Model;
 
@@ -194,8 +194,13 @@ fn perform(
     ensures steps { tape.new.steps ≡ tape.old.steps }
 {
     match step {
-        Step::Attach { seat, group, prio } => return run_attach(
-            sizes, parts, tape, serial, room, *seat, *group, *prio,
+        Step::Attach {
+            seat,
+            group,
+            prio,
+            class,
+        } => return run_attach(
+            sizes, parts, tape, serial, room, *seat, *group, *prio, *class,
         ),
         Step::Submit {
             seat,
@@ -348,18 +353,15 @@ impl<'a> View<'a> {
         machine.parts.frozen()
     }
 
-    /// The virtual time of a group; none where there is no such group.
-    pub fn vtime(&self, group: u8) -> Option<u64>
-        ensures { result ≡ vtime_view (plain_of self.now) group }
+    /// The virtual time of a class of a group; none where there is no such group.
+    pub fn vtime(&self, group: u8, class: Class) -> Option<u64>
+        ensures { result ≡ vtime_view (plain_of self.now) group class }
     {
         let machine = self.machine;
         if !stands(&machine.parts, group) {
             return None;
         }
-        match machine.parts.tree(group) {
-            Some(tree) => Some(tree.vtime()),
-            None => Some(0),
-        }
+        Some(vtime_of(&machine.parts, group, class))
     }
 
     /// What is known of an entity; none where it is in no group.
@@ -372,6 +374,7 @@ impl<'a> View<'a> {
         };
         let member = member_in(&machine.parts, group, number);
         Some(EntityView {
+            class: member.class,
             state: member.state,
             start: member.start,
             finish: member.finish,

@@ -13,6 +13,7 @@ ghost use Rattle.dispatch_core.specs.WellFormed.{WellFormed, taken};
 use crate::{Answer, Code, Reply, Sizes};
 use bfq_select::member_in;
 use change_record::{Change, Parts, Tape};
+use class_trees::Vtimes;
 use sector_core::{Entity, OutOfMemory, Scheduler};
 use service_tree::Member;
 
@@ -168,7 +169,7 @@ fn begin_vtime(sizes: Sizes, parts: &mut Parts, tape: &mut Tape, group: u8)
         parts,
         Change::Vtime {
             group,
-            vtime: sizes.first_vtime,
+            vtimes: Vtimes::same(sizes.first_vtime),
         },
     );
 }

@@ -85,7 +85,7 @@ no_tick m None h = h
 no_tick m (Some slot) h = h
 
 pub no_room : (l : Limits) (m : Plain) (n : ℕ) (s : Step) → IsAccepted (step l m n false s).1 → ⊥
-no_room l m n (Attach seat group prio) h = refuses (
+no_room l m n (Attach seat group prio class) h = refuses (
     (nat_le 16 seat, Refused BadSeat)
     ∷ (is_some (m.seat seat), Refused SeatTaken)
     ∷ (not (stands m.bfq group), Refused NoGroup)

@@ -23,7 +23,7 @@ abbrev IsClients : Reply → Type 0
 IsClients reply = ReplyHasFrame reply × IsForClient reply
 
 client-reply : (call : ClientCall) (seat : ℕ) (reply : Reply) → IsReplyTo (client_call seat call) reply → IsClients reply
-client-reply (client.Attach group prio) seat reply is = subst IsClients (sym is.1) (tt, tt)
+client-reply (client.Attach group prio class) seat reply is = subst IsClients (sym is.1) (tt, tt)
 client-reply (client.Submit session op range payload) seat reply is = subst IsClients (sym is.1) (tt, tt)
 client-reply (client.Reap session) seat reply is = subst IsClients (sym is.2) (is.3, tt)
 client-reply (client.Leave why) seat reply is = subst IsClients (sym is) (tt, tt)

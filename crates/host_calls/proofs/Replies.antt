@@ -157,11 +157,11 @@ done-is tests m next room e = first-is IsDone Never tests m (accepted room m nex
 
 -- every step
 step-is : (l : Limits) (m : Plain) (n : ℕ) (room : Bool) (s : Step) → Filled m → IsAnswer (IsReplyOf s) (StepWaits s) (step l m n room s).1
-step-is l m n room (Attach seat group prio) h =
-    let next : Plain = attached l m n seat group prio in
+step-is l m n room (Attach seat group prio class) h =
+    let next : Plain = attached l m n seat group prio class in
     let tests : List (Bool × Answer) =
     (nat_le 16 seat, Refused BadSeat) ∷ (is_some (m.seat seat), Refused SeatTaken) ∷ (not (stands m.bfq group), Refused NoGroup) ∷ (nat_lt 7 prio, Refused BadPrio) ∷ [] in
-    let R : Reply → Type 0 = IsReplyOf (Attach seat group prio) in
+    let R : Reply → Type 0 = IsReplyOf (Attach seat group prio class) in
     first-is R Never tests m (accepted room m next (Attached n)) (tt, (tt, (tt, (tt, tt)))) (accepted-is R Never room m next (Attached n) (n, refl))
 step-is l m n room (Submit seat session op range payload) h =
     let next : Plain = submitted m n seat session op range payload in

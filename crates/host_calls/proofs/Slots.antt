@@ -39,12 +39,12 @@ slotted-changes l n = record {
   paths = λ b slot is h. all_any (path b.parent slot.seat);
   stamps = λ b start entity _ le h. h;
   selects = record {
-    jumps = λ b group start nobody is h. h;
-    passes = λ b group entity is high h. h;
-    begins = λ b group seat is small h. (one-young (n + 1) (record { seat = seat; service = 0; age = 0 }) (small, omega arith), h.1);
+    jumps = λ b group class start nobody is h. h;
+    passes = λ b group class entity is high h. h;
+    begins = λ b group class seat is small h. (one-young (n + 1) (record { seat = seat; service = 0; age = 0 }) (small, omega arith), h.1);
   };
   charges = λ b slot sectors is h. (one-young (n + 1) (record slot { service = slot.service + sectors }) (h.0 slot is), h.1);
-  rises = λ b group vtime rise le h. h;
+  rises = λ b group class vtime rise le h. h;
   ends = λ b slot cause is h. (λ s e. cc, put-greatest l b.budget slot.seat (budget_after cause (b.budget slot.seat) slot.service l.max_budget) (h.0 slot is).0 h.1);
   rests = λ b finish entity _ le h. h;
 }
@@ -63,7 +63,7 @@ slotted-ruled : (l : Limits) → Ruled l (Slotted l)
 slotted-ruled l = record {
   later = slotted-later l;
   rules = slotted-changes l;
-  enters = λ n b entity group weight h. h;
+  enters = λ n b entity group class weight h. h;
   begins = λ n b seat small h. (h.0, put-greatest l b.budget seat l.first_budget small h.1);
   goes = λ n b entity h. h;
   weighs = λ n b entity weight h. h;

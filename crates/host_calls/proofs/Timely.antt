@@ -2,13 +2,18 @@
 use Rattle.std.proofs.Common.{true, false, ◌≡◌, inl, inr, ℕ, zero, suc, ◌+◌, ◌<◌, ◌≤◌, ◌^◌, nat_lt, List, [], ◌∷◌, Option, Some, None, cond, map, slice_index_or, slice_set, replicate, unwrap_or, refl, sym, subst, arith}
 use Rattle.std.specs.List.{filter}
 use Rattle.std.proofs.lemmas.Bool.{cases_eq, ltb-true}
+use Rattle.sector_core.specs.declared.class.Class.{Class}
 use Rattle.service_tree.specs.declared.member.Member.{Member}
-use Rattle.service_tree.specs.Members.{Service, is_active, numbered, lesser, least}
+use Rattle.class_trees.specs.declared.Vtimes.{Vtimes}
+use Rattle.class_trees.specs.Classes.{Classes, same_times, time_of, with_time}
+use Rattle.class_trees.proofs.Times.{each_time, same_most}
+use Rattle.class_trees.proofs.Highest.{only-placed}
+use Rattle.service_tree.specs.Members.{is_active, numbered, lesser, least}
 use Rattle.group_tree.specs.Groups.{path}
-use Rattle.change_record.specs.Exchange.{with_member, with_vtime}
+use Rattle.change_record.specs.Exchange.{with_member, with_vtimes}
 use Rattle.change_record.specs.Tables.{empty_service}
 use Rattle.change_record.specs.Machine.{Bfq, put}
-use Rattle.change_record.specs.Rules.{group_of, member_in, put_member, put_vtime, absent}
+use Rattle.change_record.specs.Rules.{group_of, member_in, put_member, put_vtime, put_vtimes, service_in, absent}
 use Rattle.plain_machine.specs.declared.call.Call.{Call}
 use Rattle.plain_machine.specs.Step.{Limits, opening_bfq}
 use Rattle.plain_machine.proofs.Puts.{put_here, put_other, some_is}
@@ -39,7 +44,7 @@ each-set P (x ∷ xs) (suc i) new all here zero member e = all zero member e
 each-set P (x ∷ xs) (suc i) new all here (suc k) member e = each-set P xs i new (λ j other f. all (suc j) other f) here k member e
 
 -- a tree in the place of another one
-put-timely : (b : Bfq) (group : ℕ) (tree : Service) → AreTimely tree → Timely b → (g : ℕ) → AreTimely (put b.service group tree g)
+put-timely : (b : Bfq) (group : ℕ) (tree : Classes) → AreTimely tree → Timely b → (g : ℕ) → AreTimely (put b.service group tree g)
 put-timely b group tree its h g = elim (cases_eq g group) [
   | inl same ↦ subst AreTimely (sym (put_here b.service group tree g same)) its
   | inr other ↦ subst AreTimely (sym (put_other b.service group tree g other)) (h g)
@@ -54,8 +59,12 @@ put_member-timely : (b : Bfq) (group entity : ℕ) (new : Member) → HasTimes n
 put_member-timely b group entity new its h = member-timely b group entity (Some new) (λ member e. subst HasTimes (some_is new member e) its) h
 
 -- a virtual time is another one
-put_vtime-timely : (b : Bfq) (group vtime : ℕ) → vtime ≤ 2 ^ 62 → Timely b → Timely (put_vtime group vtime b)
-put_vtime-timely b group vtime le h = put-timely b group (with_vtime (b.service group) vtime) (le, (h group).1) h
+put_vtimes-timely : (b : Bfq) (group : ℕ) (vtimes : Vtimes) → ((class : Class) → time_of vtimes class ≤ 2 ^ 62) → Timely b → Timely (put_vtimes group vtimes b)
+put_vtimes-timely b group vtimes le h = put-timely b group (with_vtimes (b.service group) vtimes) (le, (h group).1) h
+
+put_vtime-timely : (b : Bfq) (group : ℕ) (class : Class) (vtime : ℕ) → vtime ≤ 2 ^ 62 → Timely b → Timely (put_vtime group class vtime b)
+put_vtime-timely b group class vtime le h =
+    put_vtimes-timely b group (with_time (b.service group).vtimes class vtime) (each_time (λ n. n ≤ 2 ^ 62) (b.service group).vtimes class vtime (h group).0 le) h
 
 -- what is known of an entity has such times, be it a member or not
 known-timely : (o : Option Member) → ((member : Member) → o ≡ Some member → HasTimes member) → HasTimes (unwrap_or o absent)
@@ -94,12 +103,14 @@ timely-changes most = record {
   paths = λ b slot is h. all_any (path b.parent slot.seat);
   stamps = λ b start entity _ le h. put_member-timely b (group_of b entity) entity _ (omega (arith, le), le) h;
   selects = record {
-    jumps = λ b group start nobody is h. put_vtime-timely b group start (least_start-timely 0 (places_of b group) start (h group).1 is) h;
-    passes = λ b group entity is high h. put_member-timely b group entity _ (member_in-timely b group entity h) h;
-    begins = λ b group seat is small h. put_member-timely b group seat _ (member_in-timely b group seat h) h;
+    jumps = λ b group class start nobody is h.
+        put_vtime-timely b group class start
+        (least_start-timely 0 (service_in b group class).members start (λ e m at. (h group).1 e m (only-placed class (b.service group).members e m at).0) is) h;
+    passes = λ b group class entity is high h. put_member-timely b group entity _ (member_in-timely b group entity h) h;
+    begins = λ b group class seat is small h. put_member-timely b group seat _ (member_in-timely b group seat h) h;
   };
   charges = λ b slot sectors is h. h;
-  rises = λ b group vtime rise le h. put_vtime-timely b group vtime le h;
+  rises = λ b group class vtime rise le h. put_vtime-timely b group class vtime le h;
   ends = λ b slot cause is h. h;
   rests = λ b finish entity _ le h. put_member-timely b (group_of b entity) entity _ (le, le) h;
 }
@@ -108,11 +119,11 @@ timely-ruled : (l : Limits) → l.first_vtime ≤ 2 ^ 62 → Ruled l (λ n b. Ti
 timely-ruled l first = record {
   later = λ n n' b le h. h;
   rules = λ n. timely-changes l.max_budget;
-  enters = λ n b entity group weight h. put_member-timely b group entity _ (first, first) h;
+  enters = λ n b entity group class weight h. put_member-timely b group entity _ (first, first) h;
   begins = λ n b seat small h. h;
   goes = λ n b entity h. member-timely b (group_of b entity) entity None (λ member e. cc) h;
   weighs = λ n b entity weight h. h;
-  opens = λ n b group h. put_vtime-timely b group l.first_vtime first h;
+  opens = λ n b group h. put_vtimes-timely b group (same_times l.first_vtime) (same_most l.first_vtime (2 ^ 62) first) h;
   restarts = λ n b entity group up h. put_member-timely b (group_of b entity) entity _ (first, first) h;
   budgets = λ n b h. h;
   ticks = λ n b slot is h. h;
@@ -125,9 +136,9 @@ no-member (suc count) zero member e = cc
 no-member (suc count) (suc k) member e = no-member count k member e
 
 opening-timely : (l : Limits) → l.first_vtime ≤ 2 ^ 62 → Timely (opening_bfq l)
-opening-timely l first g = elim (nat_lt g 32) as (λ t. AreTimely (cond t (empty_service l.first_vtime) (record { vtime = 0; members = [] }))) [
-  | true ↦ (first, λ k member e. absurd (no-member 48 k member e))
-  | false ↦ (omega arith, λ k member e. cc)
+opening-timely l first g = elim (nat_lt g 32) as (λ t. AreTimely (cond t (empty_service l.first_vtime) (record { vtimes = same_times 0; members = [] }))) [
+  | true ↦ (same_most l.first_vtime (2 ^ 62) first, λ k member e. absurd (no-member 48 k member e))
+  | false ↦ (same_most 0 (2 ^ 62) (omega arith), λ k member e. cc)
 ]
 
 -- so on every keeper's machine

@@ -23,7 +23,7 @@ use Rattle.host_calls.specs.Kinds.{IsForClient, IsForOperator}
 
 -- what a step gives where it is accepted: each has a reply of its own, and what is completed can be sent (our profile)
 abbrev pub IsReplyOf : Step → Reply → Type 0
-IsReplyOf (Attach seat group prio) reply = (session : ℕ) × (reply ≡ Attached session)
+IsReplyOf (Attach seat group prio class) reply = (session : ℕ) × (reply ≡ Attached session)
 IsReplyOf (Submit seat session op range payload) reply = (bio : ℕ) × (reply ≡ Queued bio)
 IsReplyOf (Reap seat session) reply = (bio : ℕ) × (result : BioResult) × (reply ≡ Completed bio result) × ResultHasFrame result
 IsReplyOf (Leave seat why) reply = reply ≡ Left
@@ -49,7 +49,7 @@ IsReplyTo (Redo n) reply = (cursor : ℕ) × (steps : ℕ) × (reply ≡ Moved c
 -- why a step has to wait on a host that is not held: a submit while the host is frozen, or for a free request; a reap for a completion
 -- (our profile)
 abbrev pub StepWaits : Step → Cause → Type 0
-StepWaits (Attach seat group prio) cause = ⊥
+StepWaits (Attach seat group prio class) cause = ⊥
 StepWaits (Submit seat session op range payload) cause = (cause ≡ Frozen) ⊎ (cause ≡ RequestsFull)
 StepWaits (Reap seat session) cause = cause ≡ NotCompleted
 StepWaits (Leave seat why) cause = ⊥

@@ -10,7 +10,7 @@ use Rattle.host_calls.specs.declared.operator.OperatorCall.TheVariants.{GroupMak
 
 -- a client's call, made at a seat (our profile: a client names no seat, so it can make no call at another's)
 abbrev pub client_call : ℕ → ClientCall → Call
-client_call seat (Attach group prio) = call.Do (step.Attach seat group prio)
+client_call seat (Attach group prio class) = call.Do (step.Attach seat group prio class)
 client_call seat (Submit session op range payload) = call.Do (step.Submit seat session op range payload)
 client_call seat (Reap session) = call.Do (step.Reap seat session)
 client_call seat (Leave why) = call.Do (step.Leave seat why)

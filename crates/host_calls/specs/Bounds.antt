@@ -1,17 +1,18 @@
 -- How great times, ages and budgets are.
 use Rattle.std.specs.Prelude.{◌≡◌, ℕ, ◌<◌, ◌≤◌, ◌^◌, List, Some, None, slice_index_or}
+use Rattle.sector_core.specs.declared.class.Class.{Class}
 use Rattle.service_tree.specs.declared.member.Member.{Member}
-use Rattle.service_tree.specs.Members.{Service}
+use Rattle.class_trees.specs.Classes.{Classes, time_of}
 use Rattle.group_tree.specs.Groups.{entity_of}
 use Rattle.change_record.specs.declared.change.InService.{InService}
 use Rattle.plain_machine.specs.declared.call.Call.{Call}
 use Rattle.plain_machine.specs.Step.{Limits}
 use Rattle.plain_machine.specs.Keeper.{machine_of, replay}
 
--- no time of a group is above 2^62: neither its virtual time, nor the start or the finish of a member (our profile; the times are B-WF2Q+'s)
-abbrev pub AreTimely : Service → Type 0
+-- no time of a group is above 2^62: neither a virtual time of it, nor the start or the finish of a member (our profile; the times are B-WF2Q+'s)
+abbrev pub AreTimely : Classes → Type 0
 AreTimely tree =
-    (tree.vtime ≤ 2 ^ 62)
+    ((class : Class) → time_of tree.vtimes class ≤ 2 ^ 62)
     × ((entity : ℕ) (member : Member) → slice_index_or tree.members entity None ≡ Some member → (member.start ≤ 2 ^ 62) × (member.finish ≤ 2 ^ 62))
 
 -- On the machine of every keeper that a journal makes: no time is, where the first one is not;

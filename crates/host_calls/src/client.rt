@@ -4,7 +4,7 @@ ghost use Rattle.host_calls.specs.Asked.{client_call};
 
 use bytes::Bytes;
 use plain_machine::{Call, Step, Why};
-use sector_core::{Op, Range};
+use sector_core::{Class, Op, Range};
 
 /// What a client asks. The number of its seat is no part of it: the host puts it in.
 #[derive(Debug, Drop)]
@@ -15,6 +15,8 @@ pub enum ClientCall {
         group: u8,
         /// Its priority, 0 for the first to 7 for the last.
         prio: u8,
+        /// Its class.
+        class: Class,
     },
     /// The session submits a bio.
     Submit {
@@ -46,7 +48,12 @@ impl ClientCall {
         ensures { result ≡ client_call seat self }
     {
         match self {
-            ClientCall::Attach { group, prio } => Call::Do(Step::Attach { seat, group, prio }),
+            ClientCall::Attach { group, prio, class } => Call::Do(Step::Attach {
+                seat,
+                group,
+                prio,
+                class,
+            }),
             ClientCall::Submit {
                 session,
                 op,

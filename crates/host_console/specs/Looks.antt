@@ -6,6 +6,8 @@ use Rattle.sector_core.specs.declared.bio.FailKind.TheVariants.{Short, Fault}
 use Rattle.sector_core.specs.declared.bio.Outcome.{Outcome}
 use Rattle.sector_core.specs.declared.bio.Outcome.TheVariants.{Fetched, Stored, Failed}
 use Rattle.sector_core.specs.declared.range.Range.{Range}
+use Rattle.sector_core.specs.declared.class.Class.{Class}
+use Rattle.sector_core.specs.declared.class.Class.TheVariants.{RealTime, BestEffort, Idle}
 use Rattle.overlay.specs.Runs.{IsNextRun}
 use Rattle.sector_text.specs.Hex.{all_are}
 use Rattle.plain_machine.specs.declared.step.Step.{Step}
@@ -28,9 +30,15 @@ outcome_text Stored = codes "stored"
 outcome_text (Failed Short) = codes "short"
 outcome_text (Failed Fault) = codes "fault"
 
+-- after the numbers of an `attach` line its class, and nothing if it is best effort
+abbrev pub class_end : Class → List ℕ
+class_end RealTime = codes " rt"
+class_end BestEffort = []
+class_end Idle = codes " idle"
+
 -- a step as a line of a script spells it; of bytes that are not alike nothing is told
 abbrev pub line_text : Step → List ℕ
-line_text (step.Attach seat group prio) = codes "attach " ++ (decimal seat ++ 32 ∷ (decimal group ++ 32 ∷ decimal prio))
+line_text (step.Attach seat group prio class) = codes "attach " ++ (decimal seat ++ 32 ∷ (decimal group ++ 32 ∷ (decimal prio ++ class_end class)))
 line_text (step.Submit seat session Fetch range payload) =
     codes "read " ++ (decimal seat ++ 32 ∷ (decimal session ++ 32 ∷ (decimal range.start ++ 32 ∷ decimal range.count)))
 line_text (step.Submit seat session Store range payload) =
@@ -50,7 +58,7 @@ line_text step.Tick = codes "tick"
 
 -- a step of the operator, or of the clock
 abbrev pub IsSetting : Step → Type 0
-IsSetting (step.Attach seat group prio) = ⊥
+IsSetting (step.Attach seat group prio class) = ⊥
 IsSetting (step.Submit seat session op range payload) = ⊥
 IsSetting (step.Reap seat session) = ⊥
 IsSetting (step.Leave seat why) = ⊥

@@ -7,9 +7,11 @@ use Rattle.sector_core.specs.declared.bio.Op.TheVariants as op
 use Rattle.sector_core.specs.declared.bio.FailKind.TheVariants as kind
 use Rattle.sector_core.specs.declared.bio.Outcome.{Outcome}
 use Rattle.sector_core.specs.declared.bio.Outcome.TheVariants as outcome
+use Rattle.sector_core.specs.declared.class.Class.{Class as ClassOf}
+use Rattle.sector_core.specs.declared.class.Class.TheVariants as class
 use Rattle.sector_text.specs.Hex.{hex_of}
 use Rattle.script_line.specs.declared.line.Line.{Line}
-use Rattle.script_line.specs.declared.line.Line.TheVariants.{Attach, Read, Write, Reap, Leave, Dispatch, Finish, Work, Requeue, Hold, Release, Undo, Redo, Group, Drop, Weight, Freeze, Thaw, Switch, Tick, Sector, Queue, Cursor, Vtime, Entity, Show}
+use Rattle.script_line.specs.declared.line.Line.TheVariants.{Attach, ClassAttach, Read, Write, Reap, Leave, Dispatch, Finish, Work, Requeue, Hold, Release, Undo, Redo, Group, Drop, Weight, Freeze, Thaw, Switch, Tick, Sector, Queue, Cursor, Vtime, ClassVtime, Entity, Class, Show}
 use Rattle.script_line.specs.declared.line.Ending.{Ending}
 use Rattle.script_line.specs.declared.line.Ending.TheVariants.{Stored, Fill, Short, Fault}
 use Rattle.change_record.specs.Machine.{WholeRequest}
@@ -28,7 +30,7 @@ use Rattle.plain_machine.specs.Step.{range_of}
 use Rattle.plain_machine.specs.Keeper.{State, MayCall, machine_of}
 use Rattle.plain_machine.specs.Entities.{vtime_view, entity_view}
 use Rattle.host_calls.specs.Texts.{text_of}
-use Rattle.host_console.specs.Texts.{vtime_text, entity_text}
+use Rattle.host_console.specs.Texts.{vtime_text, class_vtime_text, entity_text, entity_class_text}
 use Rattle.host_console.specs.Looks.{Looked}
 use Rattle.host_console.specs.declared.content.Content.{Content}
 use Rattle.host_console.specs.declared.content.Content.TheVariants as content
@@ -101,13 +103,21 @@ queue_text k seat = elim ((machine_of k).seat seat) [ None ↦ codes "queue none
 abbrev pub cursor_text : State → List ℕ
 cursor_text k = codes "line " ++ (decimal k.cursor ++ 32 ∷ (decimal (length k.line) ++ 32 ∷ decimal k.last))
 
--- the virtual time of a group of the machine (our profile)
+-- the best effort time of a group of the machine (our profile)
 abbrev pub group_text : State → ℕ → List ℕ
-group_text k group = vtime_text group (vtime_view (machine_of k) group)
+group_text k group = vtime_text group (vtime_view (machine_of k) group class.BestEffort)
+
+-- the virtual time of a class of a group of the machine (our profile)
+abbrev pub group_class_text : State → ℕ → ClassOf → List ℕ
+group_class_text k group named = class_vtime_text group named (vtime_view (machine_of k) group named)
 
 -- what is known of an entity of the machine (our profile)
 abbrev pub known_text : State → ℕ → List ℕ
 known_text k number = entity_text number (entity_view (machine_of k) number)
+
+-- the class of an entity of the machine (our profile)
+abbrev pub class_of_text : State → ℕ → List ℕ
+class_of_text k number = entity_class_text number (entity_view (machine_of k) number)
 
 -- what a keeper shows of a sector
 abbrev pub IsContent : State → ℕ → Content → Type 0
@@ -137,7 +147,8 @@ Shows before shown text after = (after ≡ before) × (text ≡ ended shown)
 -- the call that a line makes, whatever the keeper is; none where the line asks the keeper or the device first, or only looks
 -- (our profile)
 abbrev pub asked : Line → Option Call
-asked (Attach seat group prio) = Some (call.Do (step.Attach seat group prio))
+asked (Attach seat group prio) = Some (call.Do (step.Attach seat group prio class.BestEffort))
+asked (ClassAttach seat group prio named) = Some (call.Do (step.Attach seat group prio named))
 asked (Read seat session start count) = Some (call.Do (step.Submit seat session op.Fetch (record { start = start; count = count }) []))
 asked (Write seat session start count byte) = Some (call.Do (step.Submit seat session op.Store (record { start = start; count = count }) (payload_of count byte)))
 asked (Reap seat session) = Some (call.Do (step.Reap seat session))
@@ -161,7 +172,9 @@ asked (Sector number) = None
 asked (Queue seat) = None
 asked Cursor = None
 asked (Vtime group) = None
+asked (ClassVtime group named) = None
 asked (Entity number) = None
+asked (Class number) = None
 asked (Show look) = None
 
 -- what such a line as makes no call of its own may print at a keeper over an image, and what both are then: only a `work` line
@@ -175,7 +188,9 @@ Looks before (Sector number) text after = Shows before (sector_text before.keepe
 Looks before (Queue seat) text after = Shows before (queue_text before.keeper seat) text after
 Looks before Cursor text after = Shows before (cursor_text before.keeper) text after
 Looks before (Vtime group) text after = Shows before (group_text before.keeper group) text after
+Looks before (ClassVtime group named) text after = Shows before (group_class_text before.keeper group named) text after
 Looks before (Entity number) text after = Shows before (known_text before.keeper number) text after
+Looks before (Class number) text after = Shows before (class_of_text before.keeper number) text after
 Looks before (Show look) text after = (shown : List ℕ) × Looked before.keeper look shown × Shows before shown text after
 Looks before line text after = ⊥
 

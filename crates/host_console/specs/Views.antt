@@ -11,6 +11,8 @@ use Rattle.sector_core.specs.declared.bio.FailKind.TheVariants.{Short, Fault}
 use Rattle.sector_core.specs.declared.range.Range.{Range}
 use Rattle.sector_core.specs.declared.config.Scheduler.{Scheduler}
 use Rattle.sector_core.specs.declared.config.Scheduler.TheVariants as scheduler
+use Rattle.sector_core.specs.declared.class.Class.{Class}
+use Rattle.sector_core.specs.declared.class.Class.TheVariants.{RealTime, BestEffort, Idle}
 use Rattle.soft_queue.specs.Turn.{numbers}
 use Rattle.change_record.specs.declared.change.Seat.{Seat}
 use Rattle.change_record.specs.declared.change.InService.{InService}
@@ -124,10 +126,16 @@ service_look m = elim m.bfq.slot [
       ++ (decimal slot.seat ++ 32 ∷ (decimal slot.service ++ 32 ∷ (decimal slot.age ++ 32 ∷ decimal (m.bfq.budget slot.seat))))
 ]
 
--- an entity after one space: its state, start and finish, its weight in effect, and its pending weight
+-- the class of a member, after a colon, and nothing if it is best effort
+abbrev pub other_class_text : Class → List ℕ
+other_class_text RealTime = codes ":rt"
+other_class_text BestEffort = []
+other_class_text Idle = codes ":idle"
+
+-- an entity after one space: its state, start and finish, its weight in effect, its pending weight, and its class if it is not best effort
 abbrev pub known_text : ℕ → EntityView → ℕ → List ℕ
 known_text entity known pending =
-    32 ∷ (decimal entity ++ 58 ∷ (state_text known.state ++ 58 ∷ (decimal known.start ++ 58 ∷ (decimal known.finish ++ 58 ∷ (decimal known.weight ++ 58 ∷ decimal pending)))))
+    32 ∷ (decimal entity ++ 58 ∷ (state_text known.state ++ 58 ∷ (decimal known.start ++ 58 ∷ (decimal known.finish ++ 58 ∷ (decimal known.weight ++ 58 ∷ (decimal pending ++ other_class_text known.class))))))
 
 -- the same of an entity that a look shows, and nothing if it shows none
 abbrev pub shown_text : ℕ → Option EntityView → ℕ → List ℕ
@@ -146,7 +154,7 @@ parent_text (Some parent) = decimal parent
 
 abbrev pub tree_look : Plain → ℕ → List ℕ
 tree_look m group =
-    if stands m.bfq group then codes "tree " ++ (decimal group ++ 32 ∷ (parent_text (m.bfq.parent (16 + group)) ++ 32 ∷ (decimal (vtime_of m.bfq group) ++ flat_map (member_text m group) (numbers 0 48))))
+    if stands m.bfq group then codes "tree " ++ (decimal group ++ 32 ∷ (parent_text (m.bfq.parent (16 + group)) ++ 32 ∷ (decimal (vtime_of m.bfq group BestEffort) ++ flat_map (member_text m group) (numbers 0 48))))
     else codes "tree " ++ (decimal group ++ codes " none")
 
 -- The whole.

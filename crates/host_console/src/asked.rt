@@ -3,11 +3,11 @@ ghost use Rattle.std.specs.Prelude.{◌≡◌, Ok, Some, IfOk};
 ghost use Rattle.host_console.specs.Printed.{asked};
 
 use crate::group::{make, unmake, weigh};
-use crate::steps::{freeze, leave, requeue, switch, thaw, tick};
+use crate::steps::{attach, freeze, leave, requeue, switch, thaw, tick};
 use crate::submit::{fetch, store};
 use plain_machine::{Call, Step};
 use script_line::Line;
-use sector_core::OutOfMemory;
+use sector_core::{Class, OutOfMemory};
 use std::alloc::Global;
 
 /// The call that a line makes, whatever the keeper is. There is none where the line asks the keeper or the device first, or only
@@ -16,7 +16,13 @@ pub fn call_of(alloc: Global, line: Line) -> Result<Option<Call>, OutOfMemory>
     ensures { IfOk result (λ call. call ≡ asked line) }
 {
     match line {
-        Line::Attach { seat, group, prio } => done(Step::Attach { seat, group, prio }),
+        Line::Attach { seat, group, prio } => done(attach(seat, group, prio, Class::BestEffort)),
+        Line::ClassAttach {
+            seat,
+            group,
+            prio,
+            class,
+        } => done(attach(seat, group, prio, class)),
         Line::Read {
             seat,
             session,
@@ -51,7 +57,9 @@ pub fn call_of(alloc: Global, line: Line) -> Result<Option<Call>, OutOfMemory>
         Line::Queue { .. } => Ok(None),
         Line::Cursor => Ok(None),
         Line::Vtime { .. } => Ok(None),
+        Line::ClassVtime { .. } => Ok(None),
         Line::Entity { .. } => Ok(None),
+        Line::Class { .. } => Ok(None),
         Line::Show { .. } => Ok(None),
     }
 }

@@ -10,6 +10,7 @@ ghost use Rattle.host_console.specs.Looks.{Looked};
 use crate::Content;
 use plain_machine::{Answer, Call, EntityView, RequestView, Work};
 use script_line::Look;
+use sector_core::Class;
 use std::alloc::Global;
 use std::io;
 
@@ -35,9 +36,9 @@ pub trait Keeps {
         ensures view { result ≡ request_view (machine_of (state self.now)) seat place }
         ensures few { length ((machine_of (state self.now)).queue seat) < 2 ^ 16 };
 
-    /// The virtual time of a group, if it stands.
-    fn vtime(&self, group: u8) -> Option<u64>
-        ensures { result ≡ vtime_view (machine_of (state self.now)) group };
+    /// The virtual time of a class of a group, if the group stands.
+    fn vtime(&self, group: u8, class: Class) -> Option<u64>
+        ensures { result ≡ vtime_view (machine_of (state self.now)) group class };
 
     /// What is known of an entity, if it is in a group.
     fn entity(&self, number: u8) -> Option<EntityView>

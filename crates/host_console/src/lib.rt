@@ -20,6 +20,8 @@
 //! queue 0             // queue 5+1x1
 //! group 0 200         // group 1
 //! vtime 1             // vtime 1 0
+//! vtime 1 rt          // vtime 1 rt 0
+//! class 0             // class 0 be
 //! entity 17           // entity 17 idle 0 0 200 4096 0
 //! ```
 

@@ -1,11 +1,11 @@
 // The texts of queries.
 ghost use Rattle.std.specs.Prelude.{◌≡◌, ◌∷◌, ◌++◌, OnOk};
-ghost use Rattle.host_console.specs.Printed.{sector_text, shown_text, request_text, queue_text, cursor_text, group_text, known_text};
-ghost use Rattle.host_console.specs.Texts.{state_text, entity_text};
+ghost use Rattle.host_console.specs.Printed.{sector_text, shown_text, request_text, queue_text, cursor_text, group_text, group_class_text, known_text, class_of_text};
+ghost use Rattle.host_console.specs.Texts.{state_text, class_text, entity_text};
 
 use crate::{Content, Keeps};
 use plain_machine::{EntityView, RequestView};
-use sector_core::Range;
+use sector_core::{Class, Range};
 use sector_text::put_hex;
 use service_tree::State;
 use std::io::{self, Write};
@@ -68,13 +68,29 @@ pub fn put_cursor<K: Keeps>(keeper: &K, out: &mut Vec<u8>) -> io::Result<()>
     write!(out, "line {cursor} {length} {serial}")
 }
 
-/// Appends the virtual time of a group. It fails only for want of memory.
+/// Appends the best effort time of a group. It fails only for want of memory.
 pub fn put_vtime<K: Keeps>(keeper: &K, group: u8, out: &mut Vec<u8>) -> io::Result<()>
     ensures { OnOk result (out.new.items ≡ out.old.items ++ group_text (K.state keeper.now) group) }
 {
-    match keeper.vtime(group) {
+    match keeper.vtime(group, Class::BestEffort) {
         Some(vtime) => write!(out, "vtime {group} {vtime}"),
         None => write!(out, "vtime {group} none"),
+    }
+}
+
+/// Appends the virtual time of a class of a group. It fails only for want of memory.
+pub fn put_class_vtime<K: Keeps>(
+    keeper: &K,
+    group: u8,
+    class: Class,
+    out: &mut Vec<u8>,
+) -> io::Result<()>
+    ensures { OnOk result (out.new.items ≡ out.old.items ++ group_class_text (K.state keeper.now) group class) }
+{
+    let name = class_name(class);
+    match keeper.vtime(group, class) {
+        Some(vtime) => write!(out, "vtime {group} {name} {vtime}"),
+        None => write!(out, "vtime {group} {name} none"),
     }
 }
 
@@ -83,6 +99,19 @@ pub fn put_entity<K: Keeps>(keeper: &K, number: u8, out: &mut Vec<u8>) -> io::Re
     ensures { OnOk result (out.new.items ≡ out.old.items ++ known_text (K.state keeper.now) number) }
 {
     put_known(number, keeper.entity(number), out)
+}
+
+/// Appends the class of an entity. It fails only for want of memory.
+pub fn put_class<K: Keeps>(keeper: &K, number: u8, out: &mut Vec<u8>) -> io::Result<()>
+    ensures { OnOk result (out.new.items ≡ out.old.items ++ class_of_text (K.state keeper.now) number) }
+{
+    match keeper.entity(number) {
+        Some(view) => {
+            let name = class_name(view.class);
+            write!(out, "class {number} {name}")
+        }
+        None => write!(out, "class {number} none"),
+    }
 }
 
 /// Appends an entity with what is known of it. It fails only for want of memory.
@@ -98,6 +127,7 @@ pub fn put_known(number: u8, known: Option<EntityView>, out: &mut Vec<u8>) -> io
                 weight,
                 budget,
                 service,
+                ..
             } = view;
             let name = state_name(state);
             write!(
@@ -117,5 +147,16 @@ fn state_name(state: State) -> &'static str
         State::Idle => "idle",
         State::Active => "active",
         State::Serving => "serving",
+    }
+}
+
+// The name of a class.
+fn class_name(class: Class) -> &'static str
+    ensures { result.now ≡ class_text class }
+{
+    match class {
+        Class::RealTime => "rt",
+        Class::BestEffort => "be",
+        Class::Idle => "idle",
     }
 }

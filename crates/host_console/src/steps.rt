@@ -1,8 +1,20 @@
-// The steps of the lines that end a session, give a request back, and stop, switch or age what runs.
+// The steps of the lines that begin or end a session, give a request back, and stop, switch or age what runs.
 ghost use Rattle.std.specs.Prelude.{◌≡◌};
 
 use plain_machine::{Step, Why};
-use sector_core::Scheduler;
+use sector_core::{Class, Scheduler};
+
+/// The step of an `attach` line.
+pub fn attach(seat: u8, group: u8, prio: u8, class: Class) -> Step
+    ensures { result ≡ Step.Attach seat group prio class }
+{
+    Step::Attach {
+        seat,
+        group,
+        prio,
+        class,
+    }
+}
 
 /// The step of a `leave` line: the client has said so.
 pub fn leave(seat: u8) -> Step

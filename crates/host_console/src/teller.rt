@@ -2,17 +2,19 @@
 ghost use Rattle.std.specs.Prelude.{◌≡◌, ℕ, List, ◌++◌, None, IfOk, OnOk, OnErr, ◌⊎◌};
 ghost use Rattle.script_line.specs.Script.{MayHaveRun};
 ghost use Rattle.host_console.specs.Looks.{Looked};
-ghost use Rattle.host_console.specs.Printed.{AnswersOver, Looks, Prints, asked, outcome_of, sectors_in_flight, ended, sector_text, queue_text, cursor_text, group_text, known_text};
+ghost use Rattle.host_console.specs.Printed.{AnswersOver, Looks, Prints, asked, outcome_of, sectors_in_flight, ended, sector_text, queue_text, cursor_text, group_text, group_class_text, known_text, class_of_text};
 
 use crate::Keeps;
 use crate::asked::call_of;
 use crate::filled::sectors_of;
-use crate::query::{put_cursor, put_entity, put_queue, put_sector, put_vtime};
+use crate::query::{
+    put_class, put_class_vtime, put_cursor, put_entity, put_queue, put_sector, put_vtime,
+};
 use base_image::Image;
 use host_calls::put_answer;
 use plain_machine::{Call, Step};
 use script_line::{Console, Ending, Line, Look};
-use sector_core::{FailKind, OutOfMemory, Outcome};
+use sector_core::{Class, FailKind, OutOfMemory, Outcome};
 use std::alloc::Global;
 use std::marker::Model;
 
@@ -66,7 +68,9 @@ impl<K: Keeps, I: Image> Teller<K, I> {
             Line::Queue { seat } => self.tell_queue(seat, out),
             Line::Cursor => self.tell_cursor(out),
             Line::Vtime { group } => self.tell_vtime(group, out),
+            Line::ClassVtime { group, class } => self.tell_class_vtime(group, class, out),
             Line::Entity { number } => self.tell_entity(number, out),
+            Line::Class { number } => self.tell_class(number, out),
             Line::Show { look } => self.tell_look(look, out),
             // Each other line makes its call.
             _ => unreachable!(),
@@ -186,10 +190,31 @@ impl<K: Keeps, I: Image> Teller<K, I> {
         Ok(())
     }
 
+    fn tell_class_vtime(
+        &self,
+        group: u8,
+        class: Class,
+        out: &mut Vec<u8>,
+    ) -> Result<(), OutOfMemory>
+        ensures { OnOk result (out.new.items ≡ out.old.items ++ ended (group_class_text self.now.keeper group class)) }
+    {
+        put_class_vtime(&self.keeper, group, class, out).map_err(|_| OutOfMemory)?;
+        out.push(b'\n')?;
+        Ok(())
+    }
+
     fn tell_entity(&self, number: u8, out: &mut Vec<u8>) -> Result<(), OutOfMemory>
         ensures { OnOk result (out.new.items ≡ out.old.items ++ ended (known_text self.now.keeper number)) }
     {
         put_entity(&self.keeper, number, out).map_err(|_| OutOfMemory)?;
+        out.push(b'\n')?;
+        Ok(())
+    }
+
+    fn tell_class(&self, number: u8, out: &mut Vec<u8>) -> Result<(), OutOfMemory>
+        ensures { OnOk result (out.new.items ≡ out.old.items ++ ended (class_of_text self.now.keeper number)) }
+    {
+        put_class(&self.keeper, number, out).map_err(|_| OutOfMemory)?;
         out.push(b'\n')?;
         Ok(())
     }

@@ -30,7 +30,7 @@ use Rattle.host_core.specs.Visits.{MayTell}
 
 -- a client's step is one of its calls at some seat
 clients-step : (s : Step) → is_client_step s ≡ true → (seat : ℕ) × (c : ClientCall) × (client_call seat c ≡ Do s)
-clients-step (Attach seat group prio) h = (seat, client.Attach group prio, refl)
+clients-step (Attach seat group prio class) h = (seat, client.Attach group prio class, refl)
 clients-step (Submit seat session op range payload) h = (seat, client.Submit session op range payload, refl)
 clients-step (Reap seat session) h = (seat, client.Reap session, refl)
 clients-step (Leave seat why) h = (seat, client.Leave why, refl)
@@ -54,7 +54,7 @@ clients-call (Redo k) h = absurd (false≢true h)
 
 -- the operator's step, and its other calls, are calls of its own
 operators-step : (s : Step) → is_operator_step s ≡ true → (o : OperatorCall) × (operator_call o ≡ Some (Do s))
-operators-step (Attach seat group prio) h = absurd (false≢true h)
+operators-step (Attach seat group prio class) h = absurd (false≢true h)
 operators-step (Submit seat session op range payload) h = absurd (false≢true h)
 operators-step (Reap seat session) h = absurd (false≢true h)
 operators-step (Leave seat why) h = absurd (false≢true h)

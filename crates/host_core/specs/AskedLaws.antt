@@ -11,7 +11,7 @@ use Rattle.host_core.specs.Asked.{client_asked, device_asked, operator_asked}
 use Rattle.host_core.specs.Kinds.{IsOfKind}
 
 pub client_asks : (seat : ℕ) (call : ClientCall) → IsOfKind (Client seat) (client_asked seat call)
-client_asks seat (Attach group prio) = refl
+client_asks seat (Attach group prio class) = refl
 client_asks seat (Submit session op range payload) = refl
 client_asks seat (Reap session) = refl
 client_asks seat (Leave why) = refl

@@ -11,7 +11,7 @@ use Rattle.host_core.specs.declared.asked.Asked.TheVariants.{Ask, Take, Stop}
 
 -- a client sits down, submits, reaps and leaves (our profile)
 abbrev pub is_client_step : Step → Bool
-is_client_step (Attach seat group prio) = true
+is_client_step (Attach seat group prio class) = true
 is_client_step (Submit seat session op range payload) = true
 is_client_step (Reap seat session) = true
 is_client_step (Leave seat why) = true

@@ -33,6 +33,8 @@
 //! A [`Seat`] is the side of who asks, and a [`Desk`] that of the host's core. Each may stand on a thread of its own. Who waits looks at
 //! its ring a number of times and then sleeps on its [`Bell`]. A bell carries nothing: each contract is the same without it.
 //!
+//! A client's seat takes an Attach of each class. Only one of best effort has a frame: another one is staged by who holds the seat.
+//!
 //! The desk takes a call only where its ring of replies has two free places. So there is always one for the answer and one for
 //! Closed, and neither can fail.
 //!
@@ -86,9 +88,10 @@
 //!
 //! ```text
 //! let (mut core, mut callers, devices, operator) = open_core(alloc, book, 2)?;
-//! callers[0].stage(ClientCall::Attach { group: 0, prio: 4 })    // Ok(())
-//! core.turn(alloc)                                              // answered: Some(Client(0)), dispatched: false, ended: false
-//! callers[0].collect()                                          // Some(Answer(Accepted(Attached { session: 1 })))
+//! let class = Class::BestEffort;
+//! callers[0].stage(ClientCall::Attach { group: 0, prio: 4, class })    // Ok(())
+//! core.turn(alloc)                                                     // answered: Some(Client(0)), dispatched: false, ended: false
+//! callers[0].collect()                                                 // Some(Answer(Accepted(Attached { session: 1 })))
 //! ```
 
 mod asked;

@@ -68,7 +68,7 @@ SERVE
     A line on standard error says when it serves, another when nine tenths of the history are used, and one when it is full.
 
 SCRIPT: one call a line, words joined by one space; an empty line or one that begins with # is skipped
-    attach SEAT GROUP PRIO               read SEAT SESSION START COUNT
+    attach SEAT GROUP PRIO [rt|be|idle]  read SEAT SESSION START COUNT
     write SEAT SESSION START COUNT BYTE  reap SEAT SESSION
     leave SEAT                           dispatch
     finish TAG ISSUE stored|short|fault|fill BYTE
@@ -77,8 +77,8 @@ SCRIPT: one call a line, words joined by one space; an empty line or one that be
     drop GROUP, weight GROUP WEIGHT      freeze, thaw, switch none|bfq, tick
     hold, release                        undo K, redo K
     sector NUMBER                        queue SEAT
-    vtime GROUP                          entity NUMBER
-    line
+    vtime GROUP [rt|be|idle]             entity NUMBER
+    line                                 class NUMBER
     show seat|outbox|queue SEAT          show requeued|flight|service|host
     show tree GROUP                      show stored FROM, show step K
 

@@ -17,6 +17,7 @@
 //! cannot be answered yet waits there, and so the client waits.
 //!
 //! Each path has a thread, which owns a seat and meets one connection after the other. So has each device.
+//! An Attach that comes by a client's path is of best effort: one of another class has no frame yet.
 //!
 //! | path | who is met there |
 //! |---|---|
@@ -33,7 +34,8 @@
 //! serving.join(&rt)                                                    // the connection of the operator, after his Stop
 //!
 //! let mut asker = SeatAsker::new(rt, seat);
-//! asker.ask(alloc, ClientCall::Attach { group: 0, prio: 4 })           // Ok(Accepted(Attached { session: 1 }))
+//! let class = Class::BestEffort;
+//! asker.ask(alloc, ClientCall::Attach { group: 0, prio: 4, class })    // Ok(Accepted(Attached { session: 1 }))
 //! asker.is_closed()                                                    // false, until the core has said that it has ended
 //! ```
 

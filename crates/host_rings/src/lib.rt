@@ -27,9 +27,10 @@
 //! book.entry(1)                                         // None
 //!
 //! let (mut core, mut callers, devices, operator) = host(alloc, config, 64, 2)?;
-//! callers[0].stage(ClientCall::Attach { group: 0, prio: 4 })    // Ok(())
-//! core.turn(alloc)                                              // answered: Some(Client(0)), dispatched: false, ended: false
-//! callers[0].collect()                                          // Some(Answer(Accepted(Attached { session: 1 })))
+//! let class = Class::BestEffort;
+//! callers[0].stage(ClientCall::Attach { group: 0, prio: 4, class })    // Ok(())
+//! core.turn(alloc)                                                     // answered: Some(Client(0)), dispatched: false, ended: false
+//! callers[0].collect()                                                 // Some(Answer(Accepted(Attached { session: 1 })))
 //! ```
 //!
 //! # A host that serves

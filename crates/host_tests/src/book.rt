@@ -4,7 +4,7 @@ use bytes::Bytes;
 use host_calls::SeatName;
 use host_rings::{Book, take_work};
 use plain_machine::{Answer, Call, Reply, Step};
-use sector_core::{Op, Range};
+use sector_core::{Class, Op, Range};
 use std::alloc::Global;
 use std::test::Fail;
 
@@ -56,6 +56,7 @@ fn asked(act: Act) -> Option<(SeatName, Call)> {
                 seat: 0,
                 group: 0,
                 prio: 4,
+                class: Class::BestEffort,
             };
             Some((SeatName::Client(0), Call::Do(attach)))
         }

@@ -2,6 +2,7 @@
 use crate::opening::{opened, usual};
 use host_calls::{ClientCall, OperatorCall};
 use host_rings::{Book, HostFault, host, view};
+use sector_core::Class;
 use std::alloc::Global;
 use std::sync::Wait;
 use std::test::Fail;
@@ -22,7 +23,11 @@ fn entries(book: &Book) -> u64 {
 fn shown<R: Wait>(rt: &R, alloc: Global) -> Result<(u64, u64, u32), Fail> {
     let (mut core, mut callers, _devices, mut operator) = opened(alloc, 1)?;
     for caller in callers.iter_mut().take(3) {
-        let _staged = caller.stage(ClientCall::Attach { group: 0, prio: 4 });
+        let _staged = caller.stage(ClientCall::Attach {
+            group: 0,
+            prio: 4,
+            class: Class::BestEffort,
+        });
     }
     let _staged = operator.stage(OperatorCall::Stop);
     let mut times = 0u64;

@@ -7,7 +7,7 @@ use bytes::Bytes;
 use host_calls::{ClientCall, OperatorCall};
 use host_rings::{Caller, Core, SeatEnd, Settled, settle};
 use plain_machine::DeviceCall;
-use sector_core::{Op, Range};
+use sector_core::{Class, Op, Range};
 use std::alloc::Global;
 use std::test::Fail;
 
@@ -27,7 +27,11 @@ fn read(sector: u64) -> ClientCall {
 fn stage_all(seat: &mut Caller)
     ensures { SameSeat seat.old seat.new }
 {
-    let _first = seat.stage(ClientCall::Attach { group: 0, prio: 4 });
+    let _first = seat.stage(ClientCall::Attach {
+        group: 0,
+        prio: 4,
+        class: Class::BestEffort,
+    });
     let _second = seat.stage(read(0));
     let _third = seat.stage(read(9));
 }

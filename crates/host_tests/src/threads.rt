@@ -4,6 +4,7 @@ ghost use Rattle.host_core.specs.Opening.{IsIdle};
 use crate::opening::opened;
 use host_calls::{ClientCall, OperatorCall};
 use host_rings::{Caller, Core};
+use sector_core::Class;
 use std::alloc::Global;
 use std::sync::Wait;
 use std::test::Fail;
@@ -15,7 +16,11 @@ const YIELDS: u32 = 100_000;
 // Stages four calls, of which three find places for their answers; waits until the core is likely to sleep; and then collects all four.
 fn collect_late<R: Wait>(rt: &R, mut seat: Caller) {
     for _ in 0..4u8 {
-        let _staged = seat.stage(ClientCall::Attach { group: 0, prio: 4 });
+        let _staged = seat.stage(ClientCall::Attach {
+            group: 0,
+            prio: 4,
+            class: Class::BestEffort,
+        });
     }
     for _ in 0..YIELDS {
         thread::yield_now();

@@ -10,7 +10,7 @@ use host_calls::{ClientCall, OperatorCall};
 use host_paths::{WorkerEnd, run_worker};
 use host_rings::{Caller, Core, DeviceSeat, OperatorSeat, host};
 use plain_machine::{Answer, Reply};
-use sector_core::{BioResult, FailKind, Op, Range};
+use sector_core::{BioResult, Class, FailKind, Op, Range};
 use std::alloc::Global;
 use std::sync::Wait;
 use std::test::Fail;
@@ -121,7 +121,14 @@ fn sevens(bytes: &[u8]) -> usize {
 fn read_two<R: Wait>(rt: &R, mut seat: Caller, sector: u64) -> Heard
     requires { IsIdle seat }
 {
-    let Ok(_attached) = seat.ask(rt, ClientCall::Attach { group: 0, prio: 4 }) else {
+    let Ok(_attached) = seat.ask(
+        rt,
+        ClientCall::Attach {
+            group: 0,
+            prio: 4,
+            class: Class::BestEffort,
+        },
+    ) else {
         return Heard::Other;
     };
     let Ok(_queued) = seat.ask(rt, read(sector)) else {

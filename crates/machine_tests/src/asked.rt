@@ -3,7 +3,7 @@ use crate::host::checked;
 use bytes::Bytes;
 use dispatch_core::{Answer, Reply, Step, Why};
 use history::{Call, ClientCall, Keeper, OperatorCall};
-use sector_core::{ConfigDraft, Op, Range, Scheduler};
+use sector_core::{Class, ConfigDraft, Op, Range, Scheduler};
 use std::alloc::Global;
 use std::process::Abort;
 use std::test::Fail;
@@ -45,7 +45,11 @@ enum Ask {
 
 fn call_of(alloc: Global, ask: Ask) -> Result<ClientCall, Fail> {
     Ok(match ask {
-        Ask::Attach(prio) => ClientCall::Attach { group: 0, prio },
+        Ask::Attach(prio) => ClientCall::Attach {
+            group: 0,
+            prio,
+            class: Class::BestEffort,
+        },
         Ask::Store(session) => store(alloc, session)?,
         Ask::StoreShort(session) => store_of(session, Bytes::from_static(&[65; 1023])),
         Ask::Reap(session) => ClientCall::Reap { session },

@@ -2,7 +2,7 @@
 use crate::host::{Host, Place};
 use bytes::Bytes;
 use dispatch_core::{Reply, SectorView, Step};
-use sector_core::{Op, Outcome, Range};
+use sector_core::{Class, Op, Outcome, Range};
 use std::alloc::Global;
 use std::process::Abort;
 use std::test::Fail;
@@ -63,6 +63,7 @@ fn step_of(act: Act) -> Step {
             seat: 0,
             group: 0,
             prio: 4,
+            class: Class::BestEffort,
         },
         Act::Store(serial) => Step::Submit {
             seat: 0,

@@ -4,7 +4,7 @@ use bytes::Bytes;
 use dispatch_core::{Answer, Cause, Code, Reply, SectorView, Step};
 use history::{Call, Keeper};
 use plain_machine::{redo_gives_back, two_undos_are_one};
-use sector_core::{ConfigDraft, Op, Outcome, Range};
+use sector_core::{Class, ConfigDraft, Op, Outcome, Range};
 use std::alloc::Global;
 use std::process::Abort;
 use std::test::Fail;
@@ -69,6 +69,7 @@ fn call_of(act: Act) -> Call {
             seat,
             group: 0,
             prio: 4,
+            class: Class::BestEffort,
         }),
         Act::Store => Call::Do(Step::Submit {
             seat: 0,

@@ -2,7 +2,7 @@
 use crate::host::{Host, Place};
 use bytes::Bytes;
 use dispatch_core::{Code, EntityView, SectorView, Step};
-use sector_core::{Op, Outcome, Range, Scheduler};
+use sector_core::{Class, Op, Outcome, Range, Scheduler};
 use std::alloc::Global;
 use std::process::Abort;
 use std::test::Fail;
@@ -29,6 +29,7 @@ fn step_of(act: Act) -> Step {
             seat: 0,
             group: 0,
             prio: 4,
+            class: Class::BestEffort,
         },
         Act::Store => submit(Op::Store, ONE, Bytes::from_static(&[65; 512])),
         Act::Fetch(range) => submit(Op::Fetch, range, Bytes::new()),
@@ -83,7 +84,7 @@ enum Told {
     Steps(u32),
     // Whether a request is in flight, whether the block is stored, and the length of the outbox.
     Store(bool, bool, usize),
-    // Of group 1: its virtual time, and the weight in effect, the budget and the service of its entity.
+    // Of group 1: the virtual time of its best-effort class, and the weight in effect, the budget and the service of its entity.
     Group(Option<u64>, Option<(u32, u32, u32)>),
     Scheduler(Scheduler),
     // At a place of a seat.
@@ -102,7 +103,7 @@ fn again(host: &mut Host, alloc: Global, told: Told) -> Told {
         }
         Told::Group(..) => {
             let entity = host.view().entity(17).map(in_numbers);
-            Told::Group(host.view().vtime(1), entity)
+            Told::Group(host.view().vtime(1, Class::BestEffort), entity)
         }
         Told::Scheduler(_) => Told::Scheduler(host.view().scheduler()),
         Told::Request(seat, place, _) => Told::Request(seat, place, host.place(seat, place)),

@@ -10,8 +10,11 @@ use Rattle.sector_core.specs.declared.bio.Outcome.{Outcome}
 use Rattle.sector_core.specs.declared.range.Range.{Range}
 use Rattle.sector_core.specs.declared.config.Scheduler.{Scheduler}
 use Rattle.sector_core.specs.declared.config.Scheduler.TheVariants.{Plain as PlainScheduler, Bfq as BfqScheduler}
+use Rattle.sector_core.specs.declared.class.Class.{Class}
+use Rattle.sector_core.specs.declared.class.Class.TheVariants.{BestEffort}
 use Rattle.group_tree.specs.Groups.{entity_of, depth, most_levels}
-use Rattle.change_record.specs.Rules.{put_vtime, stands}
+use Rattle.class_trees.specs.Classes.{same_times}
+use Rattle.change_record.specs.Rules.{put_vtimes, stands}
 use Rattle.change_record.specs.declared.change.InService.{InService}
 use Rattle.change_record.specs.Machine.{WholeRequest, Flight, Bfq, Plain, put}
 use Rattle.plain_machine.specs.declared.answer.Reply.{Reply}
@@ -39,14 +42,14 @@ reaped_at m seat bios = record m {
 
 -- a group, made under its parent
 abbrev pub made : Limits → ℕ → ℕ → ℕ → Bfq → Bfq
-made l group parent weight b = put_vtime group l.first_vtime (with_entity l (entity_of group) parent weight b)
+made l group parent weight b = put_vtimes group (same_times l.first_vtime) (with_entity l (entity_of group) parent BestEffort weight b)
 
 -- Where `P` stands after steps with serials below a number, `Q` stands after one more, accepted or not. Of a switch that is asked only with
 -- a proof of `Switches`: with ⊥ in its place a law leaves switches out.
 pub record Steps (l : Limits) (Switches : Type 0) (P Q : ℕ → Plain → Type 0) : Type 0 where
   pub later : (n n' : ℕ) (m : Plain) → n ≤ n' → Q n m → Q n' m
   pub stays : (n : ℕ) (m : Plain) → P n m → Q n m
-  pub attaches : (n : ℕ) (m : Plain) (seat group prio : ℕ) → seat < 16 → m.seat seat ≡ None → stands m.bfq group ≡ true → prio ≤ 7 → P n m → Q (n + 1) (attached l m n seat group prio)
+  pub attaches : (n : ℕ) (m : Plain) (seat group prio : ℕ) (class : Class) → seat < 16 → m.seat seat ≡ None → stands m.bfq group ≡ true → prio ≤ 7 → P n m → Q (n + 1) (attached l m n seat group prio class)
   pub submits : (n : ℕ) (m : Plain) (seat session : ℕ) (op : Op) (range : Range) (payload : List ℕ) (next : Plain) → seat < 16 → is_session session (m.seat seat) ≡ true → IsSized op range payload
       → woken m seat (submitted m n seat session op range payload) ≡ Some next → P n m → Q (n + 1) next
   pub reaps : (n : ℕ) (m : Plain) (seat : ℕ) (bio : Bio) (bios : List Bio) → m.outbox seat ≡ bio ∷ bios → P n m → Q n (reaped_at m seat bios)
@@ -90,9 +93,9 @@ next-serial l S P Q k n m h = k.later n (n + 1) m (omega arith) h
 kept-serial : (l : Limits) (S : Type 0) (P Q : ℕ → Plain → Type 0) → Steps l S P Q → (n : ℕ) (m : Plain) → P n m → Q (n + 1) m
 kept-serial l S P Q k n m h = next-serial l S P Q k n m (k.stays n m h)
 
-attach-leads : (l : Limits) (S : Type 0) (P Q : ℕ → Plain → Type 0) → Steps l S P Q → (m : Plain) (n : ℕ) (room : Bool) (seat group prio : ℕ) → P n m → Q (n + 1) (attach l m n room seat group prio).0
-attach-leads l S P Q k m n room seat group prio h =
-    let next : Plain = attached l m n seat group prio in
+attach-leads : (l : Limits) (S : Type 0) (P Q : ℕ → Plain → Type 0) → Steps l S P Q → (m : Plain) (n : ℕ) (room : Bool) (seat group prio : ℕ) (class : Class) → P n m → Q (n + 1) (attach l m n room seat group prio class).0
+attach-leads l S P Q k m n room seat group prio class h =
+    let next : Plain = attached l m n seat group prio class in
     unless-keeps (Q (n + 1)) _ m (accepted room m next (Attached n)) (kept-serial l S P Q k n m h)
     (λ e.
     let within = first_fails (nat_le 16 seat) _ _ e in
@@ -100,7 +103,7 @@ attach-leads l S P Q k m n room seat group prio h =
     let known = first_fails (not (stands m.bfq group)) _ _ free.1 in
     let few = first_fails (nat_lt 7 prio) _ _ known.1 in
     accepted-keeps (Q (n + 1)) room m next (Attached n) (kept-serial l S P Q k n m h)
-    (k.attaches n m seat group prio (leb-false 16 seat within.0) (not_some (m.seat seat) free.0) (not-false (stands m.bfq group) known.0) (ltb-false 7 prio few.0) h))
+    (k.attaches n m seat group prio class (leb-false 16 seat within.0) (not_some (m.seat seat) free.0) (not-false (stands m.bfq group) known.0) (ltb-false 7 prio few.0) h))
 
 submit-leads : (l : Limits) (S : Type 0) (P Q : ℕ → Plain → Type 0) → Steps l S P Q → (m : Plain) (n : ℕ) (room : Bool) (seat session : ℕ) (op : Op) (range : Range) (payload : List ℕ)
     → P n m → Q (n + 1) (submit l m n room seat session op range payload).0
@@ -260,7 +263,7 @@ ticked-leads l S P Q k m n room (Some slot) is h =
 
 -- every step
 pub step-steps : (l : Limits) (S : Type 0) (P Q : ℕ → Plain → Type 0) → Steps l S P Q → (m : Plain) (n : ℕ) (room : Bool) (s : Step) → (is_switch s ≡ true → S) → P n m → Q (n + 1) (step l m n room s).0
-step-steps l S P Q k m n room (Attach seat group prio) may h = attach-leads l S P Q k m n room seat group prio h
+step-steps l S P Q k m n room (Attach seat group prio class) may h = attach-leads l S P Q k m n room seat group prio class h
 step-steps l S P Q k m n room (Submit seat session op range payload) may h = submit-leads l S P Q k m n room seat session op range payload h
 step-steps l S P Q k m n room (Reap seat session) may h = next-serial l S P Q k n _ (reap-leads l S P Q k m n room seat session h)
 step-steps l S P Q k m n room (Leave seat why) may h = next-serial l S P Q k n _ (leave-leads l S P Q k m n room seat h)

@@ -6,6 +6,7 @@ use Rattle.sector_core.specs.declared.bio.Op.{Op}
 use Rattle.sector_core.specs.declared.bio.Outcome.{Outcome}
 use Rattle.sector_core.specs.declared.range.Range.{Range}
 use Rattle.sector_core.specs.declared.config.Scheduler.{Scheduler}
+use Rattle.sector_core.specs.declared.class.Class.{Class}
 use Rattle.change_record.specs.declared.change.Seat.{Seat}
 use Rattle.change_record.specs.Machine.{WholeRequest, Flight, Bfq, Plain, put}
 use Rattle.plain_machine.specs.declared.answer.Reply.TheVariants.{Queued}
@@ -70,9 +71,9 @@ pub record Moves (l : Limits) (P : ℕ → Plain → Type 0) : Type 1 where
 bfq-moves : (l : Limits) (P : ℕ → Plain → Type 0) → Moves l P → (n : ℕ) (m : Plain) (b : Bfq) → P n m → P n (record m { bfq = b })
 bfq-moves l P k n m b h = k.rests n m m.frozen m.served m.head b m.scheduler h
 
-attached-moves : (l : Limits) (P : ℕ → Plain → Type 0) → Moves l P → (n : ℕ) (m : Plain) (seat group prio : ℕ) → seat < 16 → m.seat seat ≡ None → P n m → P (n + 1) (attached l m n seat group prio)
-attached-moves l P k n m seat group prio small free h =
-    let next : Plain = attached l m n seat group prio in
+attached-moves : (l : Limits) (P : ℕ → Plain → Type 0) → Moves l P → (n : ℕ) (m : Plain) (seat group prio : ℕ) (class : Class) → seat < 16 → m.seat seat ≡ None → P n m → P (n + 1) (attached l m n seat group prio class)
+attached-moves l P k n m seat group prio class small free h =
+    let next : Plain = attached l m n seat group prio class in
     let entry : Seat = record { session = n; prio = prio; unreaped = 0; leaving = false } in
     k.rests (n + 1) (record m { seat = put m.seat seat (Some entry) }) m.frozen m.served next.head next.bfq m.scheduler (k.attaches n m seat entry small free refl h)
 
@@ -139,7 +140,7 @@ pub moves-lead : (l : Limits) (P : ℕ → Plain → Type 0) → Moves l P → L
 moves-lead l P k = record {
   later = k.later;
   stays = λ n m h. h;
-  attaches = λ n m seat group prio small free known few h. attached-moves l P k n m seat group prio small free h;
+  attaches = λ n m seat group prio class small free known few h. attached-moves l P k n m seat group prio class small free h;
   submits = λ n m seat session op range payload next small its sized is h. submitted-moves l P k n m seat session op range payload next small its sized is h;
   reaps = λ n m seat bio bios is h. reaped-moves l P k n m seat bio bios is h;
   leaves = λ n m seat small there h. left-moves l P k m n seat h;

@@ -2,11 +2,14 @@
 use Rattle.std.proofs.Common.{◌≡◌, ◌≢◌, ◌⊎◌, inl, inr, ℕ, zero, suc, ◌<◌, List, [], ◌∷◌, length, Option, None, slice_index_or, slice_set, refl, sym, ap, ◌∙◌}
 use Rattle.std.proofs.lemmas.Bool.{cases_eq}
 use Rattle.std.proofs.lemmas.List.{get_or-set_same, get_or-set_other, length-set}
+use Rattle.sector_core.specs.declared.class.Class.{Class}
 use Rattle.service_tree.specs.declared.member.Member.{Member}
-use Rattle.service_tree.specs.Members.{Service, least_start}
-use Rattle.change_record.specs.Exchange.{with_member, with_vtime}
+use Rattle.service_tree.specs.Members.{least_start}
+use Rattle.class_trees.specs.declared.Vtimes.{Vtimes}
+use Rattle.class_trees.specs.Classes.{Classes}
+use Rattle.change_record.specs.Exchange.{with_member, with_vtimes}
 use Rattle.change_record.specs.Machine.{Bfq, put}
-use Rattle.change_record.specs.Rules.{put_vtime}
+use Rattle.change_record.specs.Rules.{put_vtimes, service_in}
 use Rattle.plain_machine.proofs.Puts.{put_here, put_other}
 
 -- the places of a group's tree
@@ -17,20 +20,20 @@ places_of b group = (b.service group).members
 abbrev pub placed : Bfq → ℕ → ℕ → Option Member
 placed b group entity = slice_index_or (places_of b group) entity None
 
--- the least start in a group (B-WF2Q+)
-abbrev pub least_of : Bfq → ℕ → Option ℕ
-least_of b group = least_start (places_of b group)
+-- the least start in a class of a group (B-WF2Q+)
+abbrev pub least_of : Bfq → ℕ → Class → Option ℕ
+least_of b group class = least_start (service_in b group class).members
 
 -- this at an entity's place in a group's tree: a member, or none
 abbrev pub put_place : ℕ → ℕ → Option Member → Bfq → Bfq
 put_place group entity place b = record b { service = put b.service group (with_member (b.service group) entity place) }
 
 -- the places of a group, after a tree is put
-places-here : (b : Bfq) (group : ℕ) (tree : Service) (g : ℕ) → g ≡ group → places_of (record b { service = put b.service group tree }) g ≡ tree.members
-places-here b group tree g same = ap (λ (t : Service). t.members) (put_here b.service group tree g same)
+places-here : (b : Bfq) (group : ℕ) (tree : Classes) (g : ℕ) → g ≡ group → places_of (record b { service = put b.service group tree }) g ≡ tree.members
+places-here b group tree g same = ap (λ (t : Classes). t.members) (put_here b.service group tree g same)
 
-places-other : (b : Bfq) (group : ℕ) (tree : Service) (g : ℕ) → g ≢ group → places_of (record b { service = put b.service group tree }) g ≡ places_of b g
-places-other b group tree g other = ap (λ (t : Service). t.members) (put_other b.service group tree g other)
+places-other : (b : Bfq) (group : ℕ) (tree : Classes) (g : ℕ) → g ≢ group → places_of (record b { service = put b.service group tree }) g ≡ places_of b g
+places-other b group tree g other = ap (λ (t : Classes). t.members) (put_other b.service group tree g other)
 
 pub placed-elsewhere : (b : Bfq) (group k : ℕ) (new : Option Member) (g e : ℕ) → g ≢ group → placed (put_place group k new b) g e ≡ placed b g e
 placed-elsewhere b group k new g e other = ap (λ xs. slice_index_or xs e None) (places-other b group (with_member (b.service group) k new) g other)
@@ -73,16 +76,16 @@ length-member b group k new g = elim (cases_eq g group) [
   | inr other ↦ ap length (places-other b group (with_member (b.service group) k new) g other)
 ]
 
--- another virtual time leaves the places
-pub places-vtime : (b : Bfq) (group vtime g : ℕ) → places_of (put_vtime group vtime b) g ≡ places_of b g
-places-vtime b group vtime g = elim (cases_eq g group) [
-  | inl same ↦ places-here b group (with_vtime (b.service group) vtime) g same ∙ ap (places_of b) (sym same)
-  | inr other ↦ places-other b group (with_vtime (b.service group) vtime) g other
+-- other virtual times leave the places
+pub places-vtime : (b : Bfq) (group : ℕ) (vtimes : Vtimes) (g : ℕ) → places_of (put_vtimes group vtimes b) g ≡ places_of b g
+places-vtime b group vtimes g = elim (cases_eq g group) [
+  | inl same ↦ places-here b group (with_vtimes (b.service group) vtimes) g same ∙ ap (places_of b) (sym same)
+  | inr other ↦ places-other b group (with_vtimes (b.service group) vtimes) g other
 ]
 
-pub placed-vtime : (b : Bfq) (group vtime g e : ℕ) → placed (put_vtime group vtime b) g e ≡ placed b g e
-placed-vtime b group vtime g e = ap (λ xs. slice_index_or xs e None) (places-vtime b group vtime g)
+pub placed-vtime : (b : Bfq) (group : ℕ) (vtimes : Vtimes) (g e : ℕ) → placed (put_vtimes group vtimes b) g e ≡ placed b g e
+placed-vtime b group vtimes g e = ap (λ xs. slice_index_or xs e None) (places-vtime b group vtimes g)
 
 -- the same trees have the same places
 pub placed-same : (b c : Bfq) → c.service ≡ b.service → (g e : ℕ) → placed c g e ≡ placed b g e
-placed-same b c same g e = ap (λ (f : ℕ → Service). slice_index_or (f g).members e None) same
+placed-same b c same g e = ap (λ (f : ℕ → Classes). slice_index_or (f g).members e None) same

@@ -3,10 +3,13 @@ use Rattle.std.proofs.Common.{true, false, ◌≡◌, ℕ, ◌+◌, ◌<◌, ◌
 use Rattle.std.specs.Option.{option_map, option_map_or}
 use Rattle.sector_core.specs.declared.bio.Bio.{Bio}
 use Rattle.sector_core.specs.declared.bio.Outcome.{Outcome}
+use Rattle.sector_core.specs.declared.class.Class.{Class}
+use Rattle.sector_core.specs.declared.class.Class.TheVariants.{BestEffort}
 use Rattle.group_tree.specs.Groups.{entity_of, path}
+use Rattle.class_trees.specs.Classes.{same_times}
 use Rattle.change_record.specs.declared.change.InService.{InService}
 use Rattle.change_record.specs.Machine.{WholeRequest, Bfq, Plain, put}
-use Rattle.change_record.specs.Rules.{put_vtime}
+use Rattle.change_record.specs.Rules.{put_vtimes}
 use Rattle.plain_machine.specs.Step.{Limits, with_entity, prio_weight, submitted, without_entity, is_gone, without_gone, with_leaving, owed_fewer, left, is_leaving, seat_of, delivered, completed, after_outcome, after_finish, with_first_budgets, older}
 use Rattle.plain_machine.proofs.Leads.{Leads}
 use Rattle.plain_machine.proofs.Rules.{Any, all_any, Changes, woken-bfq, sent_by_bfq-rules}
@@ -16,11 +19,11 @@ use Rattle.plain_machine.proofs.Begun.{Again, timed, begun-keeps}
 pub record Ruled (l : Limits) (Q : ℕ → Bfq → Type 0) : Type 0 where
   pub later : (n n' : ℕ) (b : Bfq) → n ≤ n' → Q n b → Q n' b
   pub rules : (n : ℕ) → Changes l.max_budget Any (Q (n + 1))
-  pub enters : (n : ℕ) (b : Bfq) (entity group weight : ℕ) → Q n b → Q n (with_entity l entity group weight b)
+  pub enters : (n : ℕ) (b : Bfq) (entity group : ℕ) (class : Class) (weight : ℕ) → Q n b → Q n (with_entity l entity group class weight b)
   pub begins : (n : ℕ) (b : Bfq) (seat : ℕ) → seat < 16 → Q n b → Q n (record b { budget = put b.budget seat l.first_budget })
   pub goes : (n : ℕ) (b : Bfq) (entity : ℕ) → Q n b → Q n (without_entity entity b)
   pub weighs : (n : ℕ) (b : Bfq) (entity weight : ℕ) → Q n b → Q n (record b { pending = put b.pending entity weight })
-  pub opens : (n : ℕ) (b : Bfq) (group : ℕ) → Q n b → Q n (put_vtime group l.first_vtime b)
+  pub opens : (n : ℕ) (b : Bfq) (group : ℕ) → Q n b → Q n (put_vtimes group (same_times l.first_vtime) b)
   pub restarts : (n : ℕ) (b : Bfq) (entity group : ℕ) → b.parent entity ≡ Some group → Q n b → Q n (timed l entity b)
   pub budgets : (n : ℕ) (b : Bfq) → Q n b → Q n (with_first_budgets l b)
   pub ticks : (n : ℕ) (b : Bfq) (slot : InService) → b.slot ≡ Some slot → Q n b → Q (n + 1) (record b { slot = Some (older slot) })
@@ -57,9 +60,9 @@ pub ruled-leads : (l : Limits) (Q : ℕ → Bfq → Type 0) → Ruled l Q → Le
 ruled-leads l Q k = record {
   later = λ n n' m le h. k.later n n' m.bfq le h;
   stays = λ n m h. h;
-  attaches = λ n m seat group prio small free known few h.
-      let inside : Bfq = with_entity l seat group (prio_weight prio) m.bfq in
-      k.later n (n + 1) _ (omega arith) (k.begins n inside seat small (k.enters n m.bfq seat group (prio_weight prio) h));
+  attaches = λ n m seat group prio class small free known few h.
+      let inside : Bfq = with_entity l seat group class (prio_weight prio) m.bfq in
+      k.later n (n + 1) _ (omega arith) (k.begins n inside seat small (k.enters n m.bfq seat group class (prio_weight prio) h));
   submits = λ n m seat session op range payload next small its sized is h.
       let now : Q (n + 1) m.bfq = k.later n (n + 1) m.bfq (omega arith) h in
       woken-bfq Any (Q (n + 1)) (k.rules n).stamps m seat (submitted m n seat session op range payload) next (all_any (path m.bfq.parent seat)) is now now;
@@ -70,7 +73,7 @@ ruled-leads l Q k = record {
   resends = λ n m tag r rest is low free h. h;
   finishes = λ n m tag f outcome low is fit h. after_finish-bfq l (Q n) m tag outcome f.request h (λ seat. k.goes n m.bfq seat h);
   gives_back = λ n m tag f low is h. h;
-  makes = λ n m group parent weight known weighs few is h. k.opens n _ group (k.enters n m.bfq (entity_of group) parent weight h);
+  makes = λ n m group parent weight known weighs few is h. k.opens n _ group (k.enters n m.bfq (entity_of group) parent BestEffort weight h);
   drops = λ n m group known other unused h. k.goes n m.bfq (entity_of group) h;
   weighs = λ n m group weight known other weighs h. k.weighs n m.bfq (entity_of group) weight h;
   freezes = λ n m frozen h. h;

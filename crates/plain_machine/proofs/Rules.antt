@@ -3,13 +3,14 @@ use Rattle.std.proofs.Common.{true, false, Bool, ◌≡◌, ℕ, zero, suc, ◌+
 use Rattle.std.specs.Option.{is_none, option_map, option_map_or, option_and_then}
 use Rattle.std.proofs.lemmas.Bool.{leb-true, ltb-true, ltb-false}
 use Rattle.std.proofs.lemmas.List.Elements.{All-nil, All-cons, All-head, All-tail}
+use Rattle.sector_core.specs.declared.class.Class.{Class}
 use Rattle.process_queue.specs.Queue.{is_empty}
 use Rattle.group_tree.specs.Groups.{has_entity, entity_of, climb, path}
 use Rattle.change_record.specs.declared.change.InService.{InService}
 use Rattle.change_record.specs.Machine.{WholeRequest, Bfq, Plain}
 use Rattle.change_record.specs.declared.change.Expiry.{Expiry}
 use Rattle.change_record.specs.declared.change.Expiry.TheVariants.{Exhaustion, Timeout, Emptying}
-use Rattle.change_record.specs.Rules.{top, group_of, member_of, vtime_of, put_vtime, is_idle, along, finish_from, stamped, stamp, start_from, activate_path, activate, picked, jumped, in_service, on_pick, taken, select_from, select, risen, charge_one, served_more, charge, ended, is_backlogged, rested, expire_one, out_of_service, expire}
+use Rattle.change_record.specs.Rules.{top, group_of, member_of, vtime_of, put_vtime, is_idle, along, finish_from, stamped, stamp, start_from, activate_path, activate, picked, jumped, in_service, on_pick, on_class, class_in, class_of, chosen_in, service_in, taken, select_from, select, risen, charge_one, served_more, charge, ended, is_backlogged, rested, expire_one, out_of_service, expire}
 use Rattle.plain_machine.specs.declared.answer.Reply.{Reply}
 use Rattle.plain_machine.specs.Step.{Limits, is_bfq, woken, range_of, next_size, with_budget_in, with_slot, without_empty, sent_by_bfq}
 use Rattle.plain_machine.proofs.Puts.{some_is, and_then_is, map_is}
@@ -46,10 +47,10 @@ abbrev pub RestsKeep : (ℕ → Type 0) → (Bfq → Type 0) → Type 0
 RestsKeep E Q = (b : Bfq) (finish entity : ℕ) → E entity → finish ≤ top → Q b → Q (rested finish entity b)
 
 abbrev pub JumpsKeep : (Bfq → Type 0) → Type 0
-JumpsKeep Q = (b : Bfq) (group start : ℕ) → picked b group ≡ None → least_of b group ≡ Some start → Q b → Q (put_vtime group start b)
+JumpsKeep Q = (b : Bfq) (group : ℕ) (class : Class) (start : ℕ) → picked b group class ≡ None → least_of b group class ≡ Some start → Q b → Q (put_vtime group class start b)
 
 abbrev pub RisesKeep : (Bfq → Type 0) → Type 0
-RisesKeep Q = (b : Bfq) (group vtime : ℕ) → vtime_of b group ≤ vtime → vtime ≤ top → Q b → Q (put_vtime group vtime b)
+RisesKeep Q = (b : Bfq) (group : ℕ) (class : Class) (vtime : ℕ) → vtime_of b group class ≤ vtime → vtime ≤ top → Q b → Q (put_vtime group class vtime b)
 
 -- a session's queue has just been selected in its group
 abbrev pub selected : ℕ → ℕ → Bfq → Bfq
@@ -59,8 +60,8 @@ selected group seat b = record (in_service group seat b) { slot = Some (record {
 -- one field.
 pub record Selects (Q : Bfq → Type 0) : Type 0 where
   pub jumps : JumpsKeep Q
-  pub passes : (b : Bfq) (group entity : ℕ) → picked b group ≡ Some entity → 16 ≤ entity → Q b → Q (in_service group entity b)
-  pub begins : (b : Bfq) (group seat : ℕ) → picked b group ≡ Some seat → seat < 16 → Q b → Q (selected group seat b)
+  pub passes : (b : Bfq) (group : ℕ) (class : Class) (entity : ℕ) → picked b group class ≡ Some entity → 16 ≤ entity → Q b → Q (in_service group entity b)
+  pub begins : (b : Bfq) (group : ℕ) (class : Class) (seat : ℕ) → picked b group class ≡ Some seat → seat < 16 → Q b → Q (selected group seat b)
 
 -- each change that a rule makes keeps this, where the greatest budget is so much, and `E` holds on the path of the queue in service
 pub record Changes (most : ℕ) (E : ℕ → Type 0) (Q : Bfq → Type 0) : Type 0 where
@@ -103,37 +104,45 @@ activate_path-keeps E Q k (entity ∷ entities) b c all e h =
     ] e
 
 -- Select
-pub jumped-keeps : (Q : Bfq → Type 0) → JumpsKeep Q → (group : ℕ) (b : Bfq) → Q b → Q (jumped group b)
-jumped-keeps Q k group b h =
-    let least : Option ℕ = least_of b group in
-    elim (picked b group) as (λ o. picked b group ≡ o → Q (cond (is_some o) b (option_map_or (λ start. put_vtime group start b) least b))) [
-      | None ↦ λ nobody. elim least as (λ o. least ≡ o → Q (option_map_or (λ start. put_vtime group start b) o b)) [
+pub jumped-keeps : (Q : Bfq → Type 0) → JumpsKeep Q → (group : ℕ) (class : Class) (b : Bfq) → Q b → Q (jumped group class b)
+jumped-keeps Q k group class b h =
+    let least : Option ℕ = least_of b group class in
+    elim (picked b group class) as (λ o. picked b group class ≡ o → Q (cond (is_some o) b (option_map_or (λ start. put_vtime group class start b) least b))) [
+      | None ↦ λ nobody. elim least as (λ o. least ≡ o → Q (option_map_or (λ start. put_vtime group class start b) o b)) [
         | None ↦ λ _. h
-        | Some start ↦ λ is. k b group start nobody is h
+        | Some start ↦ λ is. k b group class start nobody is h
       ] refl
       | Some entity ↦ λ _. h
     ] refl
 
 taken-keeps : (Q : Bfq → Type 0) → Selects Q → (choose : ℕ → Bfq → Bfq) → ((g : ℕ) (c : Bfq) → Q c → Q (choose g c))
-    → (group : ℕ) (b : Bfq) (entity : ℕ) → picked b group ≡ Some entity → Q b → Q (taken choose group b entity)
-taken-keeps Q k choose goes group b entity is h =
+    → (group : ℕ) (class : Class) (b : Bfq) (entity : ℕ) → picked b group class ≡ Some entity → Q b → Q (taken choose group b entity)
+taken-keeps Q k choose goes group class b entity is h =
     elim (nat_lt entity 16) as (λ t. nat_lt entity 16 ≡ t → Q (cond t (selected group entity b) (choose (entity - 16) (in_service group entity b)))) [
-      | true ↦ λ small. k.begins b group entity is (ltb-true entity 16 small) h
-      | false ↦ λ high. goes (entity - 16) (in_service group entity b) (k.passes b group entity is (ltb-false entity 16 high) h)
+      | true ↦ λ small. k.begins b group class entity is (ltb-true entity 16 small) h
+      | false ↦ λ high. goes (entity - 16) (in_service group entity b) (k.passes b group class entity is (ltb-false entity 16 high) h)
     ] refl
 
 on_pick-keeps : (Q : Bfq → Type 0) (found : Option ℕ) (b : Bfq) (next : ℕ → Bfq) → Q b → ((entity : ℕ) → found ≡ Some entity → Q (next entity)) → Q (on_pick found b next)
 on_pick-keeps Q None b next h each = h
 on_pick-keeps Q (Some entity) b next h each = each entity refl
 
-select_from-keeps : (Q : Bfq → Type 0) → Selects Q → (levels group : ℕ) (b : Bfq) → Q b → Q (select_from levels group b)
+chosen_in-keeps : (Q : Bfq → Type 0) → Selects Q → (choose : ℕ → Bfq → Bfq) → ((g : ℕ) (c : Bfq) → Q c → Q (choose g c)) → (group : ℕ) (b : Bfq) (class : Class) → Q b → Q (chosen_in choose group b class)
+chosen_in-keeps Q k choose goes group b class h =
+    let c : Bfq = jumped group class b in
+    let jump : Q c = jumped-keeps Q k.jumps group class b h in
+    on_pick-keeps Q (picked c group class) c (taken choose group c) jump (λ entity is. taken-keeps Q k choose goes group class c entity is jump)
+
+on_class-keeps : (Q : Bfq → Type 0) (found : Option Class) (b : Bfq) (next : Class → Bfq) → Q b → ((class : Class) → Q (next class)) → Q (on_class found b next)
+on_class-keeps Q None b next h each = h
+on_class-keeps Q (Some class) b next h each = each class
+
+pub select_from-keeps : (Q : Bfq → Type 0) → Selects Q → (levels group : ℕ) (b : Bfq) → Q b → Q (select_from levels group b)
 unfolding select_from
 select_from-keeps Q k zero group b h = h
 select_from-keeps Q k (suc levels) group b h =
-    let c : Bfq = jumped group b in
     let choose : ℕ → Bfq → Bfq = λ g d. select_from levels g d in
-    let jump : Q c = jumped-keeps Q k.jumps group b h in
-    on_pick-keeps Q (picked c group) c (taken choose group c) jump (λ entity is. taken-keeps Q k choose (λ g d. select_from-keeps Q k levels g d) group c entity is jump)
+    on_class-keeps Q (class_in b group) b (chosen_in choose group b) h (λ class. chosen_in-keeps Q k choose (λ g d. select_from-keeps Q k levels g d) group b class h)
 
 pub select-keeps : (Q : Bfq → Type 0) → Selects Q → (b : Bfq) → Q b → Q (select b)
 select-keeps Q k b h = select_from-keeps Q k 5 0 b h
@@ -148,8 +157,9 @@ charges-keep Q k sectors entities b c e h =
     along-keeps Any Q (charge_one sectors)
     (λ entity x y _ f i.
     let group : ℕ = group_of x entity in
-    let made = unrefused (nat_le (risen sectors group x) top) (put_vtime group (risen sectors group x) x) y f in
-    subst Q made.1 (k x group (risen sectors group x) (omega arith) (leb-true (risen sectors group x) top made.0) i))
+    let class : Class = class_of x entity in
+    let made = unrefused (nat_le (risen sectors group class x) top) (put_vtime group class (risen sectors group class x) x) y f in
+    subst Q made.1 (k x group class (risen sectors group class x) (omega arith) (leb-true (risen sectors group class x) top made.0) i))
     entities b c (all_any entities) e h
 
 pub charge-keeps : (most : ℕ) (E : ℕ → Type 0) (Q : Bfq → Type 0) → Changes most E Q → (sectors : ℕ) (b c : Bfq) → charge sectors b ≡ Some c → Q b → Q c

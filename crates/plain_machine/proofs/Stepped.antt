@@ -23,8 +23,8 @@ sound-leads : (l : Limits) → Leads l (Sound l)
 sound-leads l = record {
   later = Sound-later l;
   stays = λ n m h. h;
-  attaches = λ n m seat group prio small free known few h.
-      let next : Plain = attached l m n seat group prio in
+  attaches = λ n m seat group prio class small free known few h.
+      let next : Plain = attached l m n seat group prio class in
       let entry : Seat = record { session = n; prio = prio; unreaped = 0; leaving = false } in
       attached-sound l n m seat entry next.head next.bfq small free refl refl refl h;
   submits = λ n m seat session op range payload next small its sized is h.

@@ -24,11 +24,14 @@ use Rattle.change_record.specs.Exchange.{with_member}
 use Rattle.change_record.specs.Machine.{WholeRequest, Flight, Bfq, Plain, put}
 use Rattle.sector_core.specs.declared.config.Scheduler.{Scheduler}
 use Rattle.sector_core.specs.declared.config.Scheduler.TheVariants.{Plain as PlainScheduler, Bfq as BfqScheduler}
+use Rattle.sector_core.specs.declared.class.Class.{Class}
+use Rattle.sector_core.specs.declared.class.Class.TheVariants.{BestEffort}
 use Rattle.service_tree.specs.declared.member.State.TheVariants.{Idle}
+use Rattle.class_trees.specs.Classes.{same_times}
 use Rattle.group_tree.specs.Groups.{entity_of, depth, most_levels}
 use Rattle.process_queue.specs.Next.{next_of, has_start}
 use Rattle.change_record.specs.declared.change.Expiry.TheVariants.{Exhaustion, Timeout, Emptying}
-use Rattle.change_record.specs.Rules.{group_of, member_of, put_member, put_vtime, stands, activate, select, charge, expire}
+use Rattle.change_record.specs.Rules.{group_of, member_of, put_member, put_vtimes, stands, activate, select, charge, expire}
 use Rattle.plain_machine.specs.declared.answer.Code.TheVariants.{BadSeat, SeatTaken, NoSession, StaleSession, NoGroup, BadPrio, BadCount, BadLength, OutOfRange, TooManyBios, NothingOwed, NothingQueued, NoTag, BadTag, NotInFlight, BadOutcome, RootGroup, BadWeight, TooDeep, GroupsFull, GroupInUse, AlreadyFrozen, NotFrozen, NotDrained, SameScheduler, NoneInService, VtimeFull, HistoryFull, OutOfMemory}
 use Rattle.plain_machine.specs.declared.answer.Cause.TheVariants.{Frozen, RequestsFull, NotCompleted}
 use Rattle.plain_machine.specs.declared.answer.Reply.{Reply}
@@ -56,7 +59,7 @@ pub record Limits : Type 0 where
 abbrev pub opening_bfq : Limits → Bfq
 opening_bfq l = record {
   parent = λ _. None;
-  service = λ group. if nat_lt group 32 then empty_service l.first_vtime else record { vtime = 0; members = [] };
+  service = λ group. if nat_lt group 32 then empty_service l.first_vtime else record { vtimes = same_times 0; members = [] };
   pending = λ _. 1;
   budget = λ entity. if nat_lt entity 16 then l.first_budget else if nat_lt entity 48 then l.max_budget else 256;
   slot = None;
@@ -134,11 +137,12 @@ unreaped m seat = option_map_or (λ s. s.unreaped) (m.seat seat) 0
 abbrev pub with_unreaped : ℕ → Seat → Seat
 with_unreaped n seat = record seat { unreaped = n }
 
--- Attach: a session begins, named by the step's serial; its entity is new in its group, and its weight comes from its priority.
+-- Attach: a session begins, named by the step's serial; its entity is new in its group, of the class that is asked for, and its weight comes
+-- from its priority.
 
--- a new entity in a group: idle, with its times at the first virtual time, and with this weight, in effect and pending (bfq)
-abbrev pub with_entity : Limits → ℕ → ℕ → ℕ → Bfq → Bfq
-with_entity l entity group weight b = record (put_member group entity (record { state = Idle; start = l.first_vtime; finish = l.first_vtime; weight = weight }) b) {
+-- a new entity in a group: of a class, idle, with its times at the first virtual time, and with this weight, in effect and pending (bfq)
+abbrev pub with_entity : Limits → ℕ → ℕ → Class → ℕ → Bfq → Bfq
+with_entity l entity group class weight b = record (put_member group entity (record { class = class; state = Idle; start = l.first_vtime; finish = l.first_vtime; weight = weight }) b) {
   parent = put b.parent entity (Some group);
   pending = put b.pending entity weight;
 }
@@ -147,21 +151,21 @@ with_entity l entity group weight b = record (put_member group entity (record { 
 abbrev pub prio_weight : ℕ → ℕ
 prio_weight prio = (8 - prio) * 10
 
-abbrev pub attached : Limits → Plain → ℕ → ℕ → ℕ → ℕ → Plain
-attached l m n seat group prio = record m {
+abbrev pub attached : Limits → Plain → ℕ → ℕ → ℕ → ℕ → Class → Plain
+attached l m n seat group prio class = record m {
   seat = put m.seat seat (Some (record { session = n; prio = prio; unreaped = 0; leaving = false }));
   head = put m.head seat 0;
-  bfq = record (with_entity l seat group (prio_weight prio) m.bfq) { budget = put m.bfq.budget seat l.first_budget };
+  bfq = record (with_entity l seat group class (prio_weight prio) m.bfq) { budget = put m.bfq.budget seat l.first_budget };
 }
 
-abbrev pub attach : Limits → Plain → ℕ → Bool → ℕ → ℕ → ℕ → Outcome_of
-attach l m n room seat group prio = unless (
+abbrev pub attach : Limits → Plain → ℕ → Bool → ℕ → ℕ → ℕ → Class → Outcome_of
+attach l m n room seat group prio class = unless (
     (nat_le 16 seat, Refused BadSeat)
     ∷ (is_some (m.seat seat), Refused SeatTaken)
     ∷ (not (stands m.bfq group), Refused NoGroup)
     ∷ (nat_lt 7 prio, Refused BadPrio)
     ∷ []) m
-    (accepted room m (attached l m n seat group prio) (Attached n))
+    (accepted room m (attached l m n seat group prio class) (Attached n))
 
 -- Submit: a bio joins a queued request of its seat, or becomes a request of its own at the end of the queue (blk-mq).
 
@@ -494,7 +498,7 @@ requeue_of m room tag issue (Some flight) = unless ((not (flight.issue == issue)
 abbrev pub requeue : Limits → Plain → Bool → ℕ → ℕ → Outcome_of
 requeue l m room tag issue = unless ((nat_le l.tags tag, Refused BadTag) ∷ []) m (requeue_of m room tag issue (m.flight tag))
 
--- GroupMake: a group comes under its parent, with the lowest number that is free (bfq: groups with weights, in a tree).
+-- GroupMake: a group comes under its parent, of the best-effort class, with the lowest number that is free (bfq: groups with weights, in a tree).
 
 -- a weight of a group is 1 to 1000 (bfq)
 abbrev pub is_weight : ℕ → Bool
@@ -506,7 +510,7 @@ free_group b = find (λ group. not (stands b group)) (numbers 1 31)
 abbrev pub made_group : Limits → Plain → Bool → ℕ → ℕ → Option ℕ → Outcome_of
 made_group l m room parent weight None = (m, Refused GroupsFull)
 made_group l m room parent weight (Some group) =
-    accepted room m (record m { bfq = put_vtime group l.first_vtime (with_entity l (entity_of group) parent weight m.bfq) }) (Group group)
+    accepted room m (record m { bfq = put_vtimes group (same_times l.first_vtime) (with_entity l (entity_of group) parent BestEffort weight m.bfq) }) (Group group)
 
 abbrev pub group_make : Limits → Plain → Bool → ℕ → ℕ → Outcome_of
 group_make l m room parent weight = unless (
@@ -561,9 +565,9 @@ with_first_times l b entity =
     then put_member (group_of b entity) entity (record (member_of b entity) { start = l.first_vtime; finish = l.first_vtime }) b
     else b
 
--- of a group the virtual time
+-- of a group the virtual times
 abbrev pub with_first_vtime : Limits → Bfq → ℕ → Bfq
-with_first_vtime l b group = put_vtime group l.first_vtime b
+with_first_vtime l b group = put_vtimes group (same_times l.first_vtime) b
 
 -- this for one number after the other
 abbrev pub for_each : (Bfq → ℕ → Bfq) → Bfq → List ℕ → Bfq
@@ -614,7 +618,7 @@ tick m room = ticked m room m.bfq.slot
 
 -- a step with its serial, on a machine with or without room in its history
 abbrev pub step : Limits → Plain → ℕ → Bool → Step → Outcome_of
-step l m n room (Attach seat group prio) = attach l m n room seat group prio
+step l m n room (Attach seat group prio class) = attach l m n room seat group prio class
 step l m n room (Submit seat session op range payload) = submit l m n room seat session op range payload
 step l m n room (Reap seat session) = reap m room seat session
 step l m n room (Leave seat why) = leave l m room seat

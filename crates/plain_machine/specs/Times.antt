@@ -1,18 +1,19 @@
 -- What no step does to the virtual times of groups: let one fall.
 use Rattle.std.specs.Prelude.{◌≡◌, ℕ, ◌≤◌, Bool, true, false}
+use Rattle.sector_core.specs.declared.class.Class.{Class}
 use Rattle.change_record.specs.Machine.{Bfq, Plain}
 use Rattle.change_record.specs.Rules.{vtime_of, stands}
 use Rattle.plain_machine.specs.declared.step.Step.{Step}
 use Rattle.plain_machine.specs.declared.step.Step.TheVariants.{Attach, Submit, Reap, Leave, Dispatch, Finish, Requeue, GroupMake, GroupDrop, SetWeight, Freeze, Thaw, Switch, Tick}
 use Rattle.plain_machine.specs.Step.{Limits, step}
 
--- no group that stands before and after has a lesser virtual time after (B-WF2Q+: virtual time is monotonic)
+-- no class of a group that stands before and after has a lesser virtual time after (B-WF2Q+: virtual time is monotonic)
 abbrev pub VtimesNeverFall : Bfq → Bfq → Type 0
-VtimesNeverFall before after = (group : ℕ) → stands before group ≡ true → stands after group ≡ true → vtime_of before group ≤ vtime_of after group
+VtimesNeverFall before after = (group : ℕ) (class : Class) → stands before group ≡ true → stands after group ≡ true → vtime_of before group class ≤ vtime_of after group class
 
 -- the step is a Switch, under which all times begin again (our profile)
 abbrev pub is_switch : Step → Bool
-is_switch (Attach seat group prio) = false
+is_switch (Attach seat group prio class) = false
 is_switch (Submit seat session op range payload) = false
 is_switch (Reap seat session) = false
 is_switch (Leave seat why) = false

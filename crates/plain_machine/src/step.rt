@@ -2,7 +2,7 @@
 ghost use Rattle.std.specs.Prelude.{◌≡◌};
 
 use bytes::Bytes;
-use sector_core::{Op, Outcome, Range, Scheduler};
+use sector_core::{Class, Op, Outcome, Range, Scheduler};
 use std::alloc::AllocError;
 
 /// Why a session leaves.
@@ -28,6 +28,7 @@ pub enum Step {
         seat: u8,
         group: u8,
         prio: u8,
+        class: Class,
     },
     /// A session submits a bio.
     Submit {
@@ -92,7 +93,17 @@ impl Clone for Step {
 
     fn clone(&self) -> Result<Step, AllocError> {
         Ok(match *self {
-            Step::Attach { seat, group, prio } => Step::Attach { seat, group, prio },
+            Step::Attach {
+                seat,
+                group,
+                prio,
+                class,
+            } => Step::Attach {
+                seat,
+                group,
+                prio,
+                class,
+            },
             Step::Submit {
                 seat,
                 session,

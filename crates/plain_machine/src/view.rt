@@ -1,5 +1,5 @@
 // What a look at a machine shows.
-use sector_core::Range;
+use sector_core::{Class, Range};
 use service_tree::State;
 
 /// What stands at a place of a seat's queue.
@@ -16,6 +16,8 @@ pub enum RequestView {
 /// What is known of an entity: a session's or a group's.
 #[derive(Clone, Copy)]
 pub struct EntityView {
+    /// Its class.
+    pub class: Class,
     /// Whether it waits for service, is served, or neither.
     pub state: State,
     /// Its start, a virtual time.

@@ -11,7 +11,7 @@ use host_core::Seat;
 use host_rings::{Caller, DeviceSeat};
 use plain_machine::{Answer, DeviceCall, Reply, Work};
 use rtrb::Protocol;
-use sector_core::{Op, Outcome, Range};
+use sector_core::{Class, Op, Outcome, Range};
 use std::alloc::Global;
 use std::sync::Wait;
 use std::thread::{self, Threads};
@@ -165,7 +165,15 @@ fn finished(alloc: Global, work: &Work) -> Option<DeviceCall> {
 fn ask_rounds<R: Wait>(rt: &R, mut seat: Caller, number: u64, rounds: u64, round: Round) -> u64
     requires { IsIdle seat }
 {
-    let Some(attached) = ask_again(rt, &mut seat, ClientCall::Attach { group: 0, prio: 4 }) else {
+    let Some(attached) = ask_again(
+        rt,
+        &mut seat,
+        ClientCall::Attach {
+            group: 0,
+            prio: 4,
+            class: Class::BestEffort,
+        },
+    ) else {
         return 0;
     };
     let session = session_of(&attached);

@@ -3,6 +3,7 @@ use crate::busy::last_caller;
 use crate::opening::opened;
 use crate::rounds::run;
 use host_calls::{ClientCall, OperatorCall};
+use sector_core::Class;
 use std::alloc::Global;
 use std::io::Input;
 use std::sync::Wait;
@@ -20,7 +21,11 @@ pub fn held_until_input_ends<R: Threads + Wait + Input + Copy + Drop + Send + 's
         return None;
     };
     let mut seat = last_caller(&mut callers)?;
-    let _staged = seat.stage(ClientCall::Attach { group: 0, prio: 4 });
+    let _staged = seat.stage(ClientCall::Attach {
+        group: 0,
+        prio: 4,
+        class: Class::BestEffort,
+    });
     let mut lines = 0u64;
     for _ in rt.lines(alloc) {
         lines = lines.wrapping_add(1);

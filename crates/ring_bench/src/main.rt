@@ -32,7 +32,7 @@
 //!
 //! | line | call |
 //! |---|---|
-//! | `attach SEAT GROUP PRIO`, `read SEAT SESSION START COUNT`, `write SEAT SESSION START COUNT BYTE`, `reap SEAT SESSION`, `leave SEAT` | a client's |
+//! | `attach SEAT GROUP PRIO`, `attach SEAT GROUP PRIO CLASS`, `read SEAT SESSION START COUNT`, `write SEAT SESSION START COUNT BYTE`, `reap SEAT SESSION`, `leave SEAT` | a client's |
 //! | `take WORKER`, `requeue TAG ISSUE`, `finish TAG ISSUE stored\|short\|fault\|fill BYTE` | a device's; `fill` is as long as the work that was taken last |
 //! | `device N` | none: the device's calls that follow are those of this one, where they were those of device 1 |
 //! | `hold`, `release`, `undo K`, `redo K`, `freeze`, `thaw`, `switch NAME`, `group PARENT WEIGHT`, `drop GROUP`, `weight GROUP WEIGHT`, `tick`, `stop` | the operator's |

@@ -11,6 +11,7 @@ use crate::settling::settle_all;
 use host_calls::{ClientCall, OperatorCall};
 use host_rings::{Caller, Core, OperatorSeat};
 use plain_machine::Answer;
+use sector_core::Class;
 use std::alloc::Global;
 use std::sync::Wait;
 use std::thread::{self, Threads};
@@ -48,7 +49,14 @@ fn ask_all<R: Wait>(rt: &R, mut seat: Caller, asks: u64) -> Asked
     let mut answered = 0u64;
     let mut accepted = 0u64;
     for _ in 0..asks {
-        if let Ok(answer) = seat.ask(rt, ClientCall::Attach { group: 0, prio: 4 }) {
+        if let Ok(answer) = seat.ask(
+            rt,
+            ClientCall::Attach {
+                group: 0,
+                prio: 4,
+                class: Class::BestEffort,
+            },
+        ) {
             answered = answered.wrapping_add(1);
             if was_accepted(&answer) {
                 accepted = accepted.wrapping_add(1);

@@ -4,7 +4,7 @@ use host_calls::{ClientCall, OperatorCall};
 use host_rings::{Caller, Core, DeviceSeat, OperatorSeat, host};
 use plain_machine::{DeviceCall, Why};
 use script_line::{Ending, Line, line_of, number};
-use sector_core::{Config, ConfigDraft, FailKind, Op, Outcome, Range};
+use sector_core::{Class, Config, ConfigDraft, FailKind, Op, Outcome, Range};
 use std::alloc::{AllocError, Global};
 
 /// Its core and its seats.
@@ -123,19 +123,22 @@ fn number_after(word: &[u8], text: &[u8]) -> Option<u8> {
 // The number of a client's seat, and its call.
 fn client_call(alloc: Global, line: Line) -> Result<Option<(u8, ClientCall)>, AllocError> {
     Ok(match line {
-        Line::Attach { seat, group, prio } => Some((seat, ClientCall::Attach { group, prio })),
+        Line::Attach { seat, group, prio } => Some((seat, attach(group, prio, Class::BestEffort))),
+        Line::ClassAttach {
+            seat,
+            group,
+            prio,
+            class,
+        } => Some((seat, attach(group, prio, class))),
         Line::Read {
             seat,
             session,
             start,
             count,
-        } => {
-            let range = Range {
-                start,
-                count: u32::from(count),
-            };
-            Some((seat, submit(session, Op::Fetch, range, Bytes::new())))
-        }
+        } => Some((
+            seat,
+            submit(session, Op::Fetch, range_of(start, count), Bytes::new()),
+        )),
         Line::Write {
             seat,
             session,
@@ -143,10 +146,7 @@ fn client_call(alloc: Global, line: Line) -> Result<Option<(u8, ClientCall)>, Al
             count,
             byte,
         } => {
-            let range = Range {
-                start,
-                count: u32::from(count),
-            };
+            let range = range_of(start, count);
             let payload = filled(alloc, range.count, byte)?;
             Some((seat, submit(session, Op::Store, range, payload)))
         }
@@ -154,6 +154,17 @@ fn client_call(alloc: Global, line: Line) -> Result<Option<(u8, ClientCall)>, Al
         Line::Leave { seat } => Some((seat, ClientCall::Leave { why: Why::Ended })),
         _ => None,
     })
+}
+
+fn attach(group: u8, prio: u8, class: Class) -> ClientCall {
+    ClientCall::Attach { group, prio, class }
+}
+
+fn range_of(start: u64, count: u16) -> Range {
+    Range {
+        start,
+        count: u32::from(count),
+    }
 }
 
 fn submit(session: u64, op: Op, range: Range, payload: Bytes) -> ClientCall {

@@ -3,6 +3,7 @@ use Rattle.std.proofs.Common.{◌≡◌, ℕ, zero, suc, ◌+◌, ◌-◌, ◌<�
 use Rattle.std.specs.Prelude.{Result, Ok, Err, OnOk}
 use Rattle.std.specs.List.{flat_map}
 use Rattle.std.proofs.lemmas.List.Concat.{flat_map-cons}
+use Rattle.sector_core.specs.declared.class.Class.{Class}
 use Rattle.soft_queue.specs.Turn.{numbers}
 use Rattle.change_record.specs.Machine.{Bfq, Plain}
 use Rattle.group_tree.specs.Groups.{has_entity}
@@ -70,10 +71,10 @@ on_ok (Ok x) f p = f p
 on_ok (Err e) f p = tt
 
 -- what a group's virtual time tells: the group stands
-pub stands_of : (m : Plain) (group v : ℕ) → Some v ≡ vtime_view m group → (stands m.bfq group ≡ true) × (v ≡ vtime_of m.bfq group)
-stands_of m group v e =
-    elim (stands m.bfq group) as (λ b. Some v ≡ cond b (Some (vtime_of m.bfq group)) None → (b ≡ true) × (v ≡ vtime_of m.bfq group)) [
-      | true ↦ λ h. let same : v ≡ vtime_of m.bfq group = cc in (refl, same)
+pub stands_of : (m : Plain) (group : ℕ) (class : Class) (v : ℕ) → Some v ≡ vtime_view m group class → (stands m.bfq group ≡ true) × (v ≡ vtime_of m.bfq group class)
+stands_of m group class v e =
+    elim (stands m.bfq group) as (λ b. Some v ≡ cond b (Some (vtime_of m.bfq group class)) None → (b ≡ true) × (v ≡ vtime_of m.bfq group class)) [
+      | true ↦ λ h. let same : v ≡ vtime_of m.bfq group class = cc in (refl, same)
       | false ↦ λ h. cc
     ] e
 

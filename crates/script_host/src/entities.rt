@@ -9,11 +9,11 @@ ghost use Rattle.dispatch_core.specs.Running.{plain_of};
 ghost use Rattle.plain_machine.specs.Step.{is_in};
 ghost use Rattle.overlay.specs.Runs.{IsNextRun};
 ghost use Rattle.host_console.specs.Texts.{state_text};
-ghost use Rattle.host_console.specs.Views.{service_look, known_text, member_text, parent_text, tree_look, stored_look};
+ghost use Rattle.host_console.specs.Views.{service_look, other_class_text, known_text, member_text, parent_text, tree_look, stored_look};
 
 use change_record::InService;
 use dispatch_core::{EntityView, View};
-use sector_core::{Entity, Range};
+use sector_core::{Class, Entity, Range};
 use service_tree::State;
 use std::io::{self, Write};
 
@@ -38,7 +38,7 @@ pub fn put_service(view: &View<'_>, out: &mut Vec<u8>) -> io::Result<()>
 pub fn put_tree(view: &View<'_>, group: u8, out: &mut Vec<u8>) -> io::Result<()>
     ensures { OnOk result (out.new.items ≡ out.old.items ++ tree_look (plain_of view.now) group) }
 {
-    let Some(vtime) = view.vtime(group) else {
+    let Some(vtime) = view.vtime(group, Class::BestEffort) else {
         return write!(out, "tree {group} none");
     };
     put_head(group, parent_of(view, group), vtime, out)?;
@@ -56,7 +56,7 @@ fn parent_of(view: &View<'_>, group: u8) -> Option<u8>
     view.parent(16 + group)
 }
 
-// Appends a group with the one that it is in, and its virtual time.
+// Appends a group with the one that it is in, and its best effort time.
 fn put_head(group: u8, parent: Option<u8>, vtime: u64, out: &mut Vec<u8>) -> io::Result<()>
     ensures { OnOk result (out.new.items ≡ out.old.items ++ (codes "tree " ++ (decimal group ++ 32 ∷ (parent_text parent ++ 32 ∷ decimal vtime)))) }
 {
@@ -104,6 +104,7 @@ fn put_known(entity: Entity, known: EntityView, pending: u32, out: &mut Vec<u8>)
     ensures { OnOk result (out.new.items ≡ out.old.items ++ known_text entity known pending) }
 {
     let EntityView {
+        class,
         state,
         start,
         finish,
@@ -111,7 +112,22 @@ fn put_known(entity: Entity, known: EntityView, pending: u32, out: &mut Vec<u8>)
         ..
     } = known;
     let word = state_word(state);
-    write!(out, " {entity}:{word}:{start}:{finish}:{weight}:{pending}")
+    let end = other_class(class);
+    write!(
+        out,
+        " {entity}:{word}:{start}:{finish}:{weight}:{pending}{end}"
+    )
+}
+
+// The class of a member after a colon, if it is not best effort.
+fn other_class(class: Class) -> &'static str
+    ensures { result.now ≡ other_class_text class }
+{
+    match class {
+        Class::RealTime => ":rt",
+        Class::BestEffort => "",
+        Class::Idle => ":idle",
+    }
 }
 
 // The word for a state.

@@ -6,6 +6,7 @@ use history::Keeper;
 use host_console::{Content, Keeps};
 use plain_machine::{Answer, Call, EntityView, RequestView, Work};
 use script_line::Look;
+use sector_core::Class;
 use std::alloc::Global;
 use std::io;
 
@@ -42,8 +43,8 @@ impl Keeps for Host {
         self.keeper.view().machine().request(seat, place)
     }
 
-    fn vtime(&self, group: u8) -> Option<u64> {
-        self.keeper.view().machine().vtime(group)
+    fn vtime(&self, group: u8, class: Class) -> Option<u64> {
+        self.keeper.view().machine().vtime(group, class)
     }
 
     fn entity(&self, number: u8) -> Option<EntityView> {

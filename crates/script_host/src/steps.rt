@@ -2,11 +2,11 @@
 ghost use Rattle.std.specs.Prelude.{◌≡◌, ◌++◌, Some, OnOk};
 ghost use Rattle.sector_text.specs.Hex.{all_are};
 ghost use Rattle.host_console.specs.Views.{scheduler_text};
-ghost use Rattle.host_console.specs.Looks.{fill_text, outcome_text, line_text, step_look, IsSetting};
+ghost use Rattle.host_console.specs.Looks.{fill_text, outcome_text, class_end, line_text, step_look, IsSetting};
 
 use dispatch_core::Step;
 use plain_machine::Stamped;
-use sector_core::{FailKind, Op, Outcome, Range, Scheduler};
+use sector_core::{Class, FailKind, Op, Outcome, Range, Scheduler};
 use std::io::{self, Write};
 
 /// Appends a step of the line under its number. It fails only for want of memory.
@@ -23,7 +23,15 @@ fn put_line(step: &Step, out: &mut Vec<u8>) -> io::Result<()>
     ensures { OnOk result (out.new.items ≡ out.old.items ++ line_text step.now) }
 {
     match step {
-        Step::Attach { seat, group, prio } => write!(out, "attach {seat} {group} {prio}"),
+        Step::Attach {
+            seat,
+            group,
+            prio,
+            class,
+        } => {
+            let end = class_end(*class);
+            write!(out, "attach {seat} {group} {prio}{end}")
+        }
         Step::Submit {
             seat,
             session,
@@ -44,6 +52,17 @@ fn put_line(step: &Step, out: &mut Vec<u8>) -> io::Result<()>
         }
         Step::Requeue { tag, issue } => write!(out, "requeue {tag} {issue}"),
         _ => put_setting(step, out),
+    }
+}
+
+// What follows the numbers of an `attach` line: the class, if it is not best effort.
+fn class_end(class: Class) -> &'static str
+    ensures { result.now ≡ class_end class }
+{
+    match class {
+        Class::RealTime => " rt",
+        Class::BestEffort => "",
+        Class::Idle => " idle",
     }
 }
 

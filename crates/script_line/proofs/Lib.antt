@@ -3,6 +3,7 @@ pub mod Cuts
 pub mod Decimals
 pub mod Finishes
 pub mod Looks
+pub mod Named
 pub mod Plains
 pub mod Same
 pub mod Ends

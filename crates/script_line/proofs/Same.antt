@@ -4,9 +4,9 @@ use Rattle.script_line.specs.Words.{numbers}
 use Rattle.script_line.specs.Line.{spelled, ended, Fits, EndingFits}
 use Rattle.script_line.specs.Look.{shown, LookFits}
 use Rattle.std.specs.Prelude.{Option, None, Some}
-use Rattle.script_line.specs.Plain.{IsWordAndNumbers, Reads, FitsOrNone}
+use Rattle.script_line.specs.Plain.{IsWordAndNumbers, IsClassed, Reads, FitsOrNone}
 use Rattle.script_line.specs.declared.line.Line.{Line}
-use Rattle.script_line.specs.declared.line.Line.TheVariants.{Attach, Read, Write, Reap, Leave, Dispatch, Finish, Work, Requeue, Hold, Release, Undo, Redo, Group, Drop, Weight, Freeze, Thaw, Switch, Tick, Sector, Queue, Cursor, Vtime, Entity, Show}
+use Rattle.script_line.specs.declared.line.Line.TheVariants.{Attach, ClassAttach, Read, Write, Reap, Leave, Dispatch, Finish, Work, Requeue, Hold, Release, Undo, Redo, Group, Drop, Weight, Freeze, Thaw, Switch, Tick, Sector, Queue, Cursor, Vtime, ClassVtime, Entity, Class, Show}
 use Rattle.script_line.specs.declared.look.Look.{Look}
 use Rattle.script_line.specs.declared.line.Ending.{Ending}
 use Rattle.script_line.specs.declared.line.Ending.TheVariants.{Stored, Fill, Short, Fault}
@@ -15,11 +15,13 @@ use Rattle.sector_core.specs.declared.config.Scheduler.TheVariants.{Plain, Bfq}
 use Rattle.script_line.proofs.Cuts.{mark, one_cut, one_numbers, IsTail-numbers}
 use Rattle.std.specs.Fmt.{decimal}
 use Rattle.script_line.proofs.Finishes.{first_number, two_numbers, IsTail-ended}
-use Rattle.script_line.proofs.Plains.{IsLeader, IsOther, parts}
+use Rattle.script_line.proofs.Plains.{IsLeader, IsOther, PlainParts, LedParts, NamedParts, parts}
 use Rattle.script_line.proofs.Looks.{one_look}
+use Rattle.script_line.proofs.Named.{ended_by, no_class_after, one_class_line}
 
 abbrev word_of : Line → List ℕ
 word_of (Attach s g p) = codes "attach"
+word_of (ClassAttach s g p c) = codes "attach"
 word_of (Read s n a c) = codes "read"
 word_of (Write s n a c b) = codes "write"
 word_of (Reap s n) = codes "reap"
@@ -43,13 +45,17 @@ word_of (Sector n) = codes "sector"
 word_of (Queue s) = codes "queue"
 word_of Cursor = codes "line"
 word_of (Vtime g) = codes "vtime"
+word_of (ClassVtime g c) = codes "vtime"
 word_of (Entity n) = codes "entity"
+word_of (Class n) = codes "class"
 word_of (Show look) = codes "show"
 
 word_is : (w ns : List ℕ) (l : Line) → IsWordAndNumbers w ns l → w ≡ word_of l
 word_is w ns (Finish t i e) h = absurd h
 word_is w ns (Switch s) h = absurd h
 word_is w ns (Show look) h = absurd h
+word_is w ns (ClassAttach s g p c) h = absurd h
+word_is w ns (ClassVtime g c) h = absurd h
 word_is w ns _ h = h.0
 
 -- a line that is a word and numbers begins with none of `finish`, `switch` and `show`
@@ -57,6 +63,8 @@ not_led : (w ns : List ℕ) (l : Line) → IsWordAndNumbers w ns l → IsLeader 
 not_led w ns (Finish t i e) h k = h
 not_led w ns (Switch s) h k = h
 not_led w ns (Show look) h k = h
+not_led w ns (ClassAttach s g p c) h k = h
+not_led w ns (ClassVtime g c) h k = h
 not_led w ns _ h (inl k) = omega (arith, ap mark (sym h.0 ∙ k))
 not_led w ns _ h (inr (inl k)) = omega (arith, ap mark (sym h.0 ∙ k))
 not_led w ns _ h (inr (inr k)) = omega (arith, ap mark (sym h.0 ∙ k))
@@ -110,7 +118,11 @@ one_plain w ns (Vtime g) (Vtime g') one two = let same : g ∷ [] ≡ g' ∷ [] 
 one_plain w ns (Vtime g) m one two = absurd (omega (arith, ap mark (sym one.0 ∙ word_is w ns m two)))
 one_plain w ns (Entity n) (Entity n') one two = let same : n ∷ [] ≡ n' ∷ [] = sym one.1 ∙ two.1 in cc
 one_plain w ns (Entity n) m one two = absurd (omega (arith, ap mark (sym one.0 ∙ word_is w ns m two)))
+one_plain w ns (Class n) (Class n') one two = let same : n ∷ [] ≡ n' ∷ [] = sym one.1 ∙ two.1 in cc
+one_plain w ns (Class n) m one two = absurd (omega (arith, ap mark (sym one.0 ∙ word_is w ns m two)))
 one_plain w ns (Show look) m one two = absurd one
+one_plain w ns (ClassAttach s g p c) m one two = absurd one
+one_plain w ns (ClassVtime g c) m one two = absurd one
 
 -- the line that these words and numbers are, where its numbers fit, is what they are read to
 pub reads_fitted : (w ns : List ℕ) (line : Line) (found : Option Line) → IsWordAndNumbers w ns line → FitsOrNone line found → Reads w ns found
@@ -190,24 +202,65 @@ one_other l m (inr (inr a)) (inr (inr b)) f g same =
     let both : spelled (Show a.0) ≡ spelled (Show b.0) = ap spelled (sym a.1) ∙ same ∙ ap spelled b.1 in
     a.1 ∙ one_show a.0 b.0 (subst F a.1 f) (subst F b.1 g) both ∙ sym b.1
 
+-- a line that ends in a class begins with none of `finish`, `switch` and `show`
+named_not_led : (w t : List ℕ) (l : Line) → IsClassed w t l → IsLeader w → ⊥
+named_not_led w t (ClassAttach s g p c) h (inl k) = omega (arith, ap mark (sym h.0 ∙ k))
+named_not_led w t (ClassAttach s g p c) h (inr (inl k)) = omega (arith, ap mark (sym h.0 ∙ k))
+named_not_led w t (ClassAttach s g p c) h (inr (inr k)) = omega (arith, ap mark (sym h.0 ∙ k))
+named_not_led w t (ClassVtime g c) h (inl k) = omega (arith, ap mark (sym h.0 ∙ k))
+named_not_led w t (ClassVtime g c) h (inr (inl k)) = omega (arith, ap mark (sym h.0 ∙ k))
+named_not_led w t (ClassVtime g c) h (inr (inr k)) = omega (arith, ap mark (sym h.0 ∙ k))
+named_not_led w t _ h k = h
+
+-- No two lines of different kinds are spelled alike.
+
+plain_or_led : (l m : Line) → PlainParts l → LedParts m → spelled l ≡ spelled m → ⊥
+plain_or_led l m p q same =
+    let both : p.0 ++ numbers p.1 ≡ q.0 ++ q.1 = sym p.2.spelling ∙ same ∙ q.2.spelling in
+    let word_is : p.0 ≡ q.0 = (one_cut p.0 q.0 (numbers p.1) q.1 p.2.space q.2.space (IsTail-numbers p.1) q.2.tail both).0 in
+    not_led q.0 p.1 l (p.2.is q.0 p.1 (sym word_is) refl) q.2.known
+
+plain_or_named : (l m : Line) → PlainParts l → NamedParts m → Fits m → spelled l ≡ spelled m → ⊥
+plain_or_named l m p q g same =
+    let both : p.0 ++ numbers p.1 ≡ q.0 ++ q.1 = sym p.2.spelling ∙ same ∙ q.2.spelling in
+    let cuts = one_cut p.0 q.0 (numbers p.1) q.1 p.2.space q.2.space (IsTail-numbers p.1) q.2.tail both in
+    let ends = ended_by q.0 q.1 m g (q.2.is q.0 q.1 refl refl) in
+    no_class_after p.1 ends.given ends.named p.2.fits ends.fits (cuts.1 ∙ ends.ending)
+
+led_or_named : (l m : Line) → LedParts l → NamedParts m → spelled l ≡ spelled m → ⊥
+led_or_named l m p q same =
+    let both : p.0 ++ p.1 ≡ q.0 ++ q.1 = sym p.2.spelling ∙ same ∙ q.2.spelling in
+    let cuts = one_cut p.0 q.0 p.1 q.1 p.2.space q.2.space p.2.tail q.2.tail both in
+    named_not_led p.0 p.1 m (q.2.is p.0 p.1 cuts.0 cuts.1) p.2.known
+
+both_plain : (l m : Line) → PlainParts l → PlainParts m → spelled l ≡ spelled m → l ≡ m
+both_plain l m p q same =
+    let both : p.0 ++ numbers p.1 ≡ q.0 ++ numbers q.1 = sym p.2.spelling ∙ same ∙ q.2.spelling in
+    let cuts = one_cut p.0 q.0 (numbers p.1) (numbers q.1) p.2.space q.2.space (IsTail-numbers p.1) (IsTail-numbers q.1) both in
+    one_plain p.0 p.1 l m (p.2.is p.0 p.1 refl refl) (q.2.is p.0 p.1 cuts.0 (one_numbers p.1 q.1 p.2.fits q.2.fits cuts.1))
+
+both_named : (l m : Line) → NamedParts l → NamedParts m → Fits l → Fits m → spelled l ≡ spelled m → l ≡ m
+both_named l m p q f g same =
+    let both : p.0 ++ p.1 ≡ q.0 ++ q.1 = sym p.2.spelling ∙ same ∙ q.2.spelling in
+    let cuts = one_cut p.0 q.0 p.1 q.1 p.2.space q.2.space p.2.tail q.2.tail both in
+    one_class_line p.0 p.1 l m f g (p.2.is p.0 p.1 refl refl) (q.2.is p.0 p.1 cuts.0 cuts.1)
+
 pub one_spelling : (l m : Line) → Fits l → Fits m → spelled l ≡ spelled m → l ≡ m
 one_spelling l m f g same =
     elim (parts l f) [
       | inl p ↦ elim (parts m g) [
-        | inl q ↦
-            let both : p.0 ++ numbers p.1 ≡ q.0 ++ numbers q.1 = sym p.2.spelling ∙ same ∙ q.2.spelling in
-            let cuts = one_cut p.0 q.0 (numbers p.1) (numbers q.1) p.2.space q.2.space (IsTail-numbers p.1) (IsTail-numbers q.1) both in
-            one_plain p.0 p.1 l m (p.2.is p.0 p.1 refl refl) (q.2.is p.0 p.1 cuts.0 (one_numbers p.1 q.1 p.2.fits q.2.fits cuts.1))
-        | inr q ↦
-            let both : p.0 ++ numbers p.1 ≡ q.0 ++ q.1 = sym p.2.spelling ∙ same ∙ q.2.spelling in
-            let word_is : p.0 ≡ q.0 = (one_cut p.0 q.0 (numbers p.1) q.1 p.2.space q.2.space (IsTail-numbers p.1) q.2.tail both).0 in
-            absurd (not_led q.0 p.1 l (p.2.is q.0 p.1 (sym word_is) refl) q.2.known)
+        | inl q ↦ both_plain l m p q same
+        | inr (inl q) ↦ absurd (plain_or_led l m p q same)
+        | inr (inr q) ↦ absurd (plain_or_named l m p q g same)
       ]
-      | inr p ↦ elim (parts m g) [
-        | inl q ↦
-            let both : q.0 ++ numbers q.1 ≡ p.0 ++ p.1 = sym q.2.spelling ∙ sym same ∙ p.2.spelling in
-            let word_is : q.0 ≡ p.0 = (one_cut q.0 p.0 (numbers q.1) p.1 q.2.space p.2.space (IsTail-numbers q.1) p.2.tail both).0 in
-            absurd (not_led p.0 q.1 m (q.2.is p.0 q.1 (sym word_is) refl) p.2.known)
-        | inr q ↦ one_other l m p.2.other q.2.other f g same
+      | inr (inl p) ↦ elim (parts m g) [
+        | inl q ↦ absurd (plain_or_led m l q p (sym same))
+        | inr (inl q) ↦ one_other l m p.2.other q.2.other f g same
+        | inr (inr q) ↦ absurd (led_or_named l m p q same)
+      ]
+      | inr (inr p) ↦ elim (parts m g) [
+        | inl q ↦ absurd (plain_or_named m l q p f (sym same))
+        | inr (inl q) ↦ absurd (led_or_named m l q p (sym same))
+        | inr (inr q) ↦ both_named l m p q f g same
       ]
     ]

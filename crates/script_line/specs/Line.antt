@@ -2,10 +2,10 @@
 use Rattle.std.specs.Prelude.{ℕ, ◌<◌, ◌^◌, List, [], ◌∷◌, ◌++◌, codes}
 use Rattle.sector_core.specs.declared.config.Scheduler.{Scheduler}
 use Rattle.sector_core.specs.declared.config.Scheduler.TheVariants.{Plain, Bfq}
-use Rattle.script_line.specs.Words.{numbers}
+use Rattle.script_line.specs.Words.{numbers, class_named}
 use Rattle.script_line.specs.Look.{shown, LookFits}
 use Rattle.script_line.specs.declared.line.Line.{Line}
-use Rattle.script_line.specs.declared.line.Line.TheVariants.{Attach, Read, Write, Reap, Leave, Dispatch, Finish, Work, Requeue, Hold, Release, Undo, Redo, Group, Drop, Weight, Freeze, Thaw, Switch, Tick, Sector, Queue, Cursor, Vtime, Entity, Show}
+use Rattle.script_line.specs.declared.line.Line.TheVariants.{Attach, ClassAttach, Read, Write, Reap, Leave, Dispatch, Finish, Work, Requeue, Hold, Release, Undo, Redo, Group, Drop, Weight, Freeze, Thaw, Switch, Tick, Sector, Queue, Cursor, Vtime, ClassVtime, Entity, Class, Show}
 use Rattle.script_line.specs.declared.line.Ending.{Ending}
 use Rattle.script_line.specs.declared.line.Ending.TheVariants.{Stored, Fill, Short, Fault}
 
@@ -24,6 +24,7 @@ named Bfq = codes " bfq"
 -- the bytes of a line
 abbrev pub spelled : Line → List ℕ
 spelled (Attach seat group prio) = codes "attach" ++ numbers (seat ∷ group ∷ prio ∷ [])
+spelled (ClassAttach seat group prio class) = codes "attach" ++ (numbers (seat ∷ group ∷ prio ∷ []) ++ class_named class)
 spelled (Read seat session start count) = codes "read" ++ numbers (seat ∷ session ∷ start ∷ count ∷ [])
 spelled (Write seat session start count byte) = codes "write" ++ numbers (seat ∷ session ∷ start ∷ count ∷ byte ∷ [])
 spelled (Reap seat session) = codes "reap" ++ numbers (seat ∷ session ∷ [])
@@ -47,7 +48,9 @@ spelled (Sector number) = codes "sector" ++ numbers (number ∷ [])
 spelled (Queue seat) = codes "queue" ++ numbers (seat ∷ [])
 spelled Cursor = codes "line"
 spelled (Vtime group) = codes "vtime" ++ numbers (group ∷ [])
+spelled (ClassVtime group class) = codes "vtime" ++ (numbers (group ∷ []) ++ class_named class)
 spelled (Entity number) = codes "entity" ++ numbers (number ∷ [])
+spelled (Class number) = codes "class" ++ numbers (number ∷ [])
 spelled (Show look) = codes "show" ++ shown look
 
 -- the byte of an ending is a byte
@@ -60,6 +63,7 @@ EndingFits Fault = Unit {0}
 -- each number of a line is within its type
 abbrev pub Fits : Line → Type 0
 Fits (Attach seat group prio) = (seat < 2 ^ 8) × (group < 2 ^ 8) × (prio < 2 ^ 8)
+Fits (ClassAttach seat group prio class) = (seat < 2 ^ 8) × (group < 2 ^ 8) × (prio < 2 ^ 8)
 Fits (Read seat session start count) = (seat < 2 ^ 8) × (session < 2 ^ 64) × (start < 2 ^ 64) × (count < 2 ^ 16)
 Fits (Write seat session start count byte) = (seat < 2 ^ 8) × (session < 2 ^ 64) × (start < 2 ^ 64) × (count < 2 ^ 16) × (byte < 2 ^ 8)
 Fits (Reap seat session) = (seat < 2 ^ 8) × (session < 2 ^ 64)
@@ -83,5 +87,7 @@ Fits (Sector number) = number < 2 ^ 64
 Fits (Queue seat) = seat < 2 ^ 8
 Fits Cursor = Unit {0}
 Fits (Vtime group) = group < 2 ^ 8
+Fits (ClassVtime group class) = group < 2 ^ 8
 Fits (Entity number) = number < 2 ^ 8
+Fits (Class number) = number < 2 ^ 8
 Fits (Show look) = LookFits look

@@ -1,6 +1,8 @@
 -- Words and numbers of a line of a script.
-use Rattle.std.specs.Prelude.{◌≡◌, ◌≢◌, ℕ, ◌<◌, ◌^◌, List, [], ◌∷◌, ◌++◌, length, slice_index}
+use Rattle.std.specs.Prelude.{◌≡◌, ◌≢◌, ℕ, ◌<◌, ◌^◌, List, [], ◌∷◌, ◌++◌, length, codes, slice_index}
 use Rattle.std.specs.Fmt.{decimal}
+use Rattle.sector_core.specs.declared.class.Class.{Class}
+use Rattle.sector_core.specs.declared.class.Class.TheVariants.{RealTime, BestEffort, Idle}
 
 -- each number in decimal, after one space
 abbrev pub numbers : List ℕ → List ℕ
@@ -25,3 +27,9 @@ IsTail (c ∷ cs) = c ≡ 32
 -- a word that is not empty, with no plus and no leading zero
 abbrev pub IsPlain : List ℕ → Type 0
 IsPlain word = (0 < length word) × (slice_index word 0 ≢ 43) × (slice_index word 0 ≡ 48 → length word ≡ 1)
+
+-- the name of a class, after one space (our profile)
+abbrev pub class_named : Class → List ℕ
+class_named RealTime = codes " rt"
+class_named BestEffort = codes " be"
+class_named Idle = codes " idle"

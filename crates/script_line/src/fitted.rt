@@ -2,6 +2,7 @@
 ghost use Rattle.script_line.specs.Plain.{FitsOrNone};
 
 use super::line::Line;
+use sector_core::Class;
 
 /// `attach SEAT GROUP PRIO`
 pub fn attach(seat: u64, group: u64, prio: u64) -> Option<Line>
@@ -9,6 +10,21 @@ pub fn attach(seat: u64, group: u64, prio: u64) -> Option<Line>
 {
     match (u8::try_from(seat), u8::try_from(group), u8::try_from(prio)) {
         (Ok(seat), Ok(group), Ok(prio)) => Some(Line::Attach { seat, group, prio }),
+        _ => None,
+    }
+}
+
+/// `attach SEAT GROUP PRIO CLASS`
+pub fn class_attach(seat: u64, group: u64, prio: u64, class: Class) -> Option<Line>
+    ensures { FitsOrNone (Line.ClassAttach seat group prio class) result }
+{
+    match (u8::try_from(seat), u8::try_from(group), u8::try_from(prio)) {
+        (Ok(seat), Ok(group), Ok(prio)) => Some(Line::ClassAttach {
+            seat,
+            group,
+            prio,
+            class,
+        }),
         _ => None,
     }
 }
@@ -154,12 +170,32 @@ pub fn vtime(group: u64) -> Option<Line>
     }
 }
 
+/// `vtime GROUP CLASS`
+pub fn class_vtime(group: u64, class: Class) -> Option<Line>
+    ensures { FitsOrNone (Line.ClassVtime group class) result }
+{
+    match u8::try_from(group) {
+        Ok(group) => Some(Line::ClassVtime { group, class }),
+        Err(_) => None,
+    }
+}
+
 /// `entity N`
 pub fn entity(number: u64) -> Option<Line>
     ensures { FitsOrNone (Line.Entity number) result }
 {
     match u8::try_from(number) {
         Ok(number) => Some(Line::Entity { number }),
+        Err(_) => None,
+    }
+}
+
+/// `class N`
+pub fn class_of(number: u64) -> Option<Line>
+    ensures { FitsOrNone (Line.Class number) result }
+{
+    match u8::try_from(number) {
+        Ok(number) => Some(Line::Class { number }),
         Err(_) => None,
     }
 }

@@ -29,6 +29,7 @@
 //! ```
 
 mod byte;
+mod classed;
 mod console;
 mod decimal;
 mod ended;

@@ -1,15 +1,22 @@
 // The lines of a script.
 use super::look::Look;
-use sector_core::Scheduler;
+use sector_core::{Class, Scheduler};
 
 /// A line of a script that is not empty and no comment.
 #[derive(Clone, Copy, PartialEq, Eq)]
 pub enum Line {
-    /// `attach SEAT GROUP PRIO`
+    /// `attach SEAT GROUP PRIO`, of best effort
     Attach {
         seat: u8,
         group: u8,
         prio: u8,
+    },
+    /// `attach SEAT GROUP PRIO CLASS`
+    ClassAttach {
+        seat: u8,
+        group: u8,
+        prio: u8,
+        class: Class,
     },
     /// `read SEAT SESSION START COUNT`
     Read {
@@ -99,12 +106,21 @@ pub enum Line {
     },
     /// `line`, a query
     Cursor,
-    /// `vtime GROUP`, a query
+    /// `vtime GROUP`, a query, of best effort
     Vtime {
         group: u8,
     },
+    /// `vtime GROUP CLASS`, a query
+    ClassVtime {
+        group: u8,
+        class: Class,
+    },
     /// `entity N`, a query
     Entity {
+        number: u8,
+    },
+    /// `class N`, a query
+    Class {
         number: u8,
     },
     /// `show` and what is to be shown, a query

@@ -4,8 +4,8 @@ ghost use Rattle.script_line.specs.Words.{AreNumbers};
 ghost use Rattle.script_line.specs.Plain.{Reads};
 
 use super::fitted::{
-    attach, drop_group, entity, group, leave, queue, read, reap, redo, requeue, undo, vtime,
-    weight, work, write,
+    attach, class_of, drop_group, entity, group, leave, queue, read, reap, redo, requeue, undo,
+    vtime, weight, work, write,
 };
 use super::line::Line;
 
@@ -66,6 +66,8 @@ fn with_one(word: &[u8], a: u64) -> Option<Line>
         entity(a)
     } else if word == b"leave".as_slice() {
         leave(a)
+    } else if word == b"class".as_slice() {
+        class_of(a)
     } else {
         None
     }

@@ -2,6 +2,7 @@
 ghost use Rattle.std.specs.Prelude.{◌≡◌, IfSome, IfNone};
 ghost use Rattle.script_line.specs.Line.{spelled, Fits};
 
+use super::classed::classed;
 use super::fields::{cut, number_fields};
 use super::finish::finish;
 use super::line::Line;
@@ -26,6 +27,6 @@ pub fn line_of(text: &[u8]) -> Option<Line>
     }
     match number_fields(rest) {
         Some(given) => plain_line(word, given.as_slice()),
-        None => None,
+        None => classed(word, rest),
     }
 }

@@ -9,6 +9,7 @@
 
 mod bio;
 mod block;
+mod class;
 mod config;
 mod memory;
 mod range;
@@ -16,6 +17,7 @@ mod table;
 
 pub use bio::{Bio, BioResult, Entity, FailKind, Op, Outcome, Slot};
 pub use block::{Block, SECTOR_BYTES};
+pub use class::Class;
 pub use config::{Config, ConfigDraft, ConfigFault, Scheduler};
 pub use memory::OutOfMemory;
 pub use range::Range;

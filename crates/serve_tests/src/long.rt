@@ -4,7 +4,7 @@ use bytes::Bytes;
 use failing_io::{Narrow, Pieces};
 use history::{Call, ClientCall, Closed, Keeper};
 use plain_machine::{Answer, Reply, Step};
-use sector_core::{ConfigDraft, Op, Outcome, Range};
+use sector_core::{Class, ConfigDraft, Op, Outcome, Range};
 use session_proto::{Asks, EndCause, serve};
 use session_solo::Solo;
 use std::alloc::Global;
@@ -25,7 +25,11 @@ fn opened(alloc: Global) -> Result<Solo, Fail> {
 // A keeper with a read of 64 sectors that is completed, as bio 2 of session 1.
 fn completed(alloc: Global) -> Result<Solo, Fail> {
     let mut solo = opened(alloc)?;
-    let attach = ClientCall::Attach { group: 0, prio: 4 };
+    let attach = ClientCall::Attach {
+        group: 0,
+        prio: 4,
+        class: Class::BestEffort,
+    };
     let read = ClientCall::Submit {
         session: 1,
         op: Op::Fetch,
@@ -88,7 +92,14 @@ fn told(answer: &Result<Answer, Closed>) -> u64 {
 fn asked(alloc: Global) -> Result<(u64, u64, u64), Fail> {
     let mut solo = opened(alloc)?;
     let first = told(&solo.ask(alloc, ClientCall::Reap { session: 7 }));
-    let second = told(&solo.ask(alloc, ClientCall::Attach { group: 0, prio: 4 }));
+    let second = told(&solo.ask(
+        alloc,
+        ClientCall::Attach {
+            group: 0,
+            prio: 4,
+            class: Class::BestEffort,
+        },
+    ));
     let third = told(&solo.ask(alloc, ClientCall::Reap { session: 7 }));
     Ok((first, second, third))
 }

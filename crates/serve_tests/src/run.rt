@@ -4,7 +4,7 @@ use failing_io::{Narrow, Pieces};
 use history::Keeper;
 use host_calls::ClientCall;
 use plain_machine::{Answer, Call, Reply, Why};
-use sector_core::{Config, ConfigDraft};
+use sector_core::{Class, Config, ConfigDraft};
 use session_proto::{EndCause, SessionEnd, serve};
 use std::alloc::Global;
 use std::test::Fail;
@@ -90,7 +90,11 @@ fn opened(alloc: Global, setup: &Setup) -> Result<Heard, Fail> {
     };
     let mut keeper = Keeper::new(alloc, checked(draft)?, 1024)?;
     if setup.is_seated {
-        let attach = ClientCall::Attach { group: 0, prio: 4 };
+        let attach = ClientCall::Attach {
+            group: 0,
+            prio: 4,
+            class: Class::BestEffort,
+        };
         keeper.call(alloc, &attach.of_seat(0));
     }
     if setup.is_held {

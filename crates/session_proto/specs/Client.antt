@@ -2,6 +2,7 @@
 use Rattle.std.specs.Prelude.{◌≡◌, ℕ, ◌<◌, ◌≤◌, ◌^◌, List, [], ◌∷◌, ◌++◌, length, Result, Ok, Err, nat_le, if◌then◌else◌}
 use Rattle.std.specs.Int.{w8, w16, w64}
 use Rattle.sector_core.specs.declared.bio.Op.TheVariants.{Fetch, Store}
+use Rattle.sector_core.specs.declared.class.Class.TheVariants.{BestEffort}
 use Rattle.sector_core.specs.declared.range.Range.{Range}
 use Rattle.plain_machine.specs.declared.step.Why.TheVariants.{Ended}
 use Rattle.host_calls.specs.declared.client.ClientCall.{ClientCall}
@@ -16,9 +17,9 @@ use Rattle.session_proto.specs.Kinds.{read_by}
 unfoldable pub span_bytes : ℕ → Range → List ℕ
 span_bytes session range = big_endian w64 session ++ big_endian w64 range.start ++ big_endian w16 range.count
 
--- a client's calls, by their kinds (our format)
+-- a client's calls, by their kinds; an Attach does not say its class (our format)
 abbrev pub client_body : ClientCall → List ℕ
-client_body (Attach group prio) = 0x01 ∷ big_endian w8 group ++ big_endian w8 prio
+client_body (Attach group prio class) = 0x01 ∷ big_endian w8 group ++ big_endian w8 prio
 client_body (Submit session Fetch range payload) = 0x02 ∷ span_bytes session range
 client_body (Submit session Store range payload) = 0x03 ∷ span_bytes session range ++ payload
 client_body (Reap session) = 0x04 ∷ big_endian w64 session
@@ -28,21 +29,21 @@ client_body (Leave why) = 0x05 ∷ []
 abbrev pub SpanFits : ℕ → Range → Type 0
 SpanFits session range = (session < 2 ^ 64) × (range.start < 2 ^ 64) × (range.count < 2 ^ 16)
 
--- a fetch has no payload, a store at most that of 64 sectors, which need not be that of its count; a client only says
--- that it has ended (our format)
+-- an Attach is of best effort; a fetch has no payload, a store at most that of 64 sectors, which need not be that of its
+-- count; a client only says that it has ended (our format)
 abbrev pub ClientFits : ClientCall → Type 0
-ClientFits (Attach group prio) = (group < 2 ^ 8) × (prio < 2 ^ 8)
+ClientFits (Attach group prio class) = (group < 2 ^ 8) × (prio < 2 ^ 8) × (class ≡ BestEffort)
 ClientFits (Submit session Fetch range payload) = SpanFits session range × (payload ≡ [])
 ClientFits (Submit session Store range payload) = SpanFits session range × (length payload ≤ 32768)
 ClientFits (Reap session) = session < 2 ^ 64
 ClientFits (Leave why) = why ≡ Ended
 
--- an Attach: a byte of group and one of priority (our format)
+-- an Attach: a byte of group and one of priority; it is of best effort (our format)
 unfoldable pub attach_at : List ℕ → Result ClientCall Fault
 attach_at fields = do
   group ← number_at w8 fields
   prio ← number_at w8 group.1
-  ended (Attach group.0 prio.0) prio.1
+  ended (Attach group.0 prio.0 BestEffort) prio.1
 
 -- a submit's session and sectors, and what follows them (our format)
 unfoldable pub span_at : List ℕ → Result (ℕ × Range × List ℕ) Fault

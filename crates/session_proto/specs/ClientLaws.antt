@@ -4,6 +4,7 @@ use Rattle.std.specs.Int.{w8, w16, w64}
 use Rattle.std.proofs.lemmas.Bool.{leb-true, le-leb}
 use Rattle.std.proofs.lemmas.List.{append-nil, length-append}
 use Rattle.sector_core.specs.declared.bio.Op.TheVariants.{Fetch, Store}
+use Rattle.sector_core.specs.declared.class.Class.TheVariants.{BestEffort}
 use Rattle.sector_core.specs.declared.range.Range.{Range}
 use Rattle.plain_machine.specs.declared.step.Why.TheVariants.{Ended}
 use Rattle.host_calls.specs.declared.client.ClientCall.{ClientCall}
@@ -71,7 +72,7 @@ span_is fields x are e =
 
 attach_spells : Spells client_body ClientFits 0x01 attach_at
 unfolding attach_at
-attach_spells = two_spells client_body ClientFits 0x01 w8 (2 ^ 8) wide8 w8 (2 ^ 8) wide8 Attach (λ group prio low lt. (low, lt)) (λ group prio. refl)
+attach_spells = two_spells client_body ClientFits 0x01 w8 (2 ^ 8) wide8 w8 (2 ^ 8) wide8 (λ group prio. Attach group prio BestEffort) (λ group prio low lt. (low, lt, refl)) (λ group prio. refl)
 
 fetch_spells : Spells client_body ClientFits 0x02 fetch_at
 unfolding fetch_at
@@ -106,9 +107,9 @@ client_spelled bytes v are few e =
 
 -- ---- read again
 
-attach_again : (group prio : ℕ) → group < 2 ^ 8 → prio < 2 ^ 8 → attach_at (big_endian w8 group ++ big_endian w8 prio) ≡ Ok (Attach group prio)
+attach_again : (group prio : ℕ) → group < 2 ^ 8 → prio < 2 ^ 8 → attach_at (big_endian w8 group ++ big_endian w8 prio) ≡ Ok (Attach group prio BestEffort)
 unfolding attach_at
-attach_again group prio low lt = two_again w8 (2 ^ 8) wide8 w8 (2 ^ 8) wide8 Attach group prio low lt
+attach_again group prio low lt = two_again w8 (2 ^ 8) wide8 w8 (2 ^ 8) wide8 (λ group prio. Attach group prio BestEffort) group prio low lt
 
 fetch_again : (session : ℕ) (range : Range) → SpanFits session range → fetch_at (span_bytes session range) ≡ Ok (Submit session Fetch range [])
 unfolding fetch_at
@@ -126,7 +127,7 @@ unfolding reap_at
 reap_again session lt = one_again w64 (2 ^ 64) wide64 Reap session lt
 
 call_again : (call : ClientCall) → ClientFits call → read_by client_kinds (client_body call) ≡ Ok call
-call_again (Attach group prio) fits = attach_again group prio fits.0 fits.1
+call_again (Attach group prio class) fits = attach_again group prio fits.0 fits.1 ∙ ap (λ c. done (Attach group prio c)) (sym fits.2)
 call_again (Submit session Fetch range payload) fits =
     fetch_again session range fits.0 ∙ ap (λ (p : List ℕ). done (Submit session Fetch range p)) (sym fits.1)
 call_again (Submit session Store range payload) fits = store_again session range payload fits.0 fits.1
@@ -140,7 +141,7 @@ client_again v fits = rw (call_again v.0 fits) refl
 -- ---- lengths
 
 call_in_limits : (call : ClientCall) → ClientFits call → (0 < length (client_body call)) × (length (client_body call) ≤ 32787)
-call_in_limits (Attach group prio) fits =
+call_in_limits (Attach group prio class) fits =
     let size = length-append (big_endian w8 group) (big_endian w8 prio) in
     (omega arith, omega (arith, size, wide8.len group, wide8.len prio))
 call_in_limits (Submit session Fetch range payload) fits = (omega arith, omega (arith, length-span_bytes session range))

@@ -13,7 +13,7 @@ use super::side::Side;
 use bytes::Bytes;
 use host_calls::ClientCall;
 use plain_machine::Why;
-use sector_core::{Op, Range};
+use sector_core::{Class, Op, Range};
 use std::alloc::{AllocError, Global};
 
 // The bytes of 64 sectors.
@@ -21,8 +21,8 @@ const MOST_PAYLOAD: usize = 32_768;
 
 /// The side of clients in version 1: a call that a client sends.
 ///
-/// A fetch with a payload has no frame, nor has a payload of more than 64 sectors, a count of sectors above 65,535, or a
-/// Leave for another cause than that the client has ended.
+/// A fetch with a payload has no frame, nor has a payload of more than 64 sectors, or a count of sectors above 65,535.
+/// Nor has an Attach of another class than best effort, or a Leave for another cause than that the client has ended.
 #[derive(Debug, Drop)]
 pub struct Client(pub ClientCall);
 
@@ -62,7 +62,7 @@ fn put_call(out: &mut Vec<u8>, call: &ClientCall) -> Result<(), AllocError>
     ensures { OnOk result (out.new.items ≡ out.old.items ++ client_body call.now) }
 {
     match call {
-        ClientCall::Attach { group, prio } => {
+        ClientCall::Attach { group, prio, .. } => {
             out.push(0x01)?;
             put_u8(out, *group)?;
             put_u8(out, *prio)?;
@@ -131,7 +131,8 @@ fn attach_of(fields: &[u8]) -> Result<ClientCall, ReadError>
 {
     let (group, fields) = u8_of(fields)?;
     let (prio, fields) = u8_of(fields)?;
-    ended(ClientCall::Attach { group, prio }, fields)
+    let class = Class::BestEffort;
+    ended(ClientCall::Attach { group, prio, class }, fields)
 }
 
 // A submit's session and sectors, and what follows them.

@@ -45,7 +45,7 @@
 //!
 //! | kind | `ClientCall` | fields | length |
 //! |---|---|---|---|
-//! | 01 | Attach | group 1, priority 1 | 3 |
+//! | 01 | Attach, of best effort | group 1, priority 1 | 3 |
 //! | 02 | Submit, a fetch | session 8, first sector 8, count of sectors 2 | 19 |
 //! | 03 | Submit, a store | session 8, first sector 8, count of sectors 2, payload 0 to 32,768 | 19 to 32,787 |
 //! | 04 | Reap | session 8 | 9 |
@@ -82,7 +82,8 @@
 //! dispatcher and to devices have no frame.
 //!
 //! ```text
-//! encode(alloc, &Client(ClientCall::Attach { group: 0, prio: 4 }))   // Ok of 00 00 00 03 01 00 04
+//! let class = Class::BestEffort;
+//! encode(alloc, &Client(ClientCall::Attach { group: 0, prio: 4, class }))   // Ok of 00 00 00 03 01 00 04
 //! encode(alloc, &Operator(OperatorCall::Undo { k: 2 }))              // Ok of 00 00 00 05 1a 00 00 00 02
 //! decode::<Host>(alloc, &[0, 0, 0, 2, 0xe0, 20])                     // Ok(Host(Answer(Refused(NotInFlight))))
 //! decode::<Host>(alloc, &[0, 0, 0, 2, 0xe0, 36])                     // Err(Fault(BadBody))

@@ -10,8 +10,9 @@
 //!
 //! ```text
 //! let mut solo = Solo(Keeper::new(alloc, config, 1024)?);
-//! solo.ask(alloc, ClientCall::Attach { group: 0, prio: 4 })   // Ok(Accepted(Attached { session: 1 }))
-//! solo.ask(alloc, ClientCall::Reap { session: 7 })            // Ok(Refused(StaleSession))
+//! let class = Class::BestEffort;
+//! solo.ask(alloc, ClientCall::Attach { group: 0, prio: 4, class })   // Ok(Accepted(Attached { session: 1 }))
+//! solo.ask(alloc, ClientCall::Reap { session: 7 })                   // Ok(Refused(StaleSession))
 //! ```
 
 mod solo;

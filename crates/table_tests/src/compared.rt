@@ -2,23 +2,28 @@
 ghost use Rattle.std.specs.Prelude.{◌<◌};
 
 use augmented_tree::{BLANK, Figures, Row, height_at, insert_at, remove_at};
-use sector_core::Entity;
+use sector_core::{Class, Entity};
 use service_tree::{Member, ServiceTree, State, plain_least_start, plain_pick, plain_weight_sum};
 
 // How many entities there are: 16 sessions and 32 groups.
-const ENTITIES: Entity = 48;
+pub const ENTITIES: Entity = 48;
 
 // The virtual times that are asked at: before each start, amid the starts and finishes, and after each of them.
-const VTIMES: [u64; 6] = [0, 3, 6, 9, 15, u64::MAX];
+pub const VTIMES: [u64; 6] = [0, 3, 6, 9, 15, u64::MAX];
 
 // A list of numbers, each made from the one before.
 #[derive(Drop)]
-struct Numbers {
+pub struct Numbers {
     last: u64,
 }
 
 impl Numbers {
-    fn below(&mut self, bound: u64) -> u64
+    // Before the first number.
+    pub fn new() -> Numbers {
+        Numbers { last: 1 }
+    }
+
+    pub fn below(&mut self, bound: u64) -> u64
         requires { 0 < bound }
         ensures { result < bound }
     {
@@ -167,10 +172,11 @@ fn state_of(number: u64) -> State {
     }
 }
 
-// A start among 1 to 12, and a finish that is soon after it, so that many are equal.
-fn next_member(numbers: &mut Numbers) -> Member {
+// A start among 1 to 12, and a finish that is soon after it, so that many are equal. It is of best effort.
+pub fn next_member(numbers: &mut Numbers) -> Member {
     let start = numbers.below(12) + 1;
     Member {
+        class: Class::BestEffort,
         state: state_of(numbers.below(4)),
         start,
         finish: start + numbers.below(4),
@@ -322,7 +328,7 @@ fn difference(tree: &ServiceTree, round: u32, met: &mut Met) -> Option<Differenc
 // The first difference after any of 2,000 changes, if there is one, and what was met. The tree grows until it has all 48
 // members, then shrinks until it has none, and so on.
 fn compared() -> (Option<Difference>, Met) {
-    let mut numbers = Numbers { last: 1 };
+    let mut numbers = Numbers::new();
     let mut tree = ServiceTree::new(0);
     let mut twin = Twin {
         rows: [BLANK; 48],

@@ -5,7 +5,8 @@ ghost use Rattle.bfq_select.specs.Service.{IsSized, IsBounded};
 
 use bfq_select::{Expiry, VtimeFull, activate, charge, expire, member_in, select};
 use change_record::{Change, Making, Parts, Tape};
-use sector_core::{Entity, Scheduler};
+use class_trees::Vtimes;
+use sector_core::{Class, Entity, Scheduler};
 use service_tree::State;
 use std::alloc::Global;
 use std::process::Abort;
@@ -55,7 +56,7 @@ pub enum Fact {
     Member(u8, Entity, State, u64, u64, u32),
     Start(u8, Entity, u64),
     Finish(u8, Entity, u64),
-    // The virtual time of a group.
+    // The virtual time of the best-effort class of a group.
     Vtime(u8, Option<u64>),
     Budget(Entity, u32),
     // The queue of a seat is in service, this much was sent, and so many ticks have passed.
@@ -148,13 +149,15 @@ impl Host {
         Ok(())
     }
 
+    // Each class of the group is at this virtual time.
     fn set_vtime(&mut self, group: u8, vtime: u64) -> Result<(), Fail>
         requires group { group < 32 }
         requires vtime { vtime ≤ 2 ^ 62 }
     {
         self.tape.reserve(1)?;
+        let vtimes = Vtimes::same(vtime);
         self.tape
-            .exchange(&mut self.parts, Change::Vtime { group, vtime });
+            .exchange(&mut self.parts, Change::Vtime { group, vtimes });
         Ok(())
     }
 
@@ -250,7 +253,7 @@ impl Host {
 
     fn vtime(&self, group: u8) -> Option<u64> {
         match self.parts.tree(group) {
-            Some(tree) => Some(tree.vtime()),
+            Some(tree) => Some(tree.vtime(Class::BestEffort)),
             None => None,
         }
     }

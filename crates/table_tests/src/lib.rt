@@ -14,6 +14,7 @@
 //! | `listed` | `process_queue`, `group_tree` | after each of a thousand acts the queues beside plain ones, and the children of groups |
 //! | `turns` | `soft_queue` | the seat whose turn it is |
 //! | `trees`, `compared` | `service_tree` | picks, changes and sums by hand, and the tree's answers beside the plain ones |
+//! | `classes`, `classed` | `class_trees` | each call by hand, and the answers of each class beside those of a plain list |
 //! | `groups` | `group_tree` | paths and depths |
 //! | `tapes` | `change_record` | exchanges and lists of them, forth and back |
 //! | `rules` | `bfq_select` | times and budgets that were computed by hand |
@@ -23,6 +24,10 @@
 
 #[cfg(test)]
 mod blocks;
+#[cfg(test)]
+mod classed;
+#[cfg(test)]
+mod classes;
 #[cfg(test)]
 mod compared;
 #[cfg(test)]

@@ -1,9 +1,11 @@
 // What no clause says: each call once, and the rules at listed members. The numbers are worked out by hand.
+use sector_core::Class;
 use service_tree::{Member, ServiceTree, State};
 use std::process::Abort;
 
 fn member(state: State, start: u64, finish: u64, weight: u32) -> Member {
     Member {
+        class: Class::BestEffort,
         state,
         start,
         finish,

@@ -18,9 +18,9 @@ returns-clause-answers c =
     let t = c.args.parts.now.tables in
     let can : CanAttach t c.args.seat = record { within = c.if-seat-ge16.false; free = search rules } in
     let there : stands (bfq_of t) c.args.group ≡ true = search rules in
-    let now : c.sit.new.parts.tables ≡ attached_tables l t c.args.serial c.args.seat c.args.group c.args.prio = search rules in
-    sym (attach_does l (meaning t) c.args.serial c.args.room c.args.seat c.args.group c.args.prio can.within can.free there (search rules) c.if-not-room.false
-    ∙ ap (λ m. (m, Accepted (Attached c.args.serial))) (sym (ap meaning now ∙ attached-meaning l c.args.serial t c.args.seat c.args.group c.args.prio c.requires can (stands_below (bfq_of t) c.args.group there))))
+    let now : c.sit.new.parts.tables ≡ attached_tables l t c.args.serial c.args.seat c.args.group c.args.prio c.args.class = search rules in
+    sym (attach_does l (meaning t) c.args.serial c.args.room c.args.seat c.args.group c.args.prio c.args.class can.within can.free there (search rules) c.if-not-room.false
+    ∙ ap (λ m. (m, Accepted (Attached c.args.serial))) (sym (ap meaning now ∙ attached-meaning l c.args.serial t c.args.seat c.args.group c.args.prio c.args.class c.requires can (stands_below (bfq_of t) c.args.group there))))
 
 pub returns-clause-leaves : goal.returns-clause-leaves
 returns-clause-leaves c =
@@ -28,9 +28,9 @@ returns-clause-leaves c =
     let t = c.args.parts.now.tables in
     let can : CanAttach t c.args.seat = record { within = c.if-seat-ge16.false; free = search rules } in
     let there : stands (bfq_of t) c.args.group ≡ true = search rules in
-    let now : c.sit.new.parts.tables ≡ attached_tables l t c.args.serial c.args.seat c.args.group c.args.prio = search rules in
+    let now : c.sit.new.parts.tables ≡ attached_tables l t c.args.serial c.args.seat c.args.group c.args.prio c.args.class = search rules in
     let P : Tables → Type 0 = λ t. WellFormed l (c.args.serial + 1) t in (
-      subst P (sym now) (attached-well l c.args.serial t c.args.seat c.args.group c.args.prio c.requires can (stands_below (bfq_of t) c.args.group there)),
+      subst P (sym now) (attached-well l c.args.serial t c.args.seat c.args.group c.args.prio c.args.class c.requires can (stands_below (bfq_of t) c.args.group there)),
       omega (arith, c.sit.ensures.spare, c.enter.ensures.spare, c.in_ok-reserve.ensures.spare),
       omega (arith, c.sit.ensures.count, c.enter.ensures.count, ap length c.reserve.ensures.current),
       omega (arith, c.sit.ensures.count, c.enter.ensures.count, ap length c.reserve.ensures.current),

@@ -1,4 +1,5 @@
 use Rattle.std.proofs.Common.{◌≡◌, ◌+◌, ◌<◌, List, Some, length, true, subst, sym, ap, ◌∙◌, arith, rules}
+use Rattle.sector_core.specs.declared.class.Class.TheVariants.{BestEffort}
 use Rattle.change_record.specs.declared.change.Change.{Change}
 use Rattle.change_record.specs.declared.change.Change.TheVariants.{Vtime}
 use Rattle.change_record.specs.Tables.{Tables}
@@ -16,6 +17,8 @@ use Rattle.dispatch_core.proofs.Recorded.{one_more}
 use Rattle.dispatch_core.proofs.Decided.{stands_below, Answers-err}
 use Rattle.dispatch_core.proofs.Grouping.{group_make_does, made-meaning, made-well}
 use Rattle.dispatch_core.proofs.groups.run_group_make.Goals as goal
+use Rattle.class_trees.specs.declared.Vtimes.{Vtimes}
+use Rattle.class_trees.specs.Classes.{same_times}
 
 pub returns-in_err-reserve-clause-answers : goal.returns-in_err-reserve-clause-answers
 returns-in_err-reserve-clause-answers c =
@@ -41,9 +44,9 @@ returns-clause-answers c =
     let free : free_group (bfq_of t) ≡ Some c.in-Some.group = sym c.free_group.ensures.value ∙ c.in-Some.is in
     let below : c.args.parent < 32 = stands_below (bfq_of t) c.args.parent there in
     let within : c.in-Some.group < 32 = c.in-Some.ensures.within in
-    let one : c.enter.new.parts.tables ≡ entered l t (16 + c.in-Some.group) c.args.parent c.args.weight = c.enter.ensures.tables ∙ ap (entered l t (16 + c.in-Some.group) c.args.parent) c.from.ensures in
-    let two : c.exchange.new.parts.tables ≡ after c.enter.new.parts.tables (Vtime c.in-Some.group l.first_vtime) = c.exchange.ensures.tables in
-    let now = two ∙ ap (λ u. after u (Vtime c.in-Some.group l.first_vtime)) one in
+    let one : c.enter.new.parts.tables ≡ entered l t (16 + c.in-Some.group) c.args.parent BestEffort c.args.weight = c.enter.ensures.tables ∙ ap (entered l t (16 + c.in-Some.group) c.args.parent BestEffort) c.from.ensures in
+    let two : c.exchange.new.parts.tables ≡ after c.enter.new.parts.tables (Vtime c.in-Some.group (same_times l.first_vtime)) = c.exchange.ensures.tables ∙ ap (λ (v : Vtimes). after c.enter.new.parts.tables (Vtime c.in-Some.group v)) c.same.ensures in
+    let now = two ∙ ap (λ u. after u (Vtime c.in-Some.group (same_times l.first_vtime))) one in
     sym (group_make_does l (meaning t) c.args.room c.args.parent c.args.weight c.in-Some.group there good high free c.if-not-room.false
     ∙ ap (λ m. (m, Accepted (Group c.in-Some.group))) (sym (ap meaning now ∙ made-meaning l c.args.serial t c.in-Some.group c.args.parent c.args.weight c.requires within below)))
 
@@ -54,9 +57,9 @@ returns-clause-leaves c =
     let there : stands (bfq_of t) c.args.parent ≡ true = search rules in
     let below : c.args.parent < 32 = stands_below (bfq_of t) c.args.parent there in
     let within : c.in-Some.group < 32 = c.in-Some.ensures.within in
-    let one : c.enter.new.parts.tables ≡ entered l t (16 + c.in-Some.group) c.args.parent c.args.weight = c.enter.ensures.tables ∙ ap (entered l t (16 + c.in-Some.group) c.args.parent) c.from.ensures in
-    let two : c.exchange.new.parts.tables ≡ after c.enter.new.parts.tables (Vtime c.in-Some.group l.first_vtime) = c.exchange.ensures.tables in
-    let now = two ∙ ap (λ u. after u (Vtime c.in-Some.group l.first_vtime)) one in
+    let one : c.enter.new.parts.tables ≡ entered l t (16 + c.in-Some.group) c.args.parent BestEffort c.args.weight = c.enter.ensures.tables ∙ ap (entered l t (16 + c.in-Some.group) c.args.parent BestEffort) c.from.ensures in
+    let two : c.exchange.new.parts.tables ≡ after c.enter.new.parts.tables (Vtime c.in-Some.group (same_times l.first_vtime)) = c.exchange.ensures.tables ∙ ap (λ (v : Vtimes). after c.enter.new.parts.tables (Vtime c.in-Some.group v)) c.same.ensures in
+    let now = two ∙ ap (λ u. after u (Vtime c.in-Some.group (same_times l.first_vtime))) one in
     let P : Tables → Type 0 = λ u. WellFormed l (c.args.serial + 1) u in
     let last = one_more c.enter.new.tape.current c.exchange.new.self.current _ c.exchange.ensures.recorded in
     let kept = ap length c.reserve.ensures.current in (

@@ -2,7 +2,7 @@
 use Rattle.std.proofs.Common.{◌≡◌, ◌∙◌, codes, refl}
 use Rattle.std.proofs.lemmas.Bool.Decides.{Decides-eqb}
 use Rattle.std.proofs.lemmas.Slice.Eq.{slice_eq-Decides}
-use Rattle.script_line.specs.declared.line.Line.TheVariants.{Undo, Redo, Queue, Drop, Vtime, Entity, Leave}
+use Rattle.script_line.specs.declared.line.Line.TheVariants.{Undo, Redo, Queue, Drop, Vtime, Entity, Leave, Class}
 use Rattle.script_line.proofs.Same.{reads_fitted}
 use Rattle.script_line.proofs.plain.with_one.Goals as goal
 
@@ -40,3 +40,8 @@ pub returns-then-eq-8 : goal.returns-then-eq-8
 returns-then-eq-8 c =
     let is : c.args.word.now ≡ codes "leave" = (slice_eq-Decides Decides-eqb _ _ _ c.eq-else-eq-7.ensures).0 c.if-eq-8.true ∙ c.as_slice-else-eq-7.ensures in
     reads_fitted c.args.word.now _ (Leave c.args.a) c.leave.result (is, refl) c.leave.ensures
+
+pub returns-then-eq-9 : goal.returns-then-eq-9
+returns-then-eq-9 c =
+    let is : c.args.word.now ≡ codes "class" = (slice_eq-Decides Decides-eqb _ _ _ c.eq-else-eq-8.ensures).0 c.if-eq-9.true ∙ c.as_slice-else-eq-8.ensures in
+    reads_fitted c.args.word.now _ (Class c.args.a) c.class_of.result (is, refl) c.class_of.ensures

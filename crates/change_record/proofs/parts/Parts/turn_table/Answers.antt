@@ -101,10 +101,10 @@ pub returns-in-TreeMember-clause-turns : goal.returns-in-TreeMember-clause-turns
 returns-in-TreeMember-clause-turns c = turns_of c.self.view_is
 
 pub returns-in-Vtime-clause-tables : goal.returns-in-Vtime-clause-tables
-returns-in-Vtime-clause-tables c = after_of c.self.view_is c.in-Vtime.is (rw c.exchange_vtime.ensures.trees refl)
+returns-in-Vtime-clause-tables c = after_of c.self.view_is c.in-Vtime.is (rw c.exchange_vtimes.ensures.trees refl)
 
 pub returns-in-Vtime-clause-left : goal.returns-in-Vtime-clause-left
-returns-in-Vtime-clause-left c = left_of c.self.view_is c.in-Vtime.is (rw c.exchange_vtime.ensures.left refl)
+returns-in-Vtime-clause-left c = left_of c.self.view_is c.in-Vtime.is (rw c.exchange_vtimes.ensures.left refl)
 
 pub returns-in-Vtime-clause-turns : goal.returns-in-Vtime-clause-turns
 returns-in-Vtime-clause-turns c = turns_of c.self.view_is

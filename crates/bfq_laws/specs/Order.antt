@@ -1,0 +1,28 @@
+-- Whom select takes into service: nobody while a sibling of a higher class waits.
+use Rattle.std.specs.Prelude.{◌≡◌, ℕ, ◌≤◌, true, List, All, Some, None}
+use Rattle.service_tree.specs.declared.member.Member.{Member}
+use Rattle.service_tree.specs.Members.{IsActiveAt}
+use Rattle.class_trees.specs.Classes.{rank}
+use Rattle.group_tree.specs.Groups.{path}
+use Rattle.change_record.specs.declared.change.InService.{InService}
+use Rattle.change_record.specs.Machine.{Bfq, Plain}
+use Rattle.change_record.specs.Rules.{class_of, group_of, select}
+use Rattle.plain_machine.specs.declared.call.Call.{Call}
+use Rattle.plain_machine.specs.Step.{Limits, is_bfq, with_budget_in}
+use Rattle.plain_machine.specs.Keeper.{machine_of, replay}
+
+-- no entity that waits in the same group is of a higher class (bfq: classes in strict order)
+abbrev pub GoesFirst : Bfq → ℕ → Type 0
+GoesFirst b entity = (n : ℕ) (m : Member) → IsActiveAt (b.service (group_of b entity)).members n m → rank (class_of b entity) ≤ rank m.class
+
+-- if a queue is selected, no sibling of a higher class waits: of its session, nor of a group above it
+abbrev pub SelectsInOrder : Bfq → Type 0
+SelectsInOrder b = b.slot ≡ None → (slot : InService) → (select b).slot ≡ Some slot → All (GoesFirst (select b)) (path b.parent slot.seat)
+
+-- so it is if a dispatch selects
+abbrev pub DispatchesInOrder : Limits → Plain → Type 0
+DispatchesInOrder l m = is_bfq m.scheduler ≡ true → (b : Bfq) → with_budget_in l m m.bfq.slot ≡ Some b → SelectsInOrder b
+
+-- on the machine of every keeper that a journal makes
+abbrev pub ClassesAreInOrder : Limits → ℕ → List Call → Type 0
+ClassesAreInOrder l most journal = DispatchesInOrder l (machine_of (replay l most journal))
