@@ -9,7 +9,7 @@ import subprocess
 
 from bad_input import Skipped
 from step_export_plot import (HEAD_OF_CSV, IMAGE, MOST_VTIME, WIDE, answering, compared, contents, exported, faults_in, over, plot, ran,
-                              step)
+                              step, told_with_whys)
 from tools import BAD_INPUT, NOT_WANTED, Run, differences, executable, expect, faults_of, written
 
 # A script with its answers. Group 1 has real time and best effort in it, and stands at the root beside idle and best effort.
@@ -34,41 +34,41 @@ dispatch list: none
 in flight:
   tag 0, issue 10: seat 3 fetch 300+8 bio 9
   tag 1, issue 11: seat 0 fetch 0+8 bio 6
-group 0     class  state    weight   start     finish  start/2^22  finish/2^22
-  V         rt                           0                  0.000
-  V         be                      479348                  0.114
-  V         idle                         0                  0.000
-  seat 2    idle   active       40       0  107374182       0.000       25.600
-  seat 3    be     idle         40  838860     838860       0.200        0.200
-  group 1   be     serving     100       0  171798691       0.000       40.960
-    V       rt                      838860                  0.200
-    V       be                           0                  0.000
-    V       idle                         0                  0.000
-    seat 0  rt     serving      40       0  107374182       0.000       25.600
-    seat 1  be     idle         40       0          0       0.000        0.000
+group 0     class  state    weight  budget   start     finish  S/2^22  F/2^22
+  V         rt                                   0              0.000
+  V         be                              479348              0.114
+  V         idle                                 0              0.000
+  seat 2    idle   active       40    1024       0  107374182   0.000  25.600
+  seat 3    be     idle         40     256  838860     838860   0.200   0.200
+  group 1   be     serving     100    4096       0  171798691   0.000  40.960
+    V       rt                              838860              0.200
+    V       be                                   0              0.000
+    V       idle                                 0              0.000
+    seat 0  rt     serving      40    1024       0  107374182   0.000  25.600
+    seat 1  be     idle         40    1024       0          0   0.000   0.000
 
 """
 
 # Where all of a group are best effort it has one time, though another group has classes.
 BESIDE = "group 0 7\nattach 0 1 4\nattach 1 0 4 rt\n"
 TREE_BESIDE = """\
-group 0     class  state  weight  start  finish  start/2^22  finish/2^22
-  V         rt                        0               0.000
-  V         be                        0               0.000
-  V         idle                      0               0.000
-  seat 1    rt     idle       40      0       0       0.000        0.000
-  group 1   be     idle        7      0       0       0.000        0.000
-    V       be                        0               0.000
-    seat 0  be     idle       40      0       0       0.000        0.000
+group 0     class  state  weight  budget  start  finish  S/2^22  F/2^22
+  V         rt                                0           0.000
+  V         be                                0           0.000
+  V         idle                              0           0.000
+  seat 1    rt     idle       40    1024      0       0   0.000   0.000
+  group 1   be     idle        7    4096      0       0   0.000   0.000
+    V       be                                0           0.000
+    seat 0  be     idle       40    1024      0       0   0.000   0.000
 
 """
 # With an undo of the one that is not best effort there are no classes.
 TREE_BEFORE = """\
-group 0     state  weight  start  finish  start/2^22  finish/2^22
-  V                            0               0.000
-  group 1   idle        7      0       0       0.000        0.000
-    V                          0               0.000
-    seat 0  idle       40      0       0       0.000        0.000
+group 0     state  weight  budget  start  finish  S/2^22  F/2^22
+  V                                    0           0.000
+  group 1   idle        7    4096      0       0   0.000   0.000
+    V                                  0           0.000
+    seat 0  idle       40    1024      0       0   0.000   0.000
 
 """
 
@@ -80,7 +80,7 @@ WIDE_CLASSES = {
 }
 TREE_OF_WIDE = """\
 group 0    class  state   weight                start               finish
-                                           start/2^22          finish/2^22
+                          budget               S/2^22               F/2^22
   V        rt                                 4194304
                                                 1.000
   V        be                     4611686018427387904
@@ -88,7 +88,7 @@ group 0    class  state   weight                start               finish
   V        idle                                     0
                                                 0.000
   seat 15  idle   active  80->10                    0  4611686018427387904
-                                                0.000    1099511627776.000
+                             256                0.000    1099511627776.000
 
 """
 
@@ -102,6 +102,13 @@ REASONS = [
     ("a class past its type", "class 256", "N is at most 255: '256'"),
 ]
 
+# V of best effort is 8/140 after the first.
+WHYS_OF_LEVELS = [
+    "group 0 class be: V 0.000, eligible seat 3 F 25.600, group 1 F 40.960: seat 3 is taken, the least F; next is fetch 300+8, "
+    "from sector 0 on; seat 3 is empty then, and expires for emptying, budget 1024 -> 256; seat 3: F' = S 0.000 + 8/40 = 0.200, idle",
+    "group 0 class be: V 0.057, eligible group 1 F 40.960: group 1 is taken; group 1 class rt: V 0.000, eligible seat 0 F 25.600: "
+    "seat 0 is taken; next is fetch 0+8, from sector 0 on",
+]
 WANTED = "".join(f"{line} -> {answer}\n" for line, answer in LEVELS)
 
 # The best effort one is served, then real time, and at last idle. The one of real time comes after the first dispatch, and leaves before
@@ -157,7 +164,7 @@ STAND_IN = """\
 class Figure:
     def __init__(self, **_):
         self.rows = []
-    def add_subplot(self):
+    def add_subplot(self, *_):
         return self
     def plot(self, service, vtimes, label="", linestyle="-", **_):
         self.rows.append(" ".join([label, linestyle, *(f"{vtime * 2**22:.0f}" for vtime in vtimes)]))
@@ -168,23 +175,24 @@ class Figure:
         return "red"
     def nothing(self, *_, **__):
         pass
-    set_title = set_xlabel = set_ylabel = legend = grid = nothing
+    axvspan = set_title = set_xlabel = set_ylabel = legend = grid = nothing
 """
-# The rows of PLOTTED at its six samples. A class has a time where it has a member, and a member its times where it is one.
+# The rows of PLOTTED before its first dispatch, and at its six samples. A class has a time where it has a member, and a member its times
+# where it is one.
 DRAWN = """\
-V - 838860 838860 838860 838860 838860 838860
-V of class rt -. nan 3355443 3355443 3355443 3355443 nan
-V of class idle : 0 0 838860 838860 838860 838860
-seat 0, weight 40 - 838860 838860 838860 838860 838860 838860
- -- 838860 838860 838860 838860 838860 838860
-seat 1, weight 80, class idle - 53687091 53687091 838860 838860 838860 838860
- -- 0 0 838860 838860 838860 838860
-seat 2, weight 10, class rt - nan 3355443 3355443 3355443 3355443 nan
- -- nan 3355443 3355443 3355443 3355443 nan
+V - 0 838860 838860 838860 838860 838860 838860
+V of class rt -. nan nan 3355443 3355443 3355443 3355443 nan
+V of class idle : 0 0 0 838860 838860 838860 838860
+seat 0, weight 40 - 107374182 838860 838860 838860 838860 838860 838860
+ -- 0 838860 838860 838860 838860 838860 838860
+seat 1, weight 80, class idle - 53687091 53687091 53687091 838860 838860 838860 838860
+ -- 0 0 0 838860 838860 838860 838860
+seat 2, weight 10, class rt - nan nan 3355443 3355443 3355443 3355443 nan
+ -- nan nan 3355443 3355443 3355443 3355443 nan
 """
 
 RUNS = [
-    step("classes in the picture", "s\n", WANTED + 2 * PICTURE_OF_LEVELS, words=["script"],
+    step("classes in the picture", "s\n", told_with_whys(LEVELS, WHYS_OF_LEVELS) + 2 * PICTURE_OF_LEVELS, words=["script"],
          files={"script": "".join(f"{line}\n" for line, _ in LEVELS)}),
     step("lines with classes", "class 0\nvtime 0 rt\nclass 16\nvtime 9 idle\nclass 255\n",
          "class 0 none\nvtime 0 rt 0\nclass 16 none\nvtime 9 idle none\nclass 255 none\n"),

@@ -18,11 +18,11 @@ VERSION = (TOP / "VERSION").read_text(encoding="ascii").strip()
 SECONDS = 60
 PREFIX = "usr"
 COMMANDS = ["bfqclient", "bfqctl", "bfqhost"]
-TOOLS = ["bfq-expect", "bfq-export", "bfq-iolog", "bfq-plot", "bfq-step"]
+TOOLS = ["bfq-expect", "bfq-export", "bfq-iolog", "bfq-plot", "bfq-step", "bfq-why"]
 PAGES = ["man1/bfqctl.1", "man1/bfqhost.1", "man5/bfqhost-script.5", "man7/bfqhost-protocol.7", "man7/bfqhost-serve.7"]
 # What must stand under PREFIX, but for the client's modules.
 FILES = {*(f"bin/{name}" for name in [*COMMANDS, *TOOLS]), "libexec/bfqhost/bfqhost", "libexec/bfqhost/bfqctl",
-         *(f"libexec/bfqhost/tools/{name}" for name in [*TOOLS, "grammar.py", "host.py", "sentences.py", "shown.py"]),
+         *(f"libexec/bfqhost/tools/{name}" for name in [*TOOLS, "grammar.py", "host.py", "narrow.py", "reasons.py", "sentences.py", "shares.py", "shown.py"]),
          *(f"share/man/{page}" for page in PAGES), *(f"share/bash-completion/completions/{name}" for name in COMMANDS)}
 CLIENT = "libexec/bfqhost/clients/"
 # A run of each tool, with the files that it finds, its words and input, and what it must print.
@@ -33,6 +33,7 @@ RUNS = {
     "bfq-iolog": ({"log": head(2).encode()}, ["log"], b"", totals(0, met=[no_request(1)]).encode()),
     "bfq-plot": ({"script": b"attach 0 0 4\nread 0 1 0 1\ndispatch\n"}, ["script", "--csv", "csv"], b"", b""),
     "bfq-step": ({}, ["--", "--scheduler", "none"], b"line\n", b"line 0 0 0\n"),
+    "bfq-why": ({"script": b"attach 0 0 4\n"}, ["script"], b"", b"0 choices, 0 otherwise than worked out\n"),
 }
 
 

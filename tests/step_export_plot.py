@@ -62,6 +62,12 @@ def answering(answers, default="none"):
 
 # The runs of step.
 
+def told_with_whys(rows, whys):
+    """What is told of lines with their answers, of which each dispatch that is done goes with the next reason."""
+    reasons = iter(whys)
+    return "".join(f"{line} -> {answer}\n" + (f"why: {next(reasons)}\n" if answer.startswith("issued ") else "") for line, answer in rows)
+
+
 def step(name, stdin, stdout="", stderr="", status=DONE, words=(), **more):
     """A run whose lines come over a pipe."""
     return Run(f"step: {name}", ["step", *words], stdin=stdin.encode(), stdout=stdout, stderr=stderr, status=status, **more)
@@ -69,16 +75,18 @@ def step(name, stdin, stdout="", stderr="", status=DONE, words=(), **more):
 
 # A sector at weight 40 takes 2^22 / 40 = 104,857.6, and a budget of 1,024 of them 107,374,182.4; both are rounded down. The write is sent
 # alone, so its queue expires for emptying in the step that sends it.
-A_WRITE = """\
+WHY_OF_A_WRITE = ("why: group 0: V 0.000, eligible seat 0 F 25.600: seat 0 is taken; next is store 5+1, from sector 0 on; seat 0 is empty "
+                  "then, and expires for emptying, budget 1024 -> 256; seat 0: F' = S 0.000 + 1/40 = 0.025, idle")
+A_WRITE = f"""\
 attached 1
 bfq, running, free; 1 of 1 steps stand, last serial 1, 1 calls
 in service: none; round robin: seat 15
 seat 0: session 1, group 0, priority 4, owed 0, head 0, here
 dispatch list: none
 in flight: none
-group 0   state  weight  start  finish  start/2^22  finish/2^22
-  V                          0               0.000
-  seat 0  idle       40      0       0       0.000        0.000
+group 0   state  weight  budget  start  finish  S/2^22  F/2^22
+  V                                  0           0.000
+  seat 0  idle       40    1024      0       0   0.000   0.000
 
 queued 2
 bfq, running, free; 2 of 2 steps stand, last serial 2, 2 calls
@@ -87,20 +95,21 @@ seat 0: session 1, group 0, priority 4, owed 1, head 0, here
   queue: store 5+1 bio 2
 dispatch list: none
 in flight: none
-group 0   state   weight  start     finish  start/2^22  finish/2^22
-  V                           0                  0.000
-  seat 0  active      40      0  107374182       0.000       25.600
+group 0   state   weight  budget  start     finish  S/2^22  F/2^22
+  V                                   0              0.000
+  seat 0  active      40    1024      0  107374182   0.000  25.600
 
 issued 0 3 store 5 1
+{WHY_OF_A_WRITE}
 bfq, running, free; 3 of 3 steps stand, last serial 3, 3 calls
 in service: none; round robin: seat 15
 seat 0: session 1, group 0, priority 4, owed 1, head 6, here
 dispatch list: none
 in flight:
   tag 0, issue 3: seat 0 store 5+1 bio 2
-group 0   state  weight   start  finish  start/2^22  finish/2^22
-  V                      104857               0.025
-  seat 0  idle       40  104857  104857       0.025        0.025
+group 0   state  weight  budget   start  finish  S/2^22  F/2^22
+  V                              104857           0.025
+  seat 0  idle       40     256  104857  104857   0.025   0.025
 
 notyet 44 NotCompleted
 work 0 3 -> finished 1
@@ -110,9 +119,9 @@ seat 0: session 1, group 0, priority 4, owed 1, head 6, here
   outbox: 2 written
 dispatch list: none
 in flight: none
-group 0   state  weight   start  finish  start/2^22  finish/2^22
-  V                      104857               0.025
-  seat 0  idle       40  104857  104857       0.025        0.025
+group 0   state  weight  budget   start  finish  S/2^22  F/2^22
+  V                              104857           0.025
+  seat 0  idle       40     256  104857  104857   0.025   0.025
 
 sector 5 overlay 41
 """
@@ -132,6 +141,18 @@ FULL = [
     ("reap 0 3", "completed 7 read 07 07"), ("freeze", "done"),
     ("show seat 16", "seat 16 none"), ("show tree 9", "tree 9 none"), ("show step 30", "step 30 none"), ("hold", "moved 29 29"),
 ]
+# Why, of each dispatch that is done. 1,024 sectors take 25.6 by weight at 40 and 102.4 at 10, and 4,096 take 40.96 at 100 and 585.142 ..
+# at 7. V is 9/140 of a sector when seat 0 has had its 9.
+WHYS_OF_FULL = [
+    "group 0: V 0.000, eligible seat 0 F 25.600, group 1 F 40.960: seat 0 is taken, the least F; next is fetch 98+6, from sector 0 on",
+    "seat 0 is in service and goes on: 6 of 1024 sectors sent, 1 next, age 0 of 8; next is store 200+1, from sector 104 on",
+    "seat 0 is in service and goes on: 7 of 1024 sectors sent, 1 next, age 0 of 8; next is fetch 300+1, from sector 201 on",
+    "seat 0 is in service and goes on: 8 of 1024 sectors sent, 1 next, age 0 of 8; next is fetch 400+1, from sector 301 on; "
+    "seat 0 is empty then, and expires for emptying, budget 1024 -> 256; seat 0: F' = S 0.000 + 9/40 = 0.225, idle",
+    "group 0: V 0.064, eligible group 1 F 40.960: group 1 is taken; group 1: V 0.000, eligible group 2 F 585.143: group 2 is taken; "
+    "group 2: V 0.000, eligible seat 3 F 102.400: seat 3 is taken; next is store 500+64, from sector 0 on",
+    "seat 3 is in service and goes on: 64 of 1024 sectors sent, 1 next, age 0 of 8; next is store 600+1, from sector 564 on",
+]
 # Seat 0 sends 6, 1, 1 and 1 sectors, by which V grows 179,755 and three times 29,959 at a sum of weights of 140. It is idle then, at
 # 9 * 2^22 / 40 = 943,718. Seat 3 sends 64: V grows 1,917,396 at 140 once more, as seat 0 has a finish above it, 38,347,922 at 7 in group 1
 # and 26,843,545 at 10 in group 2. It sends 1: V grows 41,943 at 100, as it is past that finish, 599,186 at 7 and 419,430 at 10.
@@ -149,14 +170,14 @@ dispatch list:
 in flight:
   tag 3, issue 18: seat 0 fetch 400+1 bio 10
   tag 5, issue 20: seat 3 store 600+1 bio 12
-group 0       state      weight     start      finish  start/2^22  finish/2^22
-  V                               2228971                   0.531
-  seat 0      idle           40    943718      943718       0.225        0.225
-  group 1     serving  100->300         0   171798691       0.000       40.960
-    V                            38947108                   9.286
-    group 2   serving         7         0  2454267026       0.000      585.143
-      V                          27262975                   6.500
-      seat 3  serving        10         0   429496729       0.000      102.400
+group 0       state      weight  budget     start      finish  S/2^22   F/2^22
+  V                                       2228971               0.531
+  seat 0      idle           40     256    943718      943718   0.225    0.225
+  group 1     serving  100->300    4096         0   171798691   0.000   40.960
+    V                                    38947108               9.286
+    group 2   serving         7    4096         0  2454267026   0.000  585.143
+      V                                  27262975               6.500
+      seat 3  serving        10    1024         0   429496729   0.000  102.400
 
 """
 
@@ -167,8 +188,8 @@ in service: none; round robin: seat 15
 no seat is taken
 dispatch list: none
 in flight: none
-group 0  state  weight  start  finish  start/2^22  finish/2^22
-  V                         0               0.000
+group 0  state  weight  budget  start  finish  S/2^22  F/2^22
+  V                                 0           0.000
 
 """
 PICTURE_OF_AN_ATTACH = """\
@@ -177,9 +198,9 @@ in service: none; round robin: seat 15
 seat 0: session 1, group 0, priority 4, owed 0, head 0, here
 dispatch list: none
 in flight: none
-group 0   state  weight  start  finish  start/2^22  finish/2^22
-  V                          0               0.000
-  seat 0  idle       40      0       0       0.000        0.000
+group 0   state  weight  budget  start  finish  S/2^22  F/2^22
+  V                                  0           0.000
+  seat 0  idle       40    1024      0       0   0.000   0.000
 
 """
 
@@ -225,12 +246,13 @@ finish last stored
 finish last fault
 """
 # PICTURE stands for a picture, whose first line is told.
-WENT = """\
+WENT = f"""\
 attached 1
 PICTURE running, free; 1 of 1
 queued 2
 PICTURE running, free; 2 of 2
 issued 0 3 store 5 1
+{WHY_OF_A_WRITE}
 PICTURE running, free; 3 of 3
 hold -> moved 3 3
 undo 2 -> moved 1 3
@@ -269,6 +291,7 @@ notyet 41 Held
 done
 work 0 3 -> refused 20 NotInFlight
 issued 0 5 store 6 1
+{WHY_OF_A_WRITE.replace("5+1", "6+1")}
 PICTURE running, free; 3 of 3
 finish 0 5 stored -> finished 1
 PICTURE running, free; 4 of 4
@@ -277,7 +300,7 @@ finish 0 5 fault -> refused 20 NotInFlight
 
 RUNS_OF_STEP = [
     step("a write", "attach 0 0 4\nwrite 0 1 5 1 65\ndispatch\nreap 0 1\nwork last\n\n# one\nsector 5\n", A_WRITE),
-    step("everything in the picture", "", "".join(f"{line} -> {answer}\n" for line, answer in FULL) + PICTURE_OF_FULL,
+    step("everything in the picture", "", told_with_whys(FULL, WHYS_OF_FULL) + PICTURE_OF_FULL,
          words=["script", "--", "--tags=6"], files={"script": "# one\n\n" + "".join(f"{line}\n" for line, _ in FULL)}),
     step("refusals", "".join(f"{row.split(' -> ')[0]}\n" for row in REFUSALS.splitlines()),
          "".join(f"{row.split(' -> ')[1]}\n" for row in REFUSALS.splitlines())),
@@ -370,6 +393,7 @@ def script_first(program, folder):
     stdout, *rest = ran(["step", "script"], folder, program, stdin=b"finish last short\nfinish last stored\nrequeue last")
     yield from compared((PICTURE.sub(r"PICTURE \1\n", stdout), *rest),
                         "attach 0 0 4 -> attached 1\nwrite 0 1 5 1 65 -> queued 2\ndispatch -> issued 0 3 store 5 1\n"
+                        f"{WHY_OF_A_WRITE}\n"
                         "attach 0 0 4 -> refused 2 SeatTaken\nPICTURE running, free; 3 of 3\nfinish 0 3 short -> refused 21 BadOutcome\n"
                         "finish 0 3 stored -> finished 1\nPICTURE running, free; 4 of 4\nrequeue 0 3 -> refused 20 NotInFlight\n")
 
@@ -387,6 +411,7 @@ WIDE = {
     "show tree 0": f"tree 0 - {MOST_VTIME} 17:serving:{MOST_VTIME}:{MOST_VTIME}:1000:1",
     "show tree 1": f"tree 1 0 {MOST_VTIME - 1} 15:active:0:{MOST_VTIME}:80:80:of-a-later-kind",
     **{f"show seat {seat}": f"seat {seat} none" for seat in range(15)},
+    **{f"entity {entity}": f"entity {entity} idle 0 0 1 {budget} 0" for entity, budget in [(15, 256), (17, 65536)]},
     "show seat 15": f"seat 15 {MOST_SERIAL} 31 7 32 {MOST_SERIAL} leaving",
 }
 BIOS_OF_WIDE = f"bios {' '.join(BIOS)}"
@@ -404,15 +429,15 @@ tag 63, issue {MOST_SERIAL}: seat 15 store {MOST_SERIAL}+256 {BIOS_OF_WIDE}
 """
 TREE_OF_WIDE = """\
 group 0      state     weight                start               finish
-                                        start/2^22          finish/2^22
+                       budget               S/2^22               F/2^22
   V                            4611686018427387904
                                  1099511627776.000
   group 1    serving  1000->1  4611686018427387904  4611686018427387904
-                                 1099511627776.000    1099511627776.000
+                        65536    1099511627776.000    1099511627776.000
     V                          4611686018427387903
                                  1099511627776.000
     seat 15  active        80                    0  4611686018427387904
-                                             0.000    1099511627776.000
+                          256                0.000    1099511627776.000
 """
 
 
@@ -488,7 +513,7 @@ def end_of(run):
 
 
 def on_a_terminal(program, folder):
-    """At a terminal there is a prompt, no line is wider than 80 columns, and the end of the input ends it well."""
+    """At a terminal there is a prompt, no line but a reason is wider than 80 columns, and the end of the input ends it well."""
     with terminal(program, folder) as (run, ours, _):
         got = read_until(ours, PROMPT)
         for line in ("attach 0 0 4", "write 0 1 5 1 65", "Dispatch", "dispatch", "b", "steps", "help"):
@@ -498,12 +523,12 @@ def on_a_terminal(program, folder):
         yield from differences("the status", end_of(run), DONE)
     text = got.decode().replace("\r", "")
     for wanted in ("> attach 0 0 4\nattached 1\nbfq, running, free; 1 of 1 steps stand",
-                   "> Dispatch\nbad line 3: a capital letter: 'Dispatch'\n> ", "> dispatch\nissued 0 3 store 5 1\nbfq, ",
+                   "> Dispatch\nbad line 3: a capital letter: 'Dispatch'\n> ", f"> dispatch\nissued 0 3 store 5 1\n{WHY_OF_A_WRITE}\nbfq, ",
                    "> b\nhold -> moved 3 3\nundo 1 -> moved 2 3\nrelease -> done\nbfq, ",
                    "> steps\n1 serial 1: attach 0 0 4\n2 serial 2: write 0 1 5 1 65\n- cursor: 2 of 3 steps stand\n3 serial 3: dispatch\n"):
         if wanted not in text:
             yield f"there is no {shown(wanted)} in {shown(text)}"
-    if wide := [line for line in text.splitlines() if len(line) > COLUMNS]:
+    if wide := [line for line in text.splitlines() if len(line) > COLUMNS and line != WHY_OF_A_WRITE]:
         yield f"a line has {len(wide[0])} columns: {shown(wide[0])}"
 
 
@@ -973,9 +998,9 @@ PROGRAMS = [
     *no_program("a program that is none", "not a program", "PROGRAM does not start: Exec format error\n"),
     *no_program("bad options of sim", "#!/bin/sh\nexec PROGRAM \"$@\"\n",
                 "PROGRAM has ended with status 6 before it answered 'line': config: tags\n", ["--", "--tags", "0"]),
-    step("an older program", "s\n", "", "the program takes no line 'show host': the program does not know it\n", NO_PROGRAM,
+    step("an older program", "s\n", "", "PROGRAM lacks a look: it was asked 'show host', and 'bad line 1' came\n", NO_PROGRAM,
          program="#!/bin/sh\nread line\necho bad line 1\nexit 2\n"),
-    plot("an older program", "dispatch\n", "", "the program takes no line 'show tree 0': the program does not know it\n", NO_PROGRAM,
+    plot("an older program", "dispatch\n", "", "PROGRAM lacks a look: it was asked 'line', and 'bad line 2' came\n", NO_PROGRAM,
          program="#!/bin/sh\nread line\necho issued 0 1 fetch 0 1\nread line\necho bad line 2\nexit 2\n"),
 ]
 
@@ -988,7 +1013,8 @@ def odd_answers(program, folder):
     for tool, asking in ASKING.items():
         stdout, stderr, status = ran([tool, *asking], folder, odd, stdin=b"s\n")
         yield from compared((stdout, "", status), status=NO_PROGRAM)
-        if not re.fullmatch(f"{re.escape(odd)} gives an answer that bfqhost does not give: .*\n", stderr):
+        lacks = "lacks a look: it was asked '(?:line|show host)', and 'issued 0 1 store 0 1' came"
+        if not re.fullmatch(f"{re.escape(odd)} (?:gives an answer that bfqhost does not give: .*|{lacks})\n", stderr):
             yield f"{tool} says {shown(stderr)}"
 
 

@@ -58,6 +58,11 @@ def named(answer: str) -> str:
     return f"{answer} ({NAMES.get(int(answer.split()[1]), 'a number with no name here')})"
 
 
+def told(answer: str) -> str:
+    """An answer, with its name if it is a refusal."""
+    return named(answer) if is_refusal(answer) else answer
+
+
 def is_step(line: str) -> bool:
     """A good line that asks for a step, which takes a serial if it is accepted."""
     return not is_silent(line) and line.split(" ")[0] not in NO_STEPS

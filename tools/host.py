@@ -15,6 +15,7 @@ import argparse
 import contextlib
 import io
 import os
+import re
 import signal
 import subprocess
 import sys
@@ -61,7 +62,8 @@ class Ended(Stop):
 class BadLine(Ended):
     """The program takes no such line, and has ended for it."""
 
-    def __init__(self, line: str) -> None:
+    def __init__(self, line: str, answer: str) -> None:
+        self.line, self.answer = line, answer
         self.why = grammar.why_bad(line) or "the program does not know it"
         super().__init__(f"the program takes no line {line!r}: {self.why}")
 
@@ -142,7 +144,7 @@ class Host:
             raise self.ended(f" before it answered {line!r}")
         answer = text[:-1].decode(errors="replace")
         if answer.startswith("bad line "):
-            raise BadLine(line)
+            raise BadLine(line, answer)
         return answer
 
     def ended(self, when: str = "") -> Ended:
@@ -273,7 +275,7 @@ def words_of(description: Optional[str], usage: str, *places: Tuple[str, Dict[st
     words = sys.argv[1:]
     own = os.path.basename(sys.argv[0])
     if own.startswith(INSTALLED):
-        description = (description or "").replace(f"tools/{own[len(INSTALLED):]}", own)
+        description = re.sub(r"\btools/(\w+)", rf"{INSTALLED}\1", description or "")
     at = words.index("--") if "--" in words else len(words)
     parser = argparse.ArgumentParser(description=description, usage=f"%(prog)s {usage} [-- OPTION-OF-SIM ...]", allow_abbrev=False,
                                      formatter_class=argparse.RawDescriptionHelpFormatter)

@@ -50,6 +50,12 @@ def vtimes_of(host, places):
     return {place: int(answer.split(" ")[-1]) for place, answer in zip(places, answers)}
 
 
+def budgets_of(host, entities):
+    """The budgets of some entities, in sectors."""
+    answers = host.ask_all([f"entity {entity}" for entity in entities]) if entities else []
+    return {entity: int(answer.split(" ")[6]) for entity, answer in zip(entities, answers)}
+
+
 def name_of(entity):
     """What an entity is."""
     return f"seat {entity}" if entity < OF_GROUPS else f"group {entity - OF_GROUPS}"
@@ -69,7 +75,7 @@ def picture(host):
         ["show host", "show service", "show requeued", "show flight", *(f"show seat {seat}" for seat in range(SEATS))])
     return [*of_host(machine, service), *of_seats(host, seats),
             *of_list("dispatch list", map(given_back, requeued.split(" ")[1:])),
-            *of_list("in flight", map(in_flight, flight.split(" ")[1:])), *of_tree(*trees(host))]
+            *of_list("in flight", map(in_flight, flight.split(" ")[1:])), *of_groups(host)]
 
 
 def wrapped(text, indent=""):
@@ -126,8 +132,8 @@ def in_flight(item):
     return f"tag {tag}, issue {issue}: {given_back(rest)}"
 
 
-# A row of the picture of groups: a name, a class and a state; the numbers; and the times by weight.
-Row = collections.namedtuple("Row", "words numbers by_weight")
+# A row of the picture of groups: a name, a class and a state; a weight; a budget; the times; and the times by weight.
+Row = collections.namedtuple("Row", "words weight budget times by_weight")
 
 
 def trees(host):
@@ -142,30 +148,33 @@ def trees(host):
     return found, {**{(group, BEST_EFFORT): tree.vtime for group, tree in found.items()}, **vtimes_of(host, others)}
 
 
-def of_tree(found, vtimes):
-    """The groups with their members and their virtual times, and with classes if one is not best effort. What is too wide for one line
-    has its times by weight in a second one."""
-    rows = [Row([f"group {ROOT}", "class", "state"], ["weight", "start", "finish"], [f"start/2^{SCALE}", f"finish/2^{SCALE}"]),
-            *rows_of(found, vtimes, ROOT, INDENT)]
+def of_groups(host):
+    """The groups with their members, their budgets and their virtual times, and with classes if one is not best effort. What is too wide
+    for one line has its budget and its times by weight in a second one."""
+    found, vtimes = trees(host)
+    budgets = budgets_of(host, [it.entity for tree in found.values() for it in tree.members])
+    rows = [Row([f"group {ROOT}", "class", "state"], "weight", "budget", ["start", "finish"], [f"S/2^{SCALE}", f"F/2^{SCALE}"]),
+            *rows_of(found, vtimes, budgets, ROOT, INDENT)]
     if not any(map(classes_of, found.values())):
         rows = [row._replace(words=[row.words[0], row.words[2]]) for row in rows]
-    lines = aligned([(row.words, [*row.numbers, *row.by_weight]) for row in rows])
+    lines = aligned([(row.words, [row.weight, row.budget, *row.times, *row.by_weight]) for row in rows])
     if max(map(len, lines)) > COLUMNS:
-        lines = aligned([part for row in rows for part in ((row.words, row.numbers), ([""] * len(row.words), ["", *row.by_weight]))])
+        lines = aligned([part for row in rows for part in ((row.words, [row.weight, *row.times]),
+                                                           ([""] * len(row.words), [row.budget, *row.by_weight]))])
     return lines
 
 
-def rows_of(found, vtimes, group, indent):
+def rows_of(found, vtimes, budgets, group, indent):
     """The rows of a group: its virtual times, and its members with all that is in them."""
     for name in CLASSES:
         if (vtime := vtimes.get((group, name))) is not None:
-            yield Row([f"{indent}V", name, ""], ["", str(vtime), ""], [by_weight(vtime), ""])
+            yield Row([f"{indent}V", name, ""], "", "", [str(vtime), ""], [by_weight(vtime), ""])
     for it in found[group].members:
         weight = f"{it.weight}" if it.weight == it.pending else f"{it.weight}->{it.pending}"
-        yield Row([f"{indent}{name_of(it.entity)}", it.class_name, it.state], [weight, str(it.start), str(it.finish)],
-                  [by_weight(it.start), by_weight(it.finish)])
+        yield Row([f"{indent}{name_of(it.entity)}", it.class_name, it.state], weight, str(budgets[it.entity]),
+                  [str(it.start), str(it.finish)], [by_weight(it.start), by_weight(it.finish)])
         if it.entity >= OF_GROUPS:
-            yield from rows_of(found, vtimes, it.entity - OF_GROUPS, indent + INDENT)
+            yield from rows_of(found, vtimes, budgets, it.entity - OF_GROUPS, indent + INDENT)
 
 
 def aligned(rows):

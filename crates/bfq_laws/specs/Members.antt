@@ -1,11 +1,11 @@
--- Which entities a group's tree has.
+-- Which entities a group's trees have.
 use Rattle.std.specs.Prelude.{◌≡◌, ℕ, true, List, Some, None, is_some, slice_index_or}
 use Rattle.change_record.specs.Machine.{Bfq}
 use Rattle.plain_machine.specs.declared.call.Call.{Call}
 use Rattle.plain_machine.specs.Step.{Limits}
 use Rattle.plain_machine.specs.Keeper.{machine_of, replay}
 
--- an entity that a group's tree has is in that group, and each entity that is in a group is in its tree (our profile)
+-- an entity that a group's trees have is in that group, and each entity that is in a group is in its trees (our profile)
 abbrev pub AreMembers : Bfq → Type 0
 AreMembers b =
     ((group entity : ℕ) → is_some (slice_index_or (b.service group).members entity None) ≡ true → b.parent entity ≡ Some group)

@@ -6,18 +6,18 @@ use Rattle.class_trees.specs.Classes.{rank}
 use Rattle.group_tree.specs.Groups.{path}
 use Rattle.change_record.specs.declared.change.InService.{InService}
 use Rattle.change_record.specs.Machine.{Bfq, Plain}
-use Rattle.change_record.specs.Rules.{class_of, group_of, select}
+use Rattle.change_record.specs.Rules.{class_of, group_of}
 use Rattle.plain_machine.specs.declared.call.Call.{Call}
-use Rattle.plain_machine.specs.Step.{Limits, is_bfq, with_budget_in}
+use Rattle.plain_machine.specs.Step.{Limits, is_bfq, with_budget_in, with_slot}
 use Rattle.plain_machine.specs.Keeper.{machine_of, replay}
 
 -- no entity that waits in the same group is of a higher class (bfq: classes in strict order)
 abbrev pub GoesFirst : Bfq → ℕ → Type 0
 GoesFirst b entity = (n : ℕ) (m : Member) → IsActiveAt (b.service (group_of b entity)).members n m → rank (class_of b entity) ≤ rank m.class
 
--- if a queue is selected, no sibling of a higher class waits: of its session, nor of a group above it
+-- if nobody is in service, whoever is selected goes first, as things stand before that: the session, and each group above it
 abbrev pub SelectsInOrder : Bfq → Type 0
-SelectsInOrder b = b.slot ≡ None → (slot : InService) → (select b).slot ≡ Some slot → All (GoesFirst (select b)) (path b.parent slot.seat)
+SelectsInOrder b = b.slot ≡ None → (slot : InService) → (with_slot b).slot ≡ Some slot → All (GoesFirst b) (path b.parent slot.seat)
 
 -- so it is if a dispatch selects
 abbrev pub DispatchesInOrder : Limits → Plain → Type 0

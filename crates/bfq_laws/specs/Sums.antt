@@ -8,8 +8,8 @@ use Rattle.plain_machine.specs.declared.call.Call.{Call}
 use Rattle.plain_machine.specs.Step.{Limits, is_bfq, with_budget_in, with_slot}
 use Rattle.plain_machine.specs.Keeper.{machine_of, replay}
 
--- if a queue is in service, some weight counts in the class of each entity on its path, in its group (B-WF2Q+: a virtual time rises by the
--- share of a sum of weights)
+-- if a queue is in service, some weight counts in the class of each entity on its path, in its group (B-WF2Q+: by their sum the share is
+-- made by which a virtual time rises)
 abbrev pub SumsAreThere : Bfq → Type 0
 SumsAreThere b = (slot : InService) → b.slot ≡ Some slot → All (λ entity. 1 ≤ wsum b (group_of b entity) (class_of b entity)) (path b.parent slot.seat)
 

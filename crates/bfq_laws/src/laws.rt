@@ -45,13 +45,13 @@ pub fn weights_are_positive()
     ensures { (l : Limits) (most : ℕ) (journal : List Call) → WeightsArePositive l most journal }
 {}
 
-/// There, under BFQ, the sum of the weights is not 0 in any group on the path of the queue in service, also where a dispatch
-/// has one in service before it charges. The body is empty: the contract is the law.
+/// There, under BFQ, the sum of the weights is not 0 in the class of each entity on the path of the queue in service, in its group.
+/// Nor is it if a dispatch has a queue in service, before it charges. The body is empty: the contract is the law.
 pub fn sums_are_positive()
     ensures { (l : Limits) (most : ℕ) (journal : List Call) → SumsArePositive l most journal }
 {}
 
-/// On the machine of every keeper that a journal makes, the tree of a group has just the entities that are in the group.
+/// On the machine of every keeper that a journal makes, the trees of a group have just the entities that are in it.
 /// The body is empty: the contract is the law.
 pub fn entities_are_members()
     ensures { (l : Limits) (most : ℕ) (journal : List Call) → EntitiesAreMembers l most journal }
@@ -75,8 +75,8 @@ pub fn seats_are_in_groups()
     ensures { (l : Limits) (most : ℕ) (journal : List Call) → TakenSeatsAreInGroups l most journal }
 {}
 
-/// On the machine of every keeper that a journal makes, if a dispatch under BFQ selects a queue, no sibling of a higher class
-/// waits: of its session, nor of a group above it. The body is empty: the contract is the law.
+/// On the machine of every keeper that a journal makes a dispatch under BFQ selects nobody while a sibling of a higher class waits.
+/// That holds of the session, and of each group above it. The body is empty: the contract is the law.
 pub fn classes_are_in_order()
     ensures { (l : Limits) (most : ℕ) (journal : List Call) → ClassesAreInOrder l most journal }
 {}
