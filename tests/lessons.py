@@ -1,4 +1,4 @@
-"""The parts of README.md and docs/GUIDE.md with commands for a shell: each is given to one, and must print what stands below it.
+"""The parts of some pages (PAGES) with commands for a shell: each is given to one, and must print what stands below it.
 
 A command is a row that begins with four spaces, a dollar sign and a space; the rows below it, up to the next command or a text, are what
 is printed from then on, also by what runs beside it. Empty rows count for nothing. A folder that `mktemp -d` has made may have another
@@ -22,7 +22,7 @@ SECONDS = 30
 MADE = r"/tmp\.\w{10}"
 # How the folder of a run is told, and that of a document.
 SHOWN = "FOLDER"
-PAGES = ("README.md", "docs/GUIDE.md")
+PAGES = ("README.md", "docs/GUIDE.md", "docs/OWN_RULE.md")
 DIFFERS = "The numbers differ from run to run."
 # What not every machine has; some of it stands where only root looks.
 OF_FILE_SYSTEMS = ("mkfs.ext4", "e2fsck")

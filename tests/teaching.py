@@ -29,6 +29,10 @@ TASK = "# Two marks.\nattach 0 0 4 -> attached 1\n\nread 0 1 0 1 -> ?\ndispatch 
 DONE_TASK = "attach 0 0 4 -> attached 1\nread 0 1 0 1 -> queued 2\n# mine\ndispatch -> issued 0 3 fetch 0 1\nline\n"
 
 
+OF_OPTIONS = ["# The options: --tags 1 --timeout 9\nattach 0 0 4\nread 0 1 0 1\nread 0 1 9 1\ndispatch\ndispatch -> " + answer
+              for answer in ("?\n", "refused 18\n")]
+
+
 def task(name, text, stdout, status=NOT_WANTED, **more):
     """A student's file that is judged by the task."""
     return Run(f"expect: task: {name}", ["expect", "file", "--task", "task"], {"file": text, "task": TASK}, stdout=stdout, status=status,
@@ -58,6 +62,25 @@ RUNS = [
     task("a given answer is gone", DONE_TASK.replace(" -> attached 1", ""),
          "line 1 does not go on as in the task, line 2: attach 0 0 4 -> attached 1\n0 of 2 marks, as the lines are not those of task\n"),
     task("a bad line", DONE_TASK + "Line\n", "", BAD_INPUT, stderr="file: bad line 6: a capital letter: 'Line'\n"),
+    # An answer that is not well written costs its mark, and no more; blanks behind an answer that the task gives cost nothing.
+    *(task(f"an answer that is not well written: {why}", DONE_TASK.replace(" -> queued 2", written_so),
+           f"line 2: read 0 1 0 1\n    the answer is not well written: {why}\n4 lines asked, 2 answers as wanted\n1 of 2 marks\n")
+      for written_so, why in [(" -> queued 2 ", "after ->, a space too many: after the last word"),
+                              (" -> queued 2\r", "after ->, a carriage return"), (" -> ", "it is empty"), (" ->", "it is empty"),
+                              (" => queued 2", "the arrow is not ->"), (" \u2192 queued 2", "the arrow is not ->"),
+                              ("->queued 2", "-> with no space before it or after it")]),
+    task("all lines end in CRLF", DONE_TASK.replace("\n", "\r\n"),
+         "".join(f"line {at}: {line}\n    the answer is not well written: after ->, a carriage return\n"
+                 for at, line in [(2, "read 0 1 0 1"), (4, "dispatch")]) + "4 lines asked, 1 answers as wanted\n0 of 2 marks\n"),
+    # With one tag, as the task has it, a second dispatch has none; with the two that are given it has one.
+    Run("expect: the options of a task", ["expect", "file", "--task", "task"], {"file": OF_OPTIONS[1], "task": OF_OPTIONS[0]},
+        stdout="5 lines asked, 1 answers as wanted\n1 of 1 marks\n"),
+    Run("expect: other options than those of a task", ["expect", "file", "--task", "task", "--", "--tags=2"],
+        {"file": OF_OPTIONS[1], "task": OF_OPTIONS[0]}, status=NOT_WANTED,
+        stdout="the options are --tags=2, and those of the task are --tags 1 --timeout 9\nline 6: dispatch\n"
+               "    wanted   refused 18\n    answered issued 1 5 fetch 9 1\n5 lines asked, 0 answers as wanted\n0 of 1 marks\n"),
+    Run("expect: no marks", ["expect", "--all", "file"], {"file": "line\n"},
+        stdout="1 lines asked, 0 answers as wanted\nno line may have a mark: none has -> ANSWER\n"),
     Run("expect: no task", ["expect", "file", "--task", "task"], {"file": "line\n"}, stderr="task: No such file or directory\n",
         status=BAD_INPUT),
     Run("expect: fill and all", ["expect", "file", "--all", "--fill", "out"], {"file": "line\n"},
@@ -87,13 +110,13 @@ GROUPS = ["group 0 100", "group 0 200", "attach 0 1 4", "attach 1 2 4", "attach 
           "read 2 5 0 9", "dispatch", "dispatch", "dispatch", "finish 2 12 short"]
 NARROW = """\
 bfq, running, free; 13 of 13 steps stand, last serial 13
-                        weight  budget        S        F        V  queued  sent  done
-  group 0                                                   0.074
-    seat 2      idle        40     256    0.225    0.225                0     0     1
-    group 1     active     100    4096    0.000   40.960    0.000
-      seat 0    active      40    1024    0.000   25.600                1     0     0
-    group 2     idle       200    4096    0.080    0.080  1677720
-      seat 1    idle        40     256  1677721  1677721                0     2     0
+                    weight budget       S       F       V queued sent done
+  group 0                                           0.074
+    seat 2   idle       40    256   0.225   0.225              0    0    1
+    group 1  active    100   4096   0.000  40.960   0.000
+      seat 0 active     40   1024   0.000  25.600              1    0    0
+    group 2  idle      200   4096   0.080   0.080 1677720
+      seat 1 idle       40    256 1677721 1677721              0    2    0
 dispatch list: none
 in flight: tag 0 seat 1 fetch 0+8, tag 1 seat 1 fetch 100+8
 in service: none
@@ -106,13 +129,13 @@ why: group 0: V 0.074, eligible group 1 F 40.960: group 1 is taken; group 1: V 0
 next is fetch 0+64, from sector 0 on; seat 0 is empty then, and expires for emptying, budget 1024 -> 256; \
 seat 0: F' = S 0.000 + 64/40 = 1.600, idle; group 1: F' = S 0.000 + 64/100 = 0.640, idle
 bfq, running, free; 14 of 14 steps stand, last serial 14
-                      weight  budget        S        F        V  queued  sent  done
-* group 0                                                 0.262
-    seat 2      idle      40     256    0.225    0.225                0     0     1
-*   group 1     idle     100    4096    0.640    0.640    1.600
-*     seat 0    idle      40     256    1.600    1.600                0     1     0
-    group 2     idle     200    4096    0.080    0.080  1677720
-      seat 1    idle      40     256  1677721  1677721                0     2     0
+                  weight budget       S       F       V queued sent done
+* group 0                                         0.262
+    seat 2   idle     40    256   0.225   0.225              0    0    1
+*   group 1  idle    100   4096   0.640   0.640   1.600
+*     seat 0 idle     40    256   1.600   1.600              0    1    0
+    group 2  idle    200   4096   0.080   0.080 1677720
+      seat 1 idle     40    256 1677721 1677721              0    2    0
 dispatch list: none
 in flight: tag 0 seat 1 fetch 0+8, tag 1 seat 1 fetch 100+8, tag 2 seat 0 ..
 in service: none
@@ -125,6 +148,26 @@ def narrow(program, folder):
     written(folder, "script", "".join(f"{line}\n" for line in GROUPS))
     stdout, *rest = ran(["step", "--narrow", "script"], folder, program, stdin=b"dispatch\n")
     yield from compared((stdout[stdout.find("bfq, "):], *rest), NARROW + NEXT)
+
+
+def narrow_examples(program, folder):
+    """No line of a picture of any example has more than 80 columns. What is told between pictures may be longer: answers and reasons."""
+    for name in sorted(name for name in os.listdir(os.path.dirname(LECTURE)) if name.endswith(".script")):
+        path = os.path.join(os.path.dirname(LECTURE), name)
+        words = []
+        if os.path.exists(path.replace(".script", ".args")):
+            with open(path.replace(".script", ".args"), encoding="ascii") as file:
+                words = [os.path.join(TOP, word) if word.startswith("examples/") else word for word in file.read().split()[1:]]
+        # A picture comes after each line that is typed.
+        with open(path, "rb") as file:
+            stdout, *rest = ran(["step", "--narrow", "--", *words], folder, program, stdin=file.read())
+        lines = stdout.splitlines()
+        pictures = [at for at, line in enumerate(lines) if "steps stand, last serial" in line]
+        if not pictures:
+            yield f"{name}: no picture: {rest}"
+        for at in pictures:
+            end = lines.index("", at) if "" in lines[at:] else len(lines)
+            yield from (f"{name}: {len(line)} columns: {line}" for line in lines[at:end] if len(line) > COLUMNS)
 
 
 ROWS = 24
@@ -234,7 +277,7 @@ def teaching_runs(program):
     """The name of each run, and what was wrong with it. What cannot be had here is skipped, and a line is printed for it."""
     for run in RUNS:
         yield run.name, faults_of(run, program)
-    for function in (filled, narrow, at_24_rows, exercises):
+    for function in (filled, narrow, narrow_examples, at_24_rows, exercises):
         name = f"teaching: {function.__name__.replace('_', ' ')}"
         try:
             yield name, faults_in(function, program)

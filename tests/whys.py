@@ -104,6 +104,58 @@ next is fetch 260+64, from sector 259 on; seat 0 is empty then, and expires for 
 seat 0: F' = S 6.400 + 64/40 = 8.000, idle
 5 choices, 0 otherwise than worked out
 """
+# Time goes before exhaustion: the budget of 256 doubles, and is not four times as great. 512 sectors take 12.8.
+BOTH = "attach 0 0 4\n" + "".join(f"read 0 1 {65 * at} 64\n" for at in range(5)) + 4 * "dispatch\n" + "tick\ndispatch\n"
+WHY_OF_BOTH = """\
+dispatch -> issued 4 12 fetch 260 64
+    why: seat 0 expires for time: its age is 1 of 1, budget 256 -> 512; seat 0: F' = S 0.000 + 256/40 = 6.400, waits with F 19.200; \
+group 0: V jumps from 6.400 (26843544) to 6.400 (26843545), the least S, eligible seat 0 F 19.200: seat 0 is taken; \
+next is fetch 260+64, from sector 259 on; seat 0 is empty then, and expires for emptying, budget 512 -> 256; \
+seat 0: F' = S 6.400 + 64/40 = 8.000, idle
+5 choices, 0 otherwise than worked out
+"""
+# 256 sectors take 26,843,545 at weight 40 and 107,374,182 at weight 10. From so far below 2^62 on the first finish is 2^62 itself, which
+# may be. What is a budget of 1,024 later may not. Nor may 256 sectors at weight 10 when another one, who has left, has moved V before.
+FULL_FINISH = ALIKE
+WHY_OF_FULL_FINISH = """\
+dispatch -> refused 27 (VtimeFull)
+    why: seat 0 expires for exhaustion: 256 sectors sent and 64 next pass its budget of 256, budget 256 -> 1024; \
+a virtual time would pass 2^62
+5 choices, 0 otherwise than worked out
+"""
+JUST_FULL = "attach 0 0 7\nread 0 1 0 64\nread 0 1 64 64\nread 0 1 128 64\nread 0 1 192 64\n"
+WHY_OF_JUST_FULL = """\
+dispatch -> issued 0 6 fetch 0 256
+    why: group 0: V 1099511627750.400, eligible seat 0 F 1099511627776.000: seat 0 is taken; next is fetch 0+256, from sector 0 on; \
+seat 0 is empty then, and expires for emptying, budget 256 stays; \
+seat 0: F' = S 1099511627750.400 + 256/10 = 1099511627776.000, idle
+1 choices, 0 otherwise than worked out
+"""
+# 64 sectors at the sum of 90 take 2,982,616, which are 0.711.
+FULL_CHARGE = JUST_FULL + "attach 1 0 0\nread 1 6 500 64\ndispatch\nfinish 0 8 short\nleave 1\ndispatch\n"
+WHY_OF_FULL_CHARGE = """\
+dispatch -> refused 27 (VtimeFull)
+    why: group 0: V 1099511627751.111, eligible seat 0 F 1099511627776.000: seat 0 is taken; next is fetch 0+256, from sector 0 on; \
+a virtual time would pass 2^62
+2 choices, 0 otherwise than worked out
+"""
+THREE = "attach 0 0 4\nattach 1 0 4\nattach 2 0 4\nread 0 1 0 1\nread 1 2 10 1\nread 2 3 20 1\ndispatch\n"
+WHY_OF_THREE = """\
+dispatch -> issued 0 7 fetch 0 1
+    why: group 0: V 0.000, eligible seat 0 F 25.600, seat 1 F 25.600, seat 2 F 25.600: seat 0 is taken, of the same F as seat 1 and \
+seat 2 and the lower number; next is fetch 0+1, from sector 0 on; seat 0 is empty then, and expires for emptying, budget 1024 -> 256; \
+seat 0: F' = S 0.000 + 1/40 = 0.025, idle
+1 choices, 0 otherwise than worked out
+"""
+# The last choice of each script, with its words.
+LAST = {
+    "times that look alike": (ALIKE, WHY_OF_ALIKE, ["--tags=64", "--first-budget=256", "--max-budget=256"]),
+    "time and exhaustion at once": (BOTH, WHY_OF_BOTH, ["--tags=8", "--timeout", "1", "--first-budget", "256"]),
+    "a finish past 2^62": (FULL_FINISH, WHY_OF_FULL_FINISH, ["--tags=8", "--first-budget=256", f"--first-vtime={2**62 - 26843545}"]),
+    "2^62 itself": (JUST_FULL + "dispatch\n", WHY_OF_JUST_FULL, ["--first-budget=256", f"--first-vtime={2**62 - 107374182}"]),
+    "a charge past 2^62": (FULL_CHARGE, WHY_OF_FULL_CHARGE, ["--first-budget=256", f"--first-vtime={2**62 - 107374182}"]),
+    "a tie of three": (THREE, WHY_OF_THREE, []),
+}
 NO_STEP = "attach 16 0 4\ndispatch\n# one\nline\n"
 TOLD_OF_NO_STEP = "attach 16 0 4 -> refused 1 (BadSeat)\n"
 
@@ -158,6 +210,65 @@ def others(program):
     # Without --why answers alone are asked, which are as they must be.
     yield Run("expect: answers alone", ["expect", "script"], {"script": AGED}, stdout="14 lines asked, 0 answers as wanted\n",
               program=of_budget)
+
+
+# A host that ticks when it refuses a dispatch; one that finds no memory for the second one; and one whose looks do not go together, or
+# are not as they must be.
+MEDDLING = """\
+#!/usr/bin/env python3
+import subprocess, sys
+dispatches = 0
+with subprocess.Popen(["PROGRAM", *sys.argv[1:]], stdin=subprocess.PIPE, stdout=subprocess.PIPE, text=True) as host:
+    def ask(line):
+        print(line, end="" if line.endswith("\\n") else "\\n", file=host.stdin, flush=True)
+        return host.stdout.readline()
+    for line in sys.stdin:
+        dispatches += line == "dispatch\\n"
+        {}
+        print(answer, end="", flush=True)
+"""
+TICKS = 'answer = ask(line)\n        if answer == "refused 18\\n":\n            ask("tick")'
+NO_MEMORY = 'answer = "refused 34\\n" if (line, dispatches) == ("dispatch\\n", 2) else ask(line)'
+NOBODY_WAITS = 'answer = ask(line).replace(":active:", ":idle:")'
+NO_SUCH_STATE = 'answer = ask(line).replace(":active:", ":waiting:")'
+TWO_READS = "attach 0 0 4\nread 0 1 0 1\nread 0 1 9 1\ndispatch\ndispatch\n"
+FIRST_OF_TWO = ("dispatch -> issued 0 4 fetch 0 1\n    why: group 0: V 0.000, eligible seat 0 F 25.600: seat 0 is taken; "
+                "next is fetch 0+1, from sector 0 on\n")
+TOLD_OF_TICKS = FIRST_OF_TWO + """\
+dispatch -> refused 18 (NoTag)
+    why: each of the 1 tags bears a request in flight
+    !!! THE HOST DID OTHERWISE: the count of calls is 5 and not 4
+    !!! THE HOST DID OTHERWISE: the last serial is 5 and not 4
+    !!! THE HOST DID OTHERWISE: the queue in service is Service(seat=0, sent=1, age=1) and not Service(seat=0, sent=1, age=0)
+2 choices, 1 otherwise than worked out
+"""
+TOLD_OF_NO_MEMORY = FIRST_OF_TWO + """\
+dispatch -> refused 34 (OutOfMemory)
+    why: seat 0 is in service and goes on: 1 of 1024 sectors sent, 1 next, age 0 of 8; next is fetch 9+1, from sector 1 on; \
+seat 0 is empty then, and expires for emptying, budget 1024 -> 256; seat 0: F' = S 0.000 + 2/40 = 0.050, idle; \
+no memory was found, which no look tells
+2 choices, 0 otherwise than worked out, 1 without memory
+"""
+TOLD_OF_NOBODY = """\
+dispatch -> issued 0 3 fetch 0 1
+    why: nobody waits in group 0, though a request is queued
+    !!! THE HOST DID OTHERWISE: its looks do not go together
+1 choices, 1 otherwise than worked out
+"""
+
+
+def meddling(program):
+    """A host that changes something on a refusal, one that finds no memory, and looks that cannot be."""
+    def of(change):
+        return MEDDLING.replace("{}", change).replace("PROGRAM", program)
+
+    yield why("a host that ticks on a refusal", TWO_READS, TOLD_OF_TICKS, status=NOT_WANTED, words=["--tags=1"], program=of(TICKS))
+    yield why("no memory", TWO_READS, TOLD_OF_NO_MEMORY, program=of(NO_MEMORY))
+    one_read = "attach 0 0 4\nread 0 1 0 1\ndispatch\n"
+    yield why("looks that do not go together", one_read, TOLD_OF_NOBODY, status=NOT_WANTED, program=of(NOBODY_WAITS))
+    # 1,024 sectors at weight 40 take 107,374,182.
+    yield why("a look with another rest", one_read, "", "PROGRAM lacks a look: it was asked 'show tree 0', and "
+              "'tree 0 - 0 0:waiting:0:107374182:40:40' came\n", NO_PROGRAM, program=of(NO_SUCH_STATE))
 
 
 # When 8 ticks are over the budget of 1,024 doubles, but to 1,030 at most by the words of the host. 8 sectors take 838,860 at weight 40;
@@ -225,18 +336,19 @@ def all_as_worked_out(program, count_at_random):
     yield "why: there are many choices", [] if choices >= LEAST_CHOICES * count_at_random else [f"there are {choices}"]
 
 
-def alike(program):
-    """Times that would look the same are whole as well."""
+def last_choice(program, script, wanted, words):
+    """What is told of the last dispatch of a script. Of those before it nothing else is told than of others."""
     with tempfile.TemporaryDirectory() as folder:
-        written(folder, "script", ALIKE)
-        stdout, *rest = ran(["why", "script", "--", "--tags=64", "--first-budget=256", "--max-budget=256"], folder, program)
-    return [*compared((stdout[stdout.find("dispatch -> issued 4"):], *rest), WHY_OF_ALIKE)]
+        written(folder, "script", script)
+        stdout, *rest = ran(["why", "script", "--", *words], folder, program)
+    return [*compared((stdout[stdout.rfind("dispatch -> "):], *rest), wanted)]
 
 
 def why_runs(program, count_at_random):
     """The name of each run, and what was wrong with it."""
-    yield "why: times that look alike", alike(program)
-    for run in [*RUNS, *others(program)]:
+    for name, case in LAST.items():
+        yield f"why: {name}", last_choice(program, *case)
+    for run in [*RUNS, *others(program), *meddling(program)]:
         yield run.name, faults_of(run, program)
     try:
         yield from all_as_worked_out(program, count_at_random)

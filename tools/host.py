@@ -171,7 +171,7 @@ class Host:
             self.process.kill()
             status = self.process.wait()
         self.listener.join(timeout=SECONDS)
-        if isinstance(fault, (ValueError, LookupError)):
+        if isinstance(fault, (ValueError, LookupError, TypeError, AttributeError, StopIteration)):
             raise Ended(f"{self.program} gives an answer that bfqhost does not give: {fault}") from None
         if fault is None and status:
             raise self.ended()

@@ -39,7 +39,11 @@ class Narrow:
         now = {row.of: (row.words, row.numbers) for row in rows}
         changed = {of for of, text in now.items() if self.before and self.before.get(of) != text}
         self.before = now
-        first, *texts = aligned([(["", "", ""], HEAD), *((row.words, row.numbers) for row in rows)])
+        table = [(["", "", ""], HEAD), *((row.words, row.numbers) for row in rows)]
+        first, *texts = aligned(table)
+        if max(map(len, [first, *texts])) > COLUMNS - len(MARK):
+            # No column of classes is needed where all are best effort, and there is less room between the columns.
+            first, *texts = aligned([(words if any(row.words[1] for row in rows) else words[::2], numbers) for words, numbers in table], " ")
         lines = [(f"{said[1]}, {said[2]}, {said[3]}; {said[5]} of {said[6]} steps stand, last serial {said[7]}", False, False),
                  (NO_MARK + first, False, False)]
         kept = fitting([(row, text, row.of in changed) for row, text in zip(rows, texts)], LINES - len(lines) - 4)

@@ -6,7 +6,9 @@ and the looks after it are compared with that: the request, the queue in service
 """
 
 import collections
+import copy
 import dataclasses
+import re
 
 import grammar
 from host import BadLine, Ended
@@ -32,6 +34,10 @@ Asked = collections.namedtuple("Asked", "answer why faults")
 
 class Full(Exception):
     """A virtual time would be too great."""
+
+
+class Contradiction(Exception):
+    """What the looks say does not go together."""
 
 
 @dataclasses.dataclass
@@ -68,11 +74,14 @@ class Machine:
         """The entities from a session up to the root, which is none."""
         entity = seat
         while entity is not None:
+            self.member(entity)
             yield entity
             group = self.parents[entity]
             entity = None if group == ROOT else OF_GROUPS + group
 
     def member(self, entity):
+        if entity not in self.parents:
+            raise Contradiction(f"{name_of(entity)} is served, and no group has it")
         return self.members[self.parents[entity]][entity]
 
     def put(self, entity, **given):
@@ -85,23 +94,49 @@ class Machine:
 
     def next_of(self, seat):
         """The request of a queue that is sent next: the first from its head on, else the first of all."""
-        queue = self.queues[seat]
+        queue = self.queues.get(seat)
+        if queue is None or not queue.requests:
+            raise Contradiction(f"seat {seat} is served, and no request is queued there")
         return min(queue.requests, key=lambda it: (it.start < queue.head, it.start))
 
     def flat(self):
         """All that must be as the rules say, by name."""
         return {
-            "the queue in service": self.service, "the dispatch list": self.returned, "what is in flight": self.flight,
+            "the scheduler": self.scheduler, "whether it is held": self.is_held, "the last serial": self.serial,
+            "the count of calls": self.calls, "the queue in service": self.service, "the dispatch list": self.returned,
+            "what is in flight": self.flight,
             "the round robin": self.last_seat,
             **{f"the queue of seat {seat}": queue for seat, queue in self.queues.items()},
-            **{name_of(it.entity): f"{it.state} with S {it.start}, F {it.finish} and weight {it.weight}"
+            **{name_of(it.entity): f"{it.state} with S {it.start}, F {it.finish} and weight {told_weight(it)}"
                for of in self.members.values() for it in of.values()},
             **{f"V of class {name} in group {group}": vtime for (group, name), vtime in self.vtimes.items()},
             **{f"the budget of {name_of(entity)}": budget for entity, budget in self.budgets.items()},
         }
 
 
+def told_weight(member):
+    """The weight in effect, and the pending one if that is another."""
+    return f"{member.weight}" if member.weight == member.pending else f"{member.weight}->{member.pending}"
+
+
 # The looks.
+
+REQUEST = r"(fetch|store):\d+\+\d+:\d+(,\d+)*"
+# The answers to looks, by their first word. A queue, an outbox, an entity is asked for where there is one. A later program may have more in
+# an item of a tree.
+ANSWERS = {
+    "host": r"host (bfq|none) (running|frozen) (free|held)( \d+){5}",
+    "service": r"service (none|\d+( \d+){3})",
+    "requeued": rf"requeued( \d+:{REQUEST})*",
+    "flight": rf"flight( \d+:\d+:\d+:{REQUEST})*",
+    "seat": r"seat \d+ (none|\d+( \d+){4} \w+)",
+    "queue": rf"queue \d+( {REQUEST})*",
+    "outbox": r"outbox \d+( \d+:(written|read|short|fault))*",
+    "tree": r"tree \d+ (none|(-|\d+) \d+( \d+:(idle|active|serving):\d+:\d+:[1-9]\d*:[1-9]\d*(:[^ :]+)*)*)",
+    "vtime": r"vtime \d+ (rt|be|idle) \d+",
+    "entity": r"entity \d+ (idle|active|serving)( \d+){5,}",
+}
+
 
 class Looks:
     """A host that is asked looks. One that it has not, or that is told otherwise, is told with what came."""
@@ -120,7 +155,8 @@ class Looks:
         except BadLine as fault:
             raise Ended(f"{self.host.program} lacks a look: it was asked {fault.line!r}, and {fault.answer!r} came") from None
         for line, answer in zip(lines, answers):
-            if answer.split(" ")[0] != line.removeprefix("show ").split(" ")[0]:
+            asked = line.removeprefix("show ")
+            if not f"{answer} ".startswith(f"{asked} ") or not re.fullmatch(ANSWERS.get(asked.split(" ")[0], ".*"), answer, re.ASCII):
                 raise Ended(f"{self.host.program} lacks a look: it was asked {line!r}, and {answer!r} came")
         return answers
 
@@ -222,17 +258,20 @@ class Choice:
         return None
 
     def reason(self):
-        """The whole reason."""
+        """The whole reason. It has no answer if the looks do not go together."""
         if refusal := self.refusal():
             return Reason(refusal[1], refusal[0], None)
         try:
             seat, request = self.sent()
         except Full:
             return Reason("; ".join([*self.said, "a virtual time would pass 2^62"]), VTIME_FULL, None)
+        except Contradiction as fault:
+            return Reason("; ".join([*self.said, str(fault)]), None, None)
         machine = self.machine
         tag = next(tag for tag in range(self.limits["--tags"]) if tag not in machine.flight)
         machine.flight = dict(sorted([*machine.flight.items(), (tag, (seat, request))]))
-        return Reason("; ".join(self.said), f"issued {tag} {machine.serial + 1} {request.operation} {request.start} {request.count}", seat)
+        machine.serial, machine.calls = machine.serial + 1, machine.calls + 1
+        return Reason("; ".join(self.said), f"issued {tag} {machine.serial} {request.operation} {request.start} {request.count}", seat)
 
     def sent(self):
         """Whose request is sent, and which."""
@@ -247,6 +286,7 @@ class Choice:
         """The round robin."""
         machine = self.machine
         after = [(machine.last_seat + 1 + at) % SEATS for at in range(SEATS)]
+        # There is one, as a request is queued: in a queue of these seats, for no other is asked.
         seat = next(seat for seat in after if seat in machine.queues and machine.queues[seat].requests)
         request = machine.queues[seat].requests.pop(0)
         self.said.append(f"by turns: after seat {machine.last_seat} the next with a request is seat {seat}; its earliest is "
@@ -258,6 +298,7 @@ class Choice:
         """The rules of BFQ."""
         machine = self.machine
         if machine.service:
+            machine.member(machine.service.seat)
             self.go_on_or_expire()
         if machine.service is None:
             self.select()
@@ -311,7 +352,9 @@ class Choice:
         """From the root down to a session."""
         group = ROOT
         while True:
-            name = next(name for name in grammar.CLASSES if self.machine.active(group, name))
+            name = next((name for name in grammar.CLASSES if self.machine.active(group, name)), None)
+            if name is None:
+                raise Contradiction(f"nobody waits in group {group}, though a request is queued")
             entity = self.pick(group, name)
             self.machine.put(entity, state="serving")
             if entity < OF_GROUPS:
@@ -349,7 +392,9 @@ class Choice:
         machine.service = machine.service._replace(sent=machine.service.sent + request.count)
         for entity in machine.path(seat):
             place = machine.parents[entity], machine.member(entity).class_name
-            machine.vtimes[place] = checked(machine.vtimes[place] + delta(request.count, self.sum_of(*place)))
+            if not (weights := self.sum_of(*place)):
+                raise Contradiction(f"{name_of(entity)} is served, and no weight counts in group {place[0]}")
+            machine.vtimes[place] = checked(machine.vtimes[place] + delta(request.count, weights))
 
     def sum_of(self, group, name):
         """The sum of weights of a class in a group."""
@@ -380,33 +425,44 @@ class Reasons:
         self.host = host
         self.limits = limits_of(options)
         self.choices = 0
-        # How many of them the host made otherwise.
-        self.others = 0
+        # How many of them the host made otherwise, and for how many it found no memory.
+        self.others = self.without_memory = 0
 
     def ask(self, line):
         """Asks a line. If it is a dispatch it is worked out before, and compared after."""
         if line != "dispatch":
             return Asked(self.host.ask(line), None, [])
-        machine = look(self.host)
-        reason = Choice(machine, self.limits).reason()
+        before = look(self.host)
+        after = copy.deepcopy(before)
+        reason = Choice(after, self.limits).reason()
         answer = self.host.ask(line)
-        faults = [*self.differences(reason, machine, answer)]
+        # There may be no memory for what would else be done.
+        is_no_memory = answer == NO_MEMORY and reason.answer not in (HELD, NOTHING_QUEUED, NO_TAG, HISTORY_FULL)
+        wanted = answer if is_no_memory else reason.answer
+        faults = [*self.differences(answer, wanted, before if grammar.is_refusal(answer) else after)]
         self.choices += 1
+        self.without_memory += is_no_memory
         self.others += bool(faults)
-        return Asked(answer, reason.text, faults)
+        return Asked(answer, f"{reason.text}; no memory was found, which no look tells" if is_no_memory else reason.text, faults)
 
-    def differences(self, reason, machine, answer):
-        """Where the host did otherwise than the rules have it."""
-        # There may be no memory for what would be done otherwise, and no look tells that.
-        if answer == NO_MEMORY and reason.answer not in (HELD, NOTHING_QUEUED, NO_TAG, HISTORY_FULL):
+    def differences(self, answer, wanted, machine):
+        """Where the host did otherwise than the rules have it: its answer, and what the machine is after it. A refusal changes nothing."""
+        if wanted is None:
+            yield "its looks do not go together"
             return
-        if answer != reason.answer:
-            yield f"the answer is {grammar.told(answer)} and not {grammar.told(reason.answer)}"
-        elif not grammar.is_refusal(answer):
-            wanted, found = machine.flat(), look(self.host).flat()
-            for what in sorted({*wanted} | {*found}):
-                if wanted.get(what) != found.get(what):
-                    yield f"{what} is {found.get(what)} and not {wanted.get(what)}"
+        if answer != wanted:
+            yield f"the answer is {grammar.told(answer)} and not {grammar.told(wanted)}"
+            # After another step than the wanted one nothing can be as wanted.
+            if not grammar.is_refusal(answer):
+                return
+        of_rules, found = machine.flat(), look(self.host).flat()
+        for what in sorted({*of_rules} | {*found}):
+            if of_rules.get(what) != found.get(what):
+                yield f"{what} is {found.get(what)} and not {of_rules.get(what)}"
+
+    def __str__(self):
+        without = f", {self.without_memory} without memory" if self.without_memory else ""
+        return f"{self.choices} choices, {self.others} otherwise than worked out{without}"
 
 
 def lines_of(asked):

@@ -177,7 +177,7 @@ def rows_of(found, vtimes, budgets, group, indent):
             yield from rows_of(found, vtimes, budgets, it.entity - OF_GROUPS, indent + INDENT)
 
 
-def aligned(rows):
+def aligned(rows, gap=GAP):
     """Rows of words and numbers in columns as wide as the widest of them. Words begin together, and numbers end together."""
     widths = [max(map(len, column)) for column in zip(*([*words, *numbers] for words, numbers in rows))]
-    return [GAP.join([*map(str.ljust, words, widths), *map(str.rjust, numbers, widths[len(words):])]).rstrip() for words, numbers in rows]
+    return [gap.join([*map(str.ljust, words, widths), *map(str.rjust, numbers, widths[len(words):])]).rstrip() for words, numbers in rows]
