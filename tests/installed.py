@@ -22,7 +22,7 @@ TOOLS = ["bfq-compare", "bfq-expect", "bfq-export", "bfq-iolog", "bfq-plot", "bf
 PAGES = ["man1/bfqctl.1", "man1/bfqhost.1", "man5/bfqhost-script.5", "man7/bfqhost-protocol.7", "man7/bfqhost-serve.7"]
 # What must stand under PREFIX, but for the client's modules.
 FILES = {*(f"bin/{name}" for name in [*COMMANDS, *TOOLS]), "libexec/bfqhost/bfqhost", "libexec/bfqhost/bfqctl",
-         *(f"libexec/bfqhost/tools/{name}" for name in [*TOOLS, "driving.py", "grammar.py", "host.py", "measured.py", "narrow.py",
+         *(f"libexec/bfqhost/tools/{name}" for name in [*TOOLS, "drawn.py", "driving.py", "grammar.py", "host.py", "measured.py", "narrow.py",
                                                         "reasons.py", "sentences.py", "shares.py", "shown.py"]),
          *(f"share/man/{page}" for page in PAGES), *(f"share/bash-completion/completions/{name}" for name in COMMANDS)}
 CLIENT = "libexec/bfqhost/clients/"

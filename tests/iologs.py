@@ -5,13 +5,15 @@ What is expected is worked out by hand from docs/MODEL.md, from what the tool sa
 
 import json
 import os
+import re
 import shutil
+import stat
 import struct
 import subprocess
 import tempfile
 
 from bad_input import DONE
-from tools import BAD_INPUT, SECONDS, TOOLS, Run, faults_of, head, started, totals, written
+from tools import BAD_INPUT, LOG, SECONDS, TOOLS, Run, executable, faults_of, head, started, totals, written
 
 # Seat 0 has weight 80 at the root, beside a group of weight 50 with an idle client.
 FAST = head(2) + "/b add\n/b open\n/b read 0 4096\n/b read 4096 4096\n/b write 65536 512\n/b close\n"
@@ -109,7 +111,10 @@ RUNS = [
     bad("a priority past 7", ["fast.log:prio=8"], "fast.log:prio=8: a priority is 0 to 7: '8'\n"),
     bad("a priority of no number", ["fast.log:prio="], "fast.log:prio=: a priority is 0 to 7: ''\n"),
     bad("a group past 31", ["fast.log:group=32"], "fast.log:group=32: a group is 0 to 31: '32'\n"),
-    bad("a group that is none", ["fast.log:group=2"], "there is a group 2, and no group 1: they are numbered from 1 without a gap\n"),
+    bad("a group that is none", ["fast.log:group=2"],
+        "fast.log:group=2: there is a group 2, and no group 1: they are numbered from 1 without a gap\n"),
+    bad("a group past a gap", ["fast.log:group=1", "slow.log:group=3", "slow.log:group=3:prio=1"],
+        "slow.log:group=3: there is a group 3, and no group 2: they are numbered from 1 without a gap\n"),
     bad("a weight of the root", ["fast.log:weight=5"], "fast.log:weight=5: a weight is that of a group, and the root has none\n"),
     bad("a weight of 0", ["fast.log:group=1:weight=0"], "fast.log:group=1:weight=0: a weight is 1 to 1000: '0'\n"),
     bad("two weights", ["fast.log:group=1:weight=5", "slow.log:group=1:weight=6"],
@@ -119,6 +124,9 @@ RUNS = [
     bad("another word", ["fast.log:priority=1"], "fast.log:priority=1: No such file or directory\n"),
     bad("a log that is cut", ["cut.log:prio=0"], "cut.log: bad line 2: in version 2 stands FILE ACTION, or FILE ACTION OFFSET LENGTH\n",
         {"cut.log": head(2) + "/b read 40"}),
+    # What is left of a number may be one, too.
+    bad("a log that is cut in a number", ["cut.log"], "cut.log: bad line 3: it has no end, so the file is cut there\n",
+        {"cut.log": head(2) + "/b read 0 4096\n/b read 4096 512"}),
     bad("a length of no sectors", ["log:group=1"], "log: bad line 2: LENGTH is no multiple of 512: 100\n",
         {"log": head(2) + "/b read 0 100\n"}),
     bad("times of no log", ["fast.log", "--open", "--rate", "5"], "fast.log: bad line 2: version 2 has no times, which --open needs\n"),
@@ -197,8 +205,7 @@ def more_events(program):
                                        [*((letter, 8, 8) for letter in "QGI"), *((letter, 0, 8) for letter in "QF"), ("D", 0, 16),
                                         ("C", 0, 16)])
         written(folder, "log", head(2) + "/b read 0 512\n")
-        path = written(folder, "program", GIVES_BACK.replace("PROGRAM", program))
-        os.chmod(path, 0o755)
+        path = executable(folder, "program", GIVES_BACK.replace("PROGRAM", program))
         found = ran(["log", "--events", "e", "--json", "j", "--", "--tags=1"], folder, path)
         yield "a request given back, how it ends", differs(found[1:], ("", DONE))
         yield "a request given back", differs([it[:2] for it in events_of(read(folder, "e.blktrace.0"))[0]],
@@ -206,6 +213,46 @@ def more_events(program):
         client, = json.loads(read(folder, "j"))["clients"]
         yield "a request given back, its latency and its lag", differs((client["latency"]["dispatches"]["max"], client["lag"]["last"]),
                                                                        (2, 0.0))
+
+
+# What btt tells: how many bios were queued and how many requests were sent, and how often a bio went from the device to its end.
+QUEUED_AND_SENT = re.compile(r"(?m)^ \(  8,  0\) \| +(\d+) +(\d+) +[\d.]+ \|")
+TO_ITS_END = re.compile(r"(?m)^D2C( +[\d.]+){3} +(\d+)$")
+NO_SKIPS = "Skips: 0 forward (0 -   0.0%)\n"
+
+
+def by_btt(folder):
+    """What blkparse and btt make of the events: the three numbers, or what they complain of."""
+    complaints, told = [], {}
+    for words in (["blkparse", "-i", "e", "-d", "e.bin"], ["btt", "-i", "e.bin"]):
+        with started(words, folder) as tool:
+            told[words[0]], stderr = (text.decode() for text in tool.communicate(timeout=SECONDS))
+        complaints += [f"{words[0]} ends with {tool.returncode} and {stderr!r}"] if tool.returncode or stderr else []
+    complaints += [] if NO_SKIPS in told["blkparse"] else [f"blkparse skips events: {told['blkparse'][-200:]!r}"]
+    numbers, ends = QUEUED_AND_SENT.search(told["btt"]), TO_ITS_END.search(told["btt"])
+    return complaints or [*map(int, (*numbers.groups(), ends[2]))]
+
+
+def analysed(program):
+    """blkparse and btt take the events, and count what was queued and sent. btt counts each bio of a request from the device to its end."""
+    if lacking := [tool for tool in ("blkparse", "btt") if not shutil.which(tool)]:
+        print(f"skipped: iolog: no {' and no '.join(lacking)} here to show that the events are counted as they were sent")
+        return
+    with tempfile.TemporaryDirectory() as folder:
+        path = executable(folder, "program", GIVES_BACK.replace("PROGRAM", program))
+        apart, ten = (head(2) + "".join(f"/b read {step * at} 512\n" for at in range(10)) for step in (1024, 512))
+        for name, text, words, wanted in [("ten requests", apart, [], [10, 10, 10]), ("one of ten bios", ten, [], [10, 1, 10]),
+                                          ("ten that are alone", ten, ["--depth", "1"], [10, 10, 10])]:
+            written(folder, "log", text)
+            ran(["log", "--events", "e", *words], folder, program)
+            yield f"{name}, by btt", differs(by_btt(folder), wanted)
+        written(folder, "log", head(2) + "/b read 0 512\n")
+        ran(["log", "--events", "e", "--", "--tags=1"], folder, path)
+        # It is sent twice and ends once. As what is queued btt counts it again when it is given back.
+        yield "a request given back, by btt", differs(by_btt(folder)[1:], [2, 1])
+        # Of bios at one sector btt knows one, so how often it tells their ends is not asked here.
+        bios, sent = map(int, re.search(r"(\d+) bios, (\d+) requests sent", ran([LOG, "--events", "e"], folder, program)[0]).groups())
+        yield "2,000 reads and writes, by btt", differs(by_btt(folder)[:2], [bios, sent])
 
 
 def open_loop(program):
@@ -238,11 +285,33 @@ def nothing_half_written(program):
                                                (1, b"what was there before", ["j", "log"]))
 
 
+def no_plain_files(program):
+    """A pipe is written into, and what a link leads to is replaced: neither is replaced itself."""
+    with tempfile.TemporaryDirectory() as folder:
+        written(folder, "log", head(2) + "/b read 0 512\n")
+        os.mkfifo(os.path.join(folder, "pipe"))
+        written(folder, "end", "what was there before")
+        os.symlink("end", os.path.join(folder, "link"))
+        with subprocess.Popen(["cat", "pipe"], cwd=folder, stdout=subprocess.PIPE) as reader:
+            try:
+                found = ran(["log", "--json", "pipe", "--script", "link", "--", "--tags=1"], folder, program)
+                told = reader.communicate(timeout=SECONDS)[0]
+            finally:
+                # It waits for ever for a pipe that nobody has opened.
+                reader.kill()
+        kept = stat.S_ISFIFO(os.lstat(os.path.join(folder, "pipe")).st_mode), os.path.islink(os.path.join(folder, "link"))
+        yield "a pipe and a link", differs((found[1:], kept, sorted(os.listdir(folder))),
+                                           (("", DONE), (True, True), ["end", "link", "log", "pipe"]))
+        yield "what is read of a pipe", differs(json.loads(told)["sectors"], 1)
+        yield "what a link leads to", differs(read(folder, "end").decode().splitlines()[1:],
+                                              ["attach 0 0 4", "read 0 1 0 1", "dispatch", "dispatch", "work 0 3", "reap 0 1", "dispatch"])
+
+
 def iolog_runs(program):
     """The name of each run, and what was wrong with it."""
     for run in RUNS:
         yield run.name, faults_of(run, program)
-    for function in (files_of_a_run, more_events, open_loop, nothing_half_written):
+    for function in (files_of_a_run, more_events, analysed, open_loop, nothing_half_written, no_plain_files):
         try:
             for name, faults in function(program):
                 yield f"iolog: {name}", faults

@@ -6,13 +6,15 @@ looks after each 20th line. A rule that is changed in it must be found by that. 
 
 import itertools
 import os
+import re
 import shutil
 import subprocess
 import sys
 import tempfile
 
+import rules_table
 from random_scripts import options_of, random_lines
-from tools import TOP
+from tools import DONE, TOP
 from whys import scripts
 
 sys.path.append(os.path.join(TOP, "tools"))
@@ -205,11 +207,40 @@ def as_programs(program):
         yield f"own rule: tools/{words[0]} does well", [] if wanted[0] and not wanted[2] else [str(wanted)]
 
 
+# Three of the four jobs of tests/iolog-2000-of-4-jobs.log, as clients of the weights 80 and 30 and, in a group of its own, 10.
+THREE_LOGS = ["seq-read.log:prio=0", "backup.log:prio=5:class=rt", "mixed.log:prio=7:group=1:weight=300"]
+
+
+def of_weights(program):
+    """Three logs by the host and by the plain program: the lines that are asked, what each client got, and each choice."""
+    def ran(tool, *words):
+        found = subprocess.run([sys.executable, os.path.join(TOP, "tools", tool), *THREE_LOGS, *words], cwd=folder, text=True,
+                               capture_output=True, stdin=subprocess.DEVNULL, timeout=SECONDS, check=False)
+        return found.stdout, found.stderr, found.returncode
+
+    with tempfile.TemporaryDirectory() as folder:
+        rules_table.write_logs(folder)
+        told = {}
+        for name, path in (("host", program), ("model", variation("model"))):
+            told[name] = [ran("iolog", "--program", path, "--script", "script", "--json", "json", "--", "--tags=2")]
+            for file in ("script", "json"):
+                with open(os.path.join(folder, file), encoding="ascii") as text:
+                    told[name].append(text.read())
+        yield "own rule: three logs with weights", differs(told["model"], told["host"])
+        # 500 reads, 500 writes, and 500 of both with 9 syncs: tests/iolog_of_jobs.py makes them.
+        yield "own rule: all of three logs", [] if re.match("3 clients, 843 reads, 657 writes, 9 syncs: ", told["host"][0][0]) else told["host"][:1]
+        stdout, *rest = ran("compare", "--a", program, "--b", variation("model"), "--", "--tags=1")
+        yield "own rule: each choice of three logs", differs((re.sub(r"\d+", "N", stdout.splitlines()[-1]), rest),
+                                                             ("all N dispatches are the same", ["", DONE]))
+
+
 def own_rule_runs(program, count):
     """The name of each run, and what was wrong with it."""
     try:
         yield from as_host(program, count)
         yield from variations(program)
         yield from as_programs(program)
-    except (OSError, Stop, subprocess.SubprocessError) as fault:
+        yield from of_weights(program)
+        yield "own rule: the table of docs/OWN_RULE.md", [*rules_table.faults(program)]
+    except (LookupError, OSError, ValueError, Stop, subprocess.SubprocessError) as fault:
         yield "own rule", [str(fault)]

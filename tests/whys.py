@@ -16,7 +16,7 @@ from tools import BAD_INPUT, NO_PROGRAM, NOT_WANTED, TOP, Run, faults_of, writte
 
 sys.path.append(os.path.join(TOP, "tools"))
 from host import Host, Stop  # noqa: E402
-from reasons import Reasons  # noqa: E402
+from reasons import DEFAULTS, Choice, Machine, Queue, Reason, Reasons, Request  # noqa: E402
 
 EXAMPLES = os.path.join(TOP, "examples")
 # How many random scripts there are, of the seeds from 1 on; and with `./test --all`.
@@ -344,8 +344,16 @@ def last_choice(program, script, wanted, words):
     return [*compared((stdout[stdout.rfind("dispatch -> "):], *rest), wanted)]
 
 
+def no_turn():
+    """A machine whose one request waits at a seat that the round robin does not know. It is told, and is no end of the tool."""
+    machine = Machine("none", False, 0, 2, 2, queues={16: Queue(1, 0, 0, [Request("fetch", 0, 8)])})
+    found, wanted = Choice(machine, DEFAULTS).reason(), Reason("a request is queued, but at no seat from 0 to 15", None, None)
+    return [] if found == wanted else [f"{found} and not {wanted}"]
+
+
 def why_runs(program, count_at_random):
     """The name of each run, and what was wrong with it."""
+    yield "why: nobody's turn", no_turn()
     for name, case in LAST.items():
         yield f"why: {name}", last_choice(program, *case)
     for run in [*RUNS, *others(program), *meddling(program)]:

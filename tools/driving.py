@@ -9,6 +9,7 @@ import grammar
 from host import BadInput, Stop, bad_line, read_lines
 
 SECTOR = 512
+STANDARD_INPUT = "-"
 # A read or a write has at most so many sectors, and a client at most so many of them that are not reaped.
 MOST_SECTORS = 64
 AHEAD = 32
@@ -99,7 +100,8 @@ class Log:
 
     def read(self):
         """Reads each line, and gives the clients what they have to do."""
-        for number, row in read_lines(self.path):
+        # fio ends each line. What is written by hand, on standard input, may lack the last end.
+        for number, row in read_lines(self.path, ends=self.path != STANDARD_INPUT):
             try:
                 self.take(row)
             except ValueError as fault:
@@ -183,6 +185,8 @@ class Places:
 
     def __init__(self):
         self.weights = {}
+        # The LOG that has named a group first, by its number.
+        self.named_by = {}
 
     def of(self, text):
         """The path and the place that a LOG is. A file that has such a name is a file."""
@@ -190,9 +194,11 @@ class Places:
         if not words or os.path.exists(text):
             return text, PLACE
         try:
-            return path, self.place(words[1:].split(":"))
+            place = self.place(words[1:].split(":"))
         except ValueError as fault:
             raise BadInput(f"{text}: {fault}") from None
+        self.named_by.setdefault(place.group, text)
+        return path, place
 
     def place(self, words):
         """The place that some words say."""
@@ -218,7 +224,8 @@ class Places:
         """The lines that make the groups, each with its number."""
         for number in sorted(self.weights):
             if number > 1 and number - 1 not in self.weights:
-                raise BadInput(f"there is a group {number}, and no group {number - 1}: they are numbered from 1 without a gap")
+                raise BadInput(f"{self.named_by[number]}: there is a group {number}, and no group {number - 1}: they are numbered from 1 "
+                               "without a gap")
         return [(f"group 0 {self.weights[number] or GROUP_WEIGHT}", number) for number in sorted(self.weights)]
 
 

@@ -177,14 +177,18 @@ class Host:
             raise self.ended()
 
 
-def read_lines(path: str) -> Iterator[Tuple[int, str]]:
-    """The lines of a file with their numbers, without their ends, as they come; of standard input where the path is `-`."""
+def read_lines(path: str, ends: bool = False) -> Iterator[Tuple[int, str]]:
+    """The lines of a file with their numbers, without their ends, as they come; of standard input where the path is `-`. If lines of such
+    a file have `ends`, a last line with none is a bad one, as it may be cut in the middle of a number."""
     try:
         if path == "-" and sys.stdin is None:
             raise BadInput("standard input is closed")
         with sys.stdin.buffer if path == "-" else open(path, "rb") as file:
             for number, line in enumerate(file, 1):
                 yield number, line.removesuffix(b"\n").decode(errors="surrogateescape")
+                # What is bad in itself was told before.
+                if ends and not line.endswith(b"\n"):
+                    raise bad_line(path, number, "it has no end, so the file is cut there")
     except OSError as fault:
         raise BadInput(f"{path}: {fault.strerror}") from None
 

@@ -32,13 +32,19 @@ DEVICE, NANOSECONDS = 8 << 20, 1000
 
 
 def write_whole(path, data):
-    """Writes a file beside its place, and puts it there when it is whole."""
-    beside = f"{path}.new"
+    """Writes a file beside its place, and puts it there when it is whole. A link stays, and what it leads to is written."""
+    place = os.path.realpath(path)
+    beside = f"{place}.new"
     with told_with(path):
+        # A device or a pipe must not be replaced by a file, as root could do.
+        if os.path.exists(place) and not os.path.isfile(place) and not os.path.isdir(place):
+            with open(place, "wb") as file:
+                file.write(data)
+            return
         try:
             with open(beside, "wb") as file:
                 file.write(data)
-            os.replace(beside, path)
+            os.replace(beside, place)
         except OSError:
             with contextlib.suppress(OSError):
                 os.unlink(beside)

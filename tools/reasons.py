@@ -286,8 +286,10 @@ class Choice:
         """The round robin."""
         machine = self.machine
         after = [(machine.last_seat + 1 + at) % SEATS for at in range(SEATS)]
-        # There is one, as a request is queued: in a queue of these seats, for no other is asked.
-        seat = next(seat for seat in after if seat in machine.queues and machine.queues[seat].requests)
+        seat = next((seat for seat in after if seat in machine.queues and machine.queues[seat].requests), None)
+        # Looks ask for these seats alone, so a machine that was read has one. One that was made otherwise may not.
+        if seat is None:
+            raise Contradiction(f"a request is queued, but at no seat from 0 to {SEATS - 1}")
         request = machine.queues[seat].requests.pop(0)
         self.said.append(f"by turns: after seat {machine.last_seat} the next with a request is seat {seat}; its earliest is "
                          f"{text_of(request)}")
