@@ -19,7 +19,7 @@ VERSION := $(shell cat VERSION)
 PROGRAMS := bfqhost bfqctl
 BUILT := $(foreach name,$(PROGRAMS),crates/$(name)/out/$(name))
 # A tool has a name of its own where it is installed, as `step` and `export` are those of others.
-TOOLS := compare expect export iolog plot step why
+TOOLS := compare expect export futures iolog plot step why
 SHARED := $(wildcard tools/*.py)
 # bfqclient_build.py is read by pip alone.
 CLIENT := $(filter-out clients/bfqclient_build.py,$(wildcard clients/*.py))

@@ -18,12 +18,14 @@ VERSION = (TOP / "VERSION").read_text(encoding="ascii").strip()
 SECONDS = 60
 PREFIX = "usr"
 COMMANDS = ["bfqclient", "bfqctl", "bfqhost"]
-TOOLS = ["bfq-compare", "bfq-expect", "bfq-export", "bfq-iolog", "bfq-plot", "bfq-step", "bfq-why"]
+TOOLS = ["bfq-compare", "bfq-expect", "bfq-export", "bfq-futures", "bfq-iolog", "bfq-plot", "bfq-step", "bfq-why"]
 PAGES = ["man1/bfqctl.1", "man1/bfqhost.1", "man5/bfqhost-script.5", "man7/bfqhost-protocol.7", "man7/bfqhost-serve.7"]
 # What must stand under PREFIX, but for the client's modules.
 FILES = {*(f"bin/{name}" for name in [*COMMANDS, *TOOLS]), "libexec/bfqhost/bfqhost", "libexec/bfqhost/bfqctl",
-         *(f"libexec/bfqhost/tools/{name}" for name in [*TOOLS, "drawn.py", "driving.py", "grammar.py", "host.py", "measured.py", "narrow.py",
-                                                        "reasons.py", "sentences.py", "shares.py", "shown.py"]),
+         *(f"libexec/bfqhost/tools/{name}" for name in [*TOOLS, "drawn.py", "driving.py", "future_checks.py", "future_clients.py", "future_contents.py",
+                                                        "future_observers.py", "future_search.py", "future_states.py", "grammar.py",
+                                                        "host.py", "image.py", "measured.py", "narrow.py", "reasons.py",
+                                                        "sentences.py", "shares.py", "shown.py"]),
          *(f"share/man/{page}" for page in PAGES), *(f"share/bash-completion/completions/{name}" for name in COMMANDS)}
 CLIENT = "libexec/bfqhost/clients/"
 # A run of each tool, with the files that it finds, its words and input, and what it must print.
@@ -33,6 +35,7 @@ RUNS = {
                     b"    sectors  half took  99% took  behind\nall 0 dispatches are the same\n"),
     "bfq-expect": ({"script": b"line -> line 0 0 0\n"}, ["script"], b"", b"1 lines asked, 1 answers as wanted\n"),
     "bfq-export": ({"image": IMAGE}, ["image", "out"], b"", b"out: 0 sectors stored over image, 0 of 0 steps stand\n"),
+    "bfq-futures": ({"clients": b"seat 0\n"}, ["clients"], b"", b"states 1 edges 0 contents 1 steps 0: complete\n"),
     "bfq-iolog": ({"log": head(2).encode()}, ["log"], b"", totals(0, met=[no_request(1)]).encode()),
     "bfq-plot": ({"script": b"attach 0 0 4\nread 0 1 0 1\ndispatch\n"}, ["script", "--csv", "csv"], b"", b""),
     "bfq-step": ({}, ["--", "--scheduler", "none"], b"line\n", b"line 0 0 0\n"),

@@ -22,7 +22,7 @@ SECONDS = 30
 MADE = r"/tmp\.\w{10}"
 # How the folder of a run is told, and that of a document.
 SHOWN = "FOLDER"
-PAGES = ("README.md", "docs/GUIDE.md", "docs/OWN_RULE.md")
+PAGES = ("README.md", "docs/GUIDE.md", "docs/OWN_RULE.md", "docs/FUTURES.md")
 DIFFERS = "The numbers differ from run to run."
 # What not every machine has; some of it stands where only root looks.
 OF_FILE_SYSTEMS = ("mkfs.ext4", "e2fsck")

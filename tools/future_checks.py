@@ -1,0 +1,144 @@
+"""What comes of a search: a user's command for each content, on an image of its own, and the files that tell of it."""
+
+import concurrent.futures
+import contextlib
+import csv
+import errno
+import io
+import os
+import shlex
+import signal
+import subprocess
+import tempfile
+import threading
+
+from grammar import MOST_BYTES
+from host import Ended, Host, told_with
+from image import stored, write_new
+from measured import write_whole
+
+# A status above it is a shell's, and says that a command cannot be run or was killed.
+MOST_STATUS = 125
+ARROW = " -> "
+CSV_HEAD = ["content", "steps", "status", "sectors"]
+
+
+class Unchecked(Ended):
+    """A command has not judged an image."""
+
+
+class Checks:
+    """A command that judges images: status 0 says that one is good."""
+
+    def __init__(self, command, image, jobs):
+        self.command, self.image, self.jobs = command, image, jobs
+        # The runs that go on; and whether there are to be no more.
+        self.running, self.is_over, self.lock = set(), False, threading.Lock()
+
+    def all(self, contents):
+        """For each content the status of the command and what it said, in the order in which they are given."""
+        with told_with("a folder for images"):
+            images = tempfile.TemporaryDirectory(prefix="bfq-futures-")
+        with images as folder, concurrent.futures.ThreadPoolExecutor(self.jobs) as pool:
+            try:
+                yield from pool.map(lambda it: self.of(folder, *it), enumerate(contents))
+            finally:
+                pool.shutdown(wait=False, cancel_futures=True)
+                self.stop()
+
+    def stop(self):
+        """Ends what goes on, so that nobody waits for it."""
+        with self.lock:
+            self.is_over = True
+            # One that has ended may have left its number to another process. What a command has started may have its output open.
+            for ran in [it for it in self.running if it.returncode is None]:
+                with contextlib.suppress(ProcessLookupError):
+                    os.killpg(ran.pid, signal.SIGKILL)
+
+    def of(self, folder, number, content):
+        """What the command says of one content."""
+        path = os.path.join(folder, f"content-{number:06}.img")
+        write_new(path, self.image, content.items())
+        try:
+            with self.started(path) as ran:
+                said, _ = ran.communicate()
+        except OSError as fault:
+            raise Unchecked(f"{self.command[0]} does not run: {fault.strerror}") from None
+        finally:
+            # The command may have taken it away.
+            with contextlib.suppress(FileNotFoundError):
+                os.unlink(path)
+        self.running.discard(ran)
+        if not 0 <= ran.returncode <= MOST_STATUS:
+            how = f"was killed by signal {-ran.returncode}" if ran.returncode < 0 else f"has ended with status {ran.returncode}"
+            raise Unchecked(f"{self.command[0]} {how}, which judges nothing")
+        return ran.returncode, said
+
+    def started(self, path):
+        """A run of the command over an image."""
+        with self.lock:
+            if self.is_over:
+                raise OSError(errno.ECANCELED, os.strerror(errno.ECANCELED))
+            ran = subprocess.Popen([*self.command, path], stdin=subprocess.DEVNULL, stdout=subprocess.PIPE, stderr=subprocess.STDOUT,
+                                   start_new_session=True)
+            self.running.add(ran)
+        return ran
+
+
+class Folder:
+    """The folder of the files that a search writes, or none."""
+
+    def __init__(self, path):
+        self.path = path
+        if path is None:
+            return
+        with told_with(path):
+            os.makedirs(path, exist_ok=True)
+            if os.listdir(path):
+                raise OSError(errno.ENOTEMPTY, os.strerror(errno.ENOTEMPTY))
+
+    def write(self, name, data):
+        """Writes a file whole."""
+        if self.path is not None:
+            write_whole(os.path.join(self.path, name), data)
+
+    def write_script(self, name, rows, options):
+        """Writes a script with its answers, and how it is played."""
+        told = f"# tools/expect {name}.script -- {shlex.join(options)}"
+        rows = [told.encode(errors="surrogateescape")[:MOST_BYTES], *(row.encode(errors="surrogateescape") for row in rows)]
+        self.write(f"{name}.script", b"".join(row + b"\n" for row in rows))
+
+    def write_image(self, name, image, content):
+        """Writes an image with a content over it. What a command may have changed is another copy."""
+        if self.path is not None:
+            write_new(os.path.join(self.path, f"{name}.img"), image, content.items())
+
+    def write_contents(self, rows):
+        """Writes what is stored in each content, as START+COUNT=BYTE, with the fewest steps to it and the status of the command."""
+        text = io.StringIO()
+        table = csv.writer(text, lineterminator="\n")
+        table.writerow(CSV_HEAD)
+        table.writerows(rows)
+        self.write("contents.csv", text.getvalue().encode())
+
+
+def runs_of(content):
+    """What is stored in a content: each run of sectors of one byte."""
+    found = []
+    for sector, block in sorted(content.items()):
+        if found and sector == found[-1][0] + found[-1][1] and block == found[-1][2]:
+            found[-1][1] += 1
+        else:
+            found.append([sector, 1, block])
+    return " ".join(f"{start}+{count}={block[0]:02x}" for start, count, block in found)
+
+
+def played(opening, lines, contents=None, number=None):
+    """The lines of an opening and those behind it, each with the answer that a new host gives. What it stores must be the content of this
+    number, if one is given."""
+    lines = [*opening.lines, *lines]
+    with Host(opening.program, opening.options) as host:
+        rows = [f"{line}{ARROW}{answer}" for line, answer in zip(lines, host.ask_each(lines))]
+        if contents and contents.over_image(stored(host)) != contents.all[number]:
+            raise Ended(f"{opening.program} does not store what the search has found, if it is asked {lines[-1]!r} at last")
+    return rows

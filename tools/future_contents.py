@@ -1,0 +1,105 @@
+"""What can be stored when a host is stopped: contents by their numbers, and the shortest way to each.
+
+A content is what the image would be with all that is stored over it. A sector that is stored with the bytes that the image has there is as
+if nothing were stored.
+"""
+
+import os
+
+from host import told_with
+from image import SECTOR
+
+ZEROS = bytes(SECTOR)
+
+
+class Contents:
+    """All contents so far. What a write stores is told by the name of its bio."""
+
+    def __init__(self, image, stored):
+        self.image = image
+        # Of each content what is stored where the image has something else, and its number.
+        self.all, self.numbers = [], {}
+        # What each write stores: sectors with their blocks, which are None if the image has these bytes.
+        self.writes = {}
+        self.after = {}
+        self.first = self.number(self.over_image(stored))
+
+    def of_image(self, sector):
+        """The bytes of a sector of the image; zeros if there is no image."""
+        if self.image is None:
+            return ZEROS
+        with told_with(self.image.path):
+            return os.pread(self.image.descriptor, SECTOR, SECTOR * sector)
+
+    def over_image(self, stored):
+        """The content of what is stored."""
+        return {sector: block for sector, block in stored if block != self.of_image(sector)}
+
+    def number(self, content):
+        """The number of a content."""
+        found = self.numbers.setdefault(frozenset(content.items()), len(self.all))
+        if found == len(self.all):
+            self.all.append(content)
+        return found
+
+    def name_all(self, names, opening):
+        """Names what each write of the opening and of the clients stores."""
+        for line, answer in zip(opening.lines, opening.answers):
+            if answer.startswith("queued ") and line.startswith("write "):
+                words = tuple(line.split(" ")[3:])
+                self.write(names.of(words, int(answer.split(" ")[1])), *map(int, words))
+        for number, client in enumerate(opening.clients):
+            for place, item in enumerate(client.items):
+                if item.word == "write":
+                    self.write(names.of(item.words(), (number, place)), item.start, item.count, item.byte)
+
+    def write(self, name, start, count, byte):
+        """That the bio of this name stores so many bytes."""
+        block = bytes([byte]) * SECTOR
+        self.writes[name] = [(sector, None if block == self.of_image(sector) else block) for sector in range(start, start + count)]
+
+    def stored(self, before, bios):
+        """The content that comes of another one when a request is stored."""
+        found = self.after.get((before, bios))
+        if found is None:
+            content = dict(self.all[before])
+            for bio in bios:
+                for sector, block in self.writes[bio]:
+                    if block is None:
+                        content.pop(sector, None)
+                    else:
+                        content[sector] = block
+            found = self.after[before, bios] = self.number(content)
+        return found
+
+
+class Ways:
+    """The shortest way to each content: how many steps it has, a node of the search, and what is completed after it."""
+
+    def __init__(self, contents, bounds):
+        self.contents, self.bounds = contents, bounds
+        self.shortest = {}
+        # What was closed already, with the fewest steps that lead there.
+        self.closed = {}
+
+    def found(self, content, steps, node, after=()):
+        """A way to a content."""
+        if content not in self.shortest:
+            self.bounds.look(len(self.shortest))
+        if content not in self.shortest or steps < self.shortest[content][0]:
+            self.shortest[content] = steps, node, after
+
+    def close(self, content, steps, node, stores):
+        """All contents that come of completions of what is in flight, in any order. A store is its move and its bios."""
+        todo = [(content, steps, stores, ())]
+        while todo:
+            content, steps, stores, after = todo.pop()
+            mark = content, tuple(sorted(bios for _, bios in stores))
+            if steps >= self.closed.get(mark, steps + 1):
+                continue
+            self.closed[mark] = steps
+            self.found(content, steps, node, after)
+            # With many requests in flight these are more than anybody waits for.
+            self.bounds.look()
+            for at, (move, bios) in enumerate(stores):
+                todo.append((self.contents.stored(content, bios), steps + 1, stores[:at] + stores[at + 1:], (*after, move)))

@@ -1,0 +1,348 @@
+"""The search: every order in which clients call, requests are sent and the device completes them, breadth first, by undo in place.
+
+A host takes a step, is looked at, and takes the step back; so it goes from state to state. States that go on alike are one. What will be
+accepted is known from the looks, and each accepted step takes the next serial, so lines for many states are asked together.
+
+Two reductions leave each content reachable, and the shortest way to it. A reap that can be made is made first: it changes nothing for
+anybody else, and is no part of a way if its client calls nothing after it. And a request is completed only if something waits for that: a
+reap, a read or a write for which the host has no room, or a dispatch that wants its tag. All orders of completions that are left out
+are closed over in contents alone.
+"""
+
+import collections
+import time
+
+import grammar
+from future_clients import REAP
+from host import Ended
+from reasons import limits_of
+
+# So many states go on at once.
+TOGETHER = 64
+# A host that was asked so many lines is replaced by a new one, as a script has an end.
+MOST_LINES = 100_000
+MOST_BIOS, MOST_OF_REQUEST = 32, 256
+NR_REQUESTS = 64
+# What a device may answer to a read.
+FILLED, FAULTS = "fill 0", ("short", "fault")
+STORED = "stored"
+
+# The moves. A client calls what it calls next; a request is dispatched, finished or given back; the queue in service is a tick older.
+Call = collections.namedtuple("Call", "client place")
+Dispatch = collections.namedtuple("Dispatch", "")
+# An issue is the number of steps before the one that made it, or less than 0 if that was none of the search.
+Finish = collections.namedtuple("Finish", "tag issue outcome")
+GiveBack = collections.namedtuple("GiveBack", "tag issue")
+Tick = collections.namedtuple("Tick", "")
+
+
+class Cut(Exception):
+    """A bound was met."""
+
+
+class Bounds:
+    """How far a search goes."""
+
+    def __init__(self, steps=None, states=None, seconds=None):
+        self.steps, self.states, self.seconds = steps, states, seconds
+        self.begin = time.monotonic()
+
+    def look(self, count=0):
+        """So many states, or contents, are there, and there is another one."""
+        if self.states is not None and count >= self.states:
+            raise Cut("states")
+        if self.seconds is not None and time.monotonic() - self.begin >= self.seconds:
+            raise Cut("seconds")
+
+
+class Node:
+    """A state, and the move that led to it from another one."""
+
+    __slots__ = ("parent", "move", "depth", "view")
+
+    def __init__(self, parent, move, depth, view):
+        self.parent, self.move, self.depth, self.view = parent, move, depth, view
+
+    def way(self):
+        """The nodes from the first state, which is none of them, to this one."""
+        found, node = [], self
+        while node.parent is not None:
+            found.append(node)
+            node = node.parent
+        return found[::-1]
+
+
+def line_of(move, clients, serials):
+    """A move as a line. An issue has the serial of its step."""
+    if isinstance(move, Call):
+        client = clients[move.client]
+        word, start, count, byte = client.items[move.place]
+        if word == "reap":
+            return f"reap {client.seat} {client.session}"
+        return f"{word} {client.seat} {client.session} {start} {count}" + ("" if byte is None else f" {byte}")
+    if isinstance(move, Dispatch):
+        return "dispatch"
+    if isinstance(move, Tick):
+        return "tick"
+    issue = serials[move.issue] if move.issue >= 0 else -move.issue
+    return f"requeue {move.tag} {issue}" if isinstance(move, GiveBack) else f"finish {move.tag} {issue} {move.outcome}"
+
+
+class Live:
+    """A host that stands at a state, and the lines that it will be asked next."""
+
+    def __init__(self, opening, names):
+        self.opening, self.names = opening, names
+        self.host, self.lines = None, []
+        self.begin()
+
+    def begin(self):
+        """A host that stands where the opening ends."""
+        self.end()
+        self.host = self.opening.host()
+        # The nodes on the way to where it stands, with the serials of their steps.
+        self.way, self.serials, self.serial, self.asked = [], [], self.opening.serial, 0
+        self.names.forget()
+        for line, answer in zip(self.opening.lines, self.opening.answers):
+            word, *words = answer.split(" ")
+            if word == "queued":
+                self.names.bios[words[0]] = self.names.of(tuple(line.split(" ")[3:]), int(words[0]))
+            elif word == "issued":
+                self.names.issues[words[1]] = -int(words[1])
+
+    def end(self, *fault):
+        """The host ends, and well if nothing was wrong so far."""
+        host, self.host = self.host, None
+        if host is not None:
+            host.__exit__(*(fault or (None, None, None)))
+
+    def __enter__(self):
+        """A host runs from the start."""
+        return self
+
+    def __exit__(self, *fault):
+        """Ends it, as a host ends."""
+        self.end(*fault)
+
+    def take(self, move):
+        """It will take a step."""
+        self.lines.append(line_of(move, self.opening.clients, self.serials))
+        self.serial += 1
+        if isinstance(move, Dispatch):
+            self.names.issues[str(self.serial)] = len(self.serials)
+        elif isinstance(move, Call):
+            client = self.opening.clients[move.client]
+            item = client.items[move.place]
+            if item is not REAP:
+                self.names.bios[str(self.serial)] = self.names.of(item.words(), (move.client, move.place))
+
+    def back(self, steps):
+        """It will go back."""
+        self.lines += ["hold", f"undo {steps}", "release"]
+
+    def go_to(self, node):
+        """It will go to a state: back to where both ways part, and on."""
+        way = node.way()
+        common = 0
+        while common < min(len(way), len(self.way)) and way[common] is self.way[common]:
+            common += 1
+        if len(self.way) > common:
+            self.back(len(self.way) - common)
+            del self.way[common:], self.serials[common:]
+        for one in way[common:]:
+            self.take(one.move)
+            self.way.append(one)
+            self.serials.append(self.serial)
+
+    def answers(self):
+        """The answers to all lines. A step that is refused has made all that follows another one."""
+        lines, self.lines = self.lines, []
+        self.asked += len(lines)
+        answers = list(self.host.ask_each(lines)) if lines else []
+        for line, answer in zip(lines, answers):
+            if grammar.is_refusal(answer):
+                raise Ended(f"the search cannot go on: {line!r} is answered {grammar.named(answer)}")
+        return answers
+
+
+class Search:
+    """The states from an opening on."""
+
+    def __init__(self, opening, reader, contents, given, observer=None):
+        self.opening, self.reader, self.contents, self.given, self.observer = opening, reader, contents, given, observer
+        self.clients = opening.clients
+        self.tags = limits_of(opening.options)["--tags"]
+        self.room = value_of(opening.options, "--nr-requests", NR_REQUESTS)
+        self.outcomes = [FILLED, *FAULTS] if given.faults else [FILLED]
+        self.places = [reader.seats.index(str(client.seat)) for client in self.clients]
+        self.keys = set()
+        self.states = self.edges = self.depth = 0
+
+    # What can come of a state.
+
+    def moves(self, view):
+        """The moves from a state, of which the reductions leave some out."""
+        calls, is_waiting = [], False
+        for client, (place, pc) in enumerate(zip(self.places, view.pcs)):
+            items = self.clients[client].items
+            if pc == len(items):
+                continue
+            if view.outboxes[place] if items[pc] is REAP else self.has_room(view, place, items[pc]):
+                calls.append(Call(client, pc))
+                if items[pc] is REAP and not self.given.all_states:
+                    return calls[-1:]
+            else:
+                is_waiting = True
+        has_more, has_tag = bool(view.returned) or any(view.queues), len(view.flight) < self.tags
+        found = [*calls, Dispatch()] if has_more and has_tag else calls
+        if self.given.all_states or is_waiting or (has_more and not has_tag):
+            found += self.finishes(view)
+        if view.used[0] < self.given.requeues:
+            found += [GiveBack(tag, issue) for tag, issue, _ in view.flight]
+        if view.used[1] < self.given.ticks and view.has_service:
+            found.append(Tick())
+        return found
+
+    def finishes(self, view):
+        """The completions of what is in flight."""
+        return [Finish(tag, issue, outcome) for tag, issue, request in view.flight
+                for outcome in ([STORED] if request[1] == "store" else self.outcomes)]
+
+    def has_room(self, view, place, item):
+        """Whether the host takes a read or a write now: it is not frozen, and has room or a request that it joins."""
+        if self.reader.is_frozen:
+            return False
+        if sum(map(len, view.queues)) + len(view.flight) + len(view.returned) < self.room:
+            return True
+        operation = "fetch" if item.byte is None else "store"
+        for of, extent, bios in view.queues[place]:
+            start, count = map(int, extent.split("+"))
+            is_beside = start + count == item.start or item.start + item.count == start
+            if of == operation and is_beside and count + item.count <= MOST_OF_REQUEST and len(bios) < MOST_BIOS:
+                return True
+        return False
+
+    # The search.
+
+    def run(self, bounds, ways, progress):
+        """Goes through all states within bounds. Gives by what it was cut, or None if it is complete."""
+        self.ways, self.bounds = ways, bounds
+        with Live(self.opening, self.reader.names) as self.live:
+            try:
+                return self.go_through(self.first(), progress)
+            except Cut as cut:
+                return str(cut)
+
+    def first(self):
+        """The state where the opening ends."""
+        self.live.lines += self.reader.lines
+        node = Node(None, None, 0, self.reader.view(self.live.answers(), (0,) * len(self.clients), self.contents.first, (0, 0)))
+        if self.observer:
+            self.observe(node.view, self.observer.first)
+        self.note(node)
+        return node
+
+    def go_through(self, node, progress):
+        """All states that come of one, those of fewer steps first."""
+        frontier, most, is_cut = collections.deque([node]), self.bounds.steps, False
+        while frontier:
+            nodes = [frontier.popleft() for _ in range(min(TOGETHER, len(frontier)))]
+            if most is not None and nodes[-1].depth >= most:
+                is_cut = is_cut or any(self.moves(it.view) for it in nodes if it.depth >= most)
+                nodes = [it for it in nodes if it.depth < most]
+            if self.live.asked > MOST_LINES:
+                self.live.begin()
+            frontier.extend(self.go_on(nodes))
+            progress(self)
+        return "steps" if is_cut else None
+
+    def go_on(self, nodes):
+        """The new states that come of some."""
+        jobs, found, count = [], [], len(self.reader.lines)
+        for node in nodes:
+            self.live.go_to(node)
+            for move in self.moves(node.view):
+                jobs.append((node, move, len(self.live.lines)))
+                self.live.take(move)
+                self.live.lines += self.reader.lines
+                self.live.back(1)
+        answers = self.live.answers()
+        for node, move, at in jobs:
+            self.edges += 1
+            view = self.view(node.view, move, answers[at + 1:at + 1 + count])
+            if self.observer:
+                self.observe(view, self.observer.step(Edge(node, move, answers[at], view)))
+            if view.key not in self.keys:
+                self.bounds.look(self.states)
+                found.append(Node(node, move, node.depth + 1, view))
+                self.note(found[-1])
+        for node in nodes:
+            # What came of it is known.
+            node.view = None
+        return found
+
+    def view(self, before, move, looks):
+        """The state after a move."""
+        pcs, content, used = before.pcs, before.content, before.used
+        if isinstance(move, Call):
+            pcs = (*pcs[:move.client], pcs[move.client] + 1, *pcs[move.client + 1:])
+        elif isinstance(move, Finish) and move.outcome == STORED:
+            bios = next(request[-1] for _, issue, request in before.flight if issue == move.issue)
+            content = self.contents.stored(content, bios)
+        elif isinstance(move, GiveBack):
+            used = used[0] + 1, used[1]
+        elif isinstance(move, Tick):
+            used = used[0], used[1] + 1
+        return self.reader.view(looks, pcs, content, used)
+
+    @staticmethod
+    def observe(view, seen):
+        """What an observer has seen is a part of the state."""
+        view.seen, view.key = seen, (*view.key, seen)
+
+    def note(self, node):
+        """A state is new. Its content and those near it may be too."""
+        view = node.view
+        self.keys.add(view.key)
+        self.states += 1
+        self.depth = max(self.depth, node.depth)
+        steps = self.steps_to(node)
+        self.ways.found(view.content, steps, node)
+        if not self.given.all_states:
+            stores = tuple((Finish(tag, issue, STORED), request[-1]) for tag, issue, request in view.flight if request[1] == "store")
+            self.ways.close(view.content, steps, node, stores)
+
+    def steps_to(self, node):
+        """How many steps lead to the content of a state: a reap is none of them if its client calls nothing after it."""
+        return node.depth - sum(client.last_reaps[pc] for client, pc in zip(self.clients, node.view.pcs))
+
+    # What is told.
+
+    def script(self, node, after=()):
+        """The lines behind the opening that lead to a state, without reaps that nothing needs."""
+        moves = [one.move for one in node.way()]
+        needed, have_more = [], set()
+        for move in reversed(moves):
+            if isinstance(move, Call):
+                if self.clients[move.client].items[move.place] is REAP and move.client not in have_more:
+                    needed.append(False)
+                    continue
+                have_more.add(move.client)
+            needed.append(True)
+        lines, serials, serial = [], [], self.opening.serial
+        for move, is_needed in zip([*moves, *after], [*needed[::-1], *(True for _ in after)]):
+            if is_needed:
+                lines.append(line_of(move, self.clients, serials))
+            serial += is_needed
+            serials.append(serial)
+        return lines
+
+
+# A move from a node, with its answer and the state after it.
+Edge = collections.namedtuple("Edge", "node move answer view")
+
+
+def value_of(options, name, default):
+    """The number that an option of sim has, or the default."""
+    words = [part for word in options for part in word.split("=", 1)]
+    return next((int(value) for word, value in zip(words, words[1:]) if word == name and value.isdigit()), default)
