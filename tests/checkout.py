@@ -33,6 +33,11 @@ def texts_of(name):
     return {str(it.relative_to(CRATES / name)): it.read_text() for it in sources(name)}
 
 
+def definitions_below(name, lines):
+    """The texts of the definitions of all crates that a crate stands on, by their paths from its folder: ../LOW/specs/FILE."""
+    return {f"../{low}/{path}": text for low in below(name, lines) for path, text in texts_of(low).items() if path.startswith("specs/")}
+
+
 def modules(path):
     """The modules of a file of src/, by its path in the crate."""
     return [it for it in path[len("src/"):-len(".rt")].split("/") if it not in ("lib", "main", "mod")]
@@ -48,11 +53,12 @@ def kit():
     return Path(shutil.which("rt")).resolve().parents[1]
 
 
-def command(verb, name, lines):
-    """The words by which rattle checks or builds a crate in the folder where it is run, over the libraries of this checkout."""
+def command(verb, name, lines, others=None):
+    """The words by which rattle checks or builds a crate in the folder where it is run, over this checkout's libraries or these others."""
+    at = {it: library(it) for it in lines} | (others or {})
     root = "src/main.rt" if (CRATES / name / "src" / "main.rt").exists() else "src/lib.rt"
     uses, lower = ["std", *lines[name].partition(":")[2].split()], below(name, lines)
     words = [f"{kit()}/bin/rattle", verb, "--crate-name", name, root, "-L", f"dependency={kit()}/rlibs"]
-    words += [word for it in uses for word in ("--extern", f"{it}={library(it) if it in lines else f'{kit()}/rlibs/{it}.rlib'}")]
-    words += [word for it in lower for word in ("-L", f"dependency={library(it).parent}")]
+    words += [word for it in uses for word in ("--extern", f"{it}={at[it] if it in lines else f'{kit()}/rlibs/{it}.rlib'}")]
+    words += [word for it in lower for word in ("-L", f"dependency={at[it].parent}")]
     return words + ["--antt-project", f"{kit()}/rattle/logic/antt-project.json", "--logic-built", f"{kit()}/logic_built"]

@@ -55,7 +55,7 @@ def refusals(program):
         yield f"{'the help' if row in helped else 'docs/FORMATS.md'} alone has {row}"
     names = [(number, name) for number, name, _ in helped]
     defined = [(number, name) for name, number in
-               re.findall(r"(?m)^(?:code|cause)_number (\w+) = (\d+)$", read("crates", "plain_machine", "specs", "Numbers.antt"))]
+               re.findall(r"(?m)^(?:code|cause)_number (\w+) = (\d+)$", read("crates", "plain", "specs", "Numbers.antt"))]
     if names != [pair for pair in defined if pair not in OF_WORKERS]:
         yield f"the definitions have {defined}, and the help {names}"
     for path in (["README.md"], ["docs", "GUIDE.md"], ["docs", "MODEL.md"]):

@@ -1,13 +1,13 @@
 """Whether each wrong body still fits the code: a file of code that was changed may lack the text that an edit takes out of it."""
 
-from checkout import CRATES, crate_lines, texts_of
+from checkout import CRATES, crate_lines, definitions_below, texts_of
 from twins import read_edit
 
 
 def edits():
     """The name of each crate with wrong bodies, and what is wrong with those that do not fit."""
-    for name in crate_lines():
-        faults, texts = [], texts_of(name)
+    for name in (lines := crate_lines()):
+        faults, texts = [], texts_of(name) | definitions_below(name, lines)
         paths = sorted((CRATES / name / "wrong").glob("*.edit"))
         for path in paths:
             try:

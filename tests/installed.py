@@ -22,9 +22,9 @@ TOOLS = ["bfq-compare", "bfq-expect", "bfq-export", "bfq-futures", "bfq-iolog", 
 PAGES = ["man1/bfqctl.1", "man1/bfqhost.1", "man5/bfqhost-script.5", "man7/bfqhost-protocol.7", "man7/bfqhost-serve.7"]
 # What must stand under PREFIX, but for the client's modules.
 FILES = {*(f"bin/{name}" for name in [*COMMANDS, *TOOLS]), "libexec/bfqhost/bfqhost", "libexec/bfqhost/bfqctl",
-         *(f"libexec/bfqhost/tools/{name}" for name in [*TOOLS, "drawn.py", "driving.py", "future_checks.py", "future_clients.py", "future_contents.py",
-                                                        "future_observers.py", "future_search.py", "future_states.py", "grammar.py",
-                                                        "host.py", "image.py", "measured.py", "narrow.py", "reasons.py",
+         *(f"libexec/bfqhost/tools/{name}" for name in [*TOOLS, "drawn.py", "driving.py", "future_checks.py", "future_clients.py",
+                                                        "future_contents.py", "future_observers.py", "future_search.py", "future_states.py",
+                                                        "grammar.py", "host.py", "image.py", "measured.py", "narrow.py", "reasons.py",
                                                         "sentences.py", "shares.py", "shown.py"]),
          *(f"share/man/{page}" for page in PAGES), *(f"share/bash-completion/completions/{name}" for name in COMMANDS)}
 CLIENT = "libexec/bfqhost/clients/"

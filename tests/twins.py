@@ -19,6 +19,8 @@ FUNCTION = re.compile(r"(?:fn|struct|enum|union|trait|impl) (\S+): (.*)")
 ERROR = re.compile(r"(?:\./)?((?:src|specs|proofs)/\S+?):\d+:\d+: error(?:\[\S+\])?: (.*)")
 # What an error says if a name is gone or a text unread, so that no goal was tried.
 UNREAD = re.compile(r"is not in scope|has no field|has no `|is no name|not admitted|was rejected|operand is missing|expected the end|cannot continue|\(nearest: ")
+# What is told of a wrong body with which all is proved.
+NOT_REFUSED = "not refused"
 IMPL = re.compile(r"impl\b(?:<.*?>)? (.* for )?&?(\w+)")
 OPENS = re.compile(r"( *)(?:pub(?:\([^)]*\))? )?(?:const )?(?:unsafe )?fn (\w+)")
 # A function, with the type that it is a method of, of which trait (None: of none), and its lines; and a wrong body: new lines, by place, and whose they are (None: no function's).
@@ -149,7 +151,7 @@ class Crate:
         status, said = run([*self.words, *words], self.folder)
         for path in files:
             (self.folder / path).write_text(self.texts[path]) if path in self.texts else (self.folder / path).unlink()
-        return status, re.sub(r"\n  (?=has no )", " ", said)  # That a name is gone may stand on the line after its error.
+        return status, joined(said)
 
     def together(self, edits, by_contracts=True):
         """Tries wrong bodies in twins by one check. Gives those that are refused, each with its goal; None if the check counts for nothing."""
@@ -174,13 +176,33 @@ class Crate:
 
     def alone(self, edit):
         """Tries one wrong body in its place. Gives whether it is refused, and its goal or what is wrong with it."""
-        status, said = self.check(files := self.planted([edit], self.texts))
-        errors = [it for it in map(ERROR.match, said.splitlines()) if it]
-        unread = [it[0] for it in errors if it[1][:6] != "proofs" and (it[1][:5] == "specs" or it[2][0] != "`" or UNREAD.search(it[2]))]
-        told = [it[3] for it in map(GOAL.match, said.splitlines()) if it] + [it[2] for it in errors if not UNREAD.search(it[2])]
-        if unread or "\nlogic=" not in said or status not in (0, 1):
-            return False, f"bad edit: {[*unread, *said.splitlines()[-1:], 'the check said nothing'][0]}"
-        if status == 1:
-            return bool(told), [*told, "bad edit: no goal is open, and a proof only names what it took away"][0]
+        is_refused, told = judged(*self.check(files := self.planted([edit], self.texts)))
+        if is_refused or told:
+            return is_refused, told
         # A check refuses what is no text, in any file that it reads.
-        return False, "not refused" if self.check({it: "} " + text for it, text in files.items()})[0] else f"bad edit: no check reads {min(files)}"
+        return False, NOT_REFUSED if self.check({it: "} " + text for it, text in files.items()})[0] else f"bad edit: no check reads {min(files)}"
+
+    def over(self, words):
+        """Checks the crate by words that name crates below with a wrong definition. Gives whether it is refused, and its goal or why not."""
+        if not self.keeps_on():
+            raise TimeoutError
+        status, said = run([*words, "--jobs", "1", "--incremental", "kept"], self.folder)
+        is_refused, told = judged(status, joined(said))
+        return is_refused, told or NOT_REFUSED
+
+
+def joined(said):
+    """What a check said, with the word that a name is gone on the line of its error, behind which it may stand."""
+    return re.sub(r"\n  (?=has no )", " ", said)
+
+
+def judged(status, said):
+    """Whether a check refuses what is wrong, with its goal; or what is wrong with the edit; or no word if all is proved."""
+    errors = [it for it in map(ERROR.match, said.splitlines()) if it]
+    unread = [it[0] for it in errors if it[1][:6] != "proofs" and (it[1][:5] == "specs" or it[2][0] != "`" or UNREAD.search(it[2]))]
+    told = [it[3] for it in map(GOAL.match, said.splitlines()) if it] + [it[2] for it in errors if not UNREAD.search(it[2])]
+    if unread or "\nlogic=" not in said or status not in (0, 1):
+        return False, f"bad edit: {[*unread, *said.splitlines()[-1:], 'the check said nothing'][0]}"
+    if status == 1:
+        return bool(told), [*told, "bad edit: no goal is open, and a proof only names what it took away"][0]
+    return False, ""

@@ -10,16 +10,18 @@ oldest there, or with --all of every crate. A crate whose wrong bodies were all 
 import argparse
 import contextlib
 import hashlib
+import shutil
 import subprocess
 import sys
 import tempfile
 import time
 from concurrent.futures import ThreadPoolExecutor, as_completed
 from itertools import groupby, zip_longest
+from pathlib import Path
 
-from checkout import CRATES, TOP, below, command, crate_lines, texts_of
-from libraries import is_proved, lanes
-from twins import Crate, has_twin, holes, read_edit
+from checkout import CRATES, TOP, below, command, crate_lines, definitions_below, texts_of
+from libraries import is_proved, lanes, run
+from twins import NOT_REFUSED, Crate, has_twin, holes, read_edit
 
 SEEN = TOP / "tests" / "wrong_bodies.seen"
 
@@ -41,15 +43,52 @@ def wrong_bodies(name):
     return sorted(((it.stem, it.read_text()) for it in (CRATES / name / "wrong").glob("*.edit")), key=lambda it: it[1])
 
 
+def lows_of(edit):
+    """The crates below whose definitions an edit changes."""
+    return {path.split("/")[1] for path, _ in edit.lines if path.startswith("../")}
+
+
+def made_anew(name, lows, changed, lines, folder):
+    """Makes anew the crates below from some of them up, with these texts. Gives the words of a check over them, or what is wrong."""
+    made = {}
+    for low in [it for it in below(name, lines) if lows & {it, *below(it, lines)}]:
+        # The folder is that of the edit before, so a check finds there what has not changed since.
+        here, made[low] = Path(folder) / "below" / low, Path(folder) / "made" / low / f"{low}.rlib"
+        for path, text in texts_of(low).items():
+            (here / path).parent.mkdir(parents=True, exist_ok=True)
+            (here / path).write_text(changed.get(f"../{low}/{path}", text))
+        shutil.rmtree(made[low].parent, ignore_errors=True)
+        made[low].parent.mkdir(parents=True)
+        status, said = run([*command("build", low, lines, made), "--jobs", "1", "--incremental", "kept", "-o", made[low]], here)
+        if status:
+            return None, f"bad edit: {low} is not proved with it: {said.splitlines()[-1:]}"
+    return command("check", name, lines, made), ""
+
+
+def by_definition(crate, name, edits, lines, folder):
+    """Tries wrong definitions of crates below. Gives for each edit whether it is refused, and its goal or what is wrong."""
+    texts = definitions_below(name, lines)
+    # With no change the crate must be proved over what was made anew, or else what is refused shows nothing.
+    words, why = made_anew(name, {low for edit in edits for low in lows_of(edit)}, {}, lines, folder)
+    control = crate.over(words) if words else (True, why)
+    if control != (False, NOT_REFUSED):
+        yield from ((edit, False, f"not tried, as with no change: {control[1]}") for edit in edits)
+        return
+    for edit in edits:
+        changed = {path: "\n".join(edit.lines.get((path, at), it) for at, it in enumerate(texts[path].split("\n"))) for path, _ in edit.lines}
+        words, why = made_anew(name, lows_of(edit), changed, lines, folder)
+        yield edit, *(crate.over(words) if words else (False, why))
+
+
 def trial(name, bodies, lines, keeps_on):
     """Tries wrong bodies of a crate. Gives those refused and those that failed, each with the reason; what is in neither waits."""
     refused, failed, edits = {}, {}, []
     with contextlib.suppress(TimeoutError), tempfile.TemporaryDirectory(prefix="wrong-bodies-") as folder:
         # The functions of a crate that is proved as it is stand by their contracts. Another is proved with the twins beside it.
-        crate = Crate(texts := texts_of(name), folder, command("check", name, lines), keeps_on, holes(name, texts) if is_proved(name, lines) else {})
+        crate = Crate(texts := texts_of(name), Path(folder) / name, command("check", name, lines), keeps_on, holes(name, texts) if is_proved(name, lines) else {})
         for it, text in bodies.items():
             try:
-                edits.append(read_edit(it, text, texts))
+                edits.append(read_edit(it, text, texts | definitions_below(name, lines)))
             except ValueError as why:
                 failed[it] = f"bad edit: {why}"
         found = crate.together(twins := [it for it in edits if has_twin(it, texts)])
@@ -60,8 +99,11 @@ def trial(name, bodies, lines, keeps_on):
         of_methods = sorted((it for it in edits if len(it.functions) == 1 and all(of and of.trait is not None for of in it.functions)), key=whose)
         for some in zip_longest(*([*its] for _, its in groupby(of_methods, whose))):
             refused.update(crate.in_place([*filter(None, some)]))
-        for edit in [it for it in edits if it.name not in refused]:
+        of_lows = [it for it in edits if lows_of(it)]
+        for edit in [it for it in edits if it.name not in refused and it not in of_lows]:
             is_refused, told = crate.alone(edit)
+            (refused if is_refused else failed)[edit.name] = told
+        for edit, is_refused, told in by_definition(crate, name, of_lows, lines, folder) if of_lows else ():
             (refused if is_refused else failed)[edit.name] = told
     return refused, failed
 
@@ -73,7 +115,9 @@ def try_all(named=(), every=False, deadline=float("inf")):
     rows = dict((it.split(" ", 1)[0], it.split(" ", 4)[1:]) for it in (SEEN.read_text().splitlines() if SEEN.exists() else []))
     as_seen = {it: row for it, row in rows.items() if it in bodies and row[2:] == [now[it], kit] and not every}
     # Those that are not as they were seen, the longest trials first, and then the one that was seen first.
-    others = sorted(bodies.keys() - as_seen.keys(), key=lambda it: -len(bodies[it]) - len(below(it, lines)))
+    # A definition of a crate below takes as long as ten bodies in their twins.
+    cost = lambda it: sum(10 if "file: ../" in text else 1 for _, text in bodies[it]) + len(below(it, lines))
+    others = sorted(bodies.keys() - as_seen.keys(), key=lambda it: -cost(it))
     names = named or others + sorted(as_seen, key=lambda it: as_seen[it][1])[:1]
     tried = {it: ({}, {}) for it in names}
     if time.time() < deadline and (parts := {low for it in names for low in [*below(it, lines), it]}):

@@ -2,14 +2,14 @@
 use Rattle.std.proofs.Common.{true, false, ◌≡◌, ◌≢◌, inl, inr, ℕ, ◌+◌, ◌<◌, ◌≤◌, List, ◌∷◌, Option, Some, cond, refl, sym, ap, ◌∙◌, subst, arith}
 use Rattle.std.specs.Option.{option_and_then}
 use Rattle.std.proofs.lemmas.Bool.{cases_eq}
-use Rattle.service_tree.specs.declared.member.State.{State}
-use Rattle.service_tree.specs.declared.member.State.TheVariants.{Idle, Active, Serving}
-use Rattle.group_tree.specs.Groups.{climb, most_levels, path}
-use Rattle.change_record.specs.declared.change.InService.{InService}
-use Rattle.change_record.specs.Machine.{Bfq, put}
-use Rattle.change_record.specs.Rules.{member_of, is_idle, stamp, start_from, activate_path, activate, served_more, charge}
-use Rattle.plain_machine.proofs.Puts.{put_here, put_other, some_is, and_then_is}
-use Rattle.plain_machine.proofs.Rules.{charge-is, charges-keep}
+use Rattle.plain.specs.declared.member.State.{State}
+use Rattle.plain.specs.declared.member.State.TheVariants.{Idle, Active, Serving}
+use Rattle.plain.specs.Groups.{climb, most_levels, path}
+use Rattle.plain.specs.declared.seat.InService.{InService}
+use Rattle.plain.specs.Machine.{Bfq, put}
+use Rattle.plain.specs.Rules.{member_of, is_idle, stamp, start_from, activate_path, activate, served_more, charge}
+use Rattle.plain_laws.proofs.Puts.{put_here, put_other, some_is, and_then_is}
+use Rattle.plain_laws.proofs.Rules.{charge-is, charges-keep}
 use Rattle.bfq_laws.proofs.Shape.{In, Levels, Stands, parent-stands, stands-low, climbing, At, state, parent-at, stamp-at, vtime-at}
 
 -- some member of a group is active
@@ -38,8 +38,8 @@ pub record Alive (b : Bfq) : Type 0 where
   pub at : At above st b
   pub up : Up above st
   pub down : Down above st
-  pub serving : (e : ℕ) → st e ≡ Serving → (slot : InService) × (b.slot ≡ Some slot) × In e (path above slot.seat)
-  pub served : (slot : InService) → b.slot ≡ Some slot → (e : ℕ) → In e (path above slot.seat) → st e ≡ Serving
+  pub serving : (e : ℕ) → st e ≡ Serving → (slot : InService) × (b.in_service ≡ Some slot) × In e (path above slot.seat)
+  pub served : (slot : InService) → b.in_service ≡ Some slot → (e : ℕ) → In e (path above slot.seat) → st e ≡ Serving
 
 pub not_idle : (s : State) → is_idle s ≡ false → s ≢ Idle
 not_idle Idle e = cc
@@ -143,7 +143,7 @@ activates above levels n g = climbing above levels (Activates above)
 small-other : (j k : ℕ) → k < 16 → 16 + j ≡ k → ⊥
 small-other j k lt e = absurd (omega (arith, lt, e))
 
-pub activate-alive : (k : ℕ) (b c : Bfq) → k < 16 → (g : ℕ) → b.parent k ≡ Some g → c.slot ≡ b.slot → activate k b ≡ Some c → Alive b → Alive c
+pub activate-alive : (k : ℕ) (b c : Bfq) → k < 16 → (g : ℕ) → b.parent k ≡ Some g → c.in_service ≡ b.in_service → activate k b ≡ Some c → Alive b → Alive c
 activate-alive k b c lt g parent slots e h =
     let above : ℕ → Option ℕ = h.above in
     let up_k : above k ≡ Some g = sym (parent-at above h.st b k h.at) ∙ parent in

@@ -2,29 +2,34 @@
 use Rattle.std.proofs.Common.{true, false, Bool, ◌≡◌, ◌≢◌, inl, inr, ℕ, zero, suc, ◌+◌, ◌<◌, ◌≤◌, nat_lt, not, ◌&&◌, List, [], ◌∷◌, length, Option, Some, None, is_some, unwrap_or, ◌==◌, eqb-true, cond, slice_index_or, replicate, refl, sym, ap, ◌∙◌, subst, arith}
 use Rattle.std.specs.Option.{is_none, option_map}
 use Rattle.std.proofs.lemmas.Bool.{cases_eq, ltb-true, ltb-false}
-use Rattle.service_tree.specs.declared.member.Member.{Member}
+use Rattle.plain.specs.declared.member.Member.{Member}
 use Rattle.sector_core.specs.declared.bio.Bio.{Bio}
 use Rattle.sector_core.specs.declared.bio.Op.{Op}
 use Rattle.sector_core.specs.declared.range.Range.{Range}
 use Rattle.sector_core.specs.declared.class.Class.{Class}
 use Rattle.sector_core.specs.declared.class.Class.TheVariants.{BestEffort}
-use Rattle.class_trees.specs.Classes.{same_times}
-use Rattle.process_queue.specs.Queue.{is_empty}
-use Rattle.process_queue.specs.Merge.{joins_at, merge_of}
-use Rattle.group_tree.specs.Groups.{has_entity, entity_of}
-use Rattle.change_record.specs.declared.change.Seat.{Seat}
-use Rattle.change_record.specs.declared.change.InService.{InService}
-use Rattle.change_record.specs.Tables.{empty_service}
-use Rattle.change_record.specs.Machine.{WholeRequest, Bfq, Plain, put}
-use Rattle.change_record.specs.declared.change.Expiry.{Expiry}
-use Rattle.change_record.specs.declared.change.Expiry.TheVariants.{Emptying}
-use Rattle.change_record.specs.Rules.{absent, is_idle, group_of, activate, select, expire, stands}
-use Rattle.plain_machine.specs.declared.answer.Reply.{Reply}
-use Rattle.plain_machine.specs.Step.{Limits, opening, is_bfq, with_entity, attached, new_bio, with_bio, change_first, queue_with, submitted, woken, range_of, with_budget_in, with_slot, older, without_empty, without_entity, sent_by_bfq, shape}
-use Rattle.plain_machine.proofs.Puts.{put_here, put_other, some_is, map_is}
-use Rattle.plain_machine.proofs.Leads.{made}
-use Rattle.plain_machine.proofs.Sent.{rest_of, sent-is}
-use Rattle.plain_machine.proofs.Placed.{placed, placed-here, placed-elsewhere, placed-other, length-member, places_of}
+use Rattle.plain.specs.Classes.{same_times}
+use Rattle.plain.specs.Lists.{is_empty}
+use Rattle.plain.specs.Merge.{joins_at, merge_of}
+use Rattle.plain.specs.Groups.{has_entity, entity_of}
+use Rattle.plain.specs.declared.seat.Seat.{Seat}
+use Rattle.plain.specs.declared.seat.InService.{InService}
+use Rattle.plain.specs.Opening.{empty_service, Limits, opening}
+use Rattle.plain.specs.Machine.{WholeRequest, Bfq, Plain, put}
+use Rattle.plain.specs.declared.seat.Expiry.{Expiry}
+use Rattle.plain.specs.declared.seat.Expiry.TheVariants.{Emptying}
+use Rattle.plain.specs.Rules.{absent, is_idle, group_of, activate, select, expire, stands}
+use Rattle.plain.specs.declared.answer.Reply.{Reply}
+use Rattle.plain.specs.Entities.{is_bfq, with_entity, without_entity}
+use Rattle.plain.specs.Steps.Attach.{attached}
+use Rattle.plain.specs.Steps.Submit.{new_bio, with_bio, change_first, queue_with, submitted, woken}
+use Rattle.plain.specs.Requests.{range_of, shape}
+use Rattle.plain.specs.Steps.Dispatch.{with_budget_in, with_slot, without_empty, sent_by_bfq}
+use Rattle.plain.specs.Steps.Tick.{older}
+use Rattle.plain_laws.proofs.Puts.{put_here, put_other, some_is, map_is}
+use Rattle.plain_laws.proofs.Leads.{made}
+use Rattle.plain_laws.proofs.Sent.{rest_of, sent-is}
+use Rattle.plain_laws.proofs.Placed.{placed, placed-here, placed-elsewhere, placed-other, length-member, places_of}
 use Rattle.bfq_laws.proofs.Quiet.{activate-quiet, charge-slot, expire-slot}
 use Rattle.bfq_laws.proofs.Overdue.{overdue}
 use Rattle.bfq_laws.proofs.Walk.{entered, gone}
@@ -34,14 +39,14 @@ use Rattle.bfq_laws.proofs.Tree.{Over, Over-same, Over-trans, Over-vtime, idle, 
 pub record Busy (seats : ℕ → Option Seat) (queue : ℕ → List WholeRequest) (b : Bfq) : Type 0 where
   pub tree : Tree seats b
   pub rests : (e : ℕ) → e < 16 → is_some (seats e) ≡ true → idle b e ≡ is_empty (queue e)
-  pub serves : (slot : InService) → b.slot ≡ Some slot → (slot.seat < 16) × (is_some (seats slot.seat) ≡ true) × (is_empty (queue slot.seat) ≡ false)
+  pub serves : (slot : InService) → b.in_service ≡ Some slot → (slot.seat < 16) × (is_some (seats slot.seat) ≡ true) × (is_empty (queue slot.seat) ≡ false)
 
 -- and a free seat has nothing queued
 pub record Tidy (m : Plain) : Type 0 where
   pub busy : Busy m.seat m.queue m.bfq
   pub free : (e : ℕ) → is_some (m.seat e) ≡ false → is_empty (m.queue e) ≡ true
 
-Busy-over : (seats : ℕ → Option Seat) (queue : ℕ → List WholeRequest) (b c : Bfq) → Over b c → c.slot ≡ b.slot → Busy seats queue b → Busy seats queue c
+Busy-over : (seats : ℕ → Option Seat) (queue : ℕ → List WholeRequest) (b c : Bfq) → Over b c → c.in_service ≡ b.in_service → Busy seats queue b → Busy seats queue c
 Busy-over seats queue b c over slots h = record {
   tree = Tree-over seats b c over h.tree;
   rests = λ e lt sits. idle-over b c e lt over ∙ h.rests e lt sits;
@@ -153,7 +158,7 @@ attached-tidy l m n seat group prio class small free is h =
     }
 
 -- Submit
-submitted-tidy : (m : Plain) (n seat session : ℕ) (op : Op) (range : Range) (payload : List ℕ) (b : Bfq) → is_some (m.seat seat) ≡ true → Sets m.seat seat false m.bfq b → b.slot ≡ m.bfq.slot
+submitted-tidy : (m : Plain) (n seat session : ℕ) (op : Op) (range : Range) (payload : List ℕ) (b : Bfq) → is_some (m.seat seat) ≡ true → Sets m.seat seat false m.bfq b → b.in_service ≡ m.bfq.in_service
     → Tidy m → Tidy (record (submitted m n seat session op range payload) { bfq = b })
 submitted-tidy m n seat session op range payload b taken sets slots h =
     let next : Plain = submitted m n seat session op range payload in
@@ -208,8 +213,8 @@ woken-tidy m n seat session op range payload o small taken e had =
 -- Dispatch
 -- where the queue in service expires, with this queued then
 expired-busy : (l : Limits) (cause : Expiry) (queued : Bool) (seats : ℕ → Option Seat) (queue : ℕ → List WholeRequest) (b c : Bfq)
-    → ((slot : InService) → b.slot ≡ Some slot → (slot.seat < 16) × (is_some (seats slot.seat) ≡ true) × (is_empty (queue slot.seat) ≡ not queued)) → Tree seats b
-    → ((e : ℕ) → e < 16 → is_some (seats e) ≡ true → ((slot : InService) → b.slot ≡ Some slot → e ≢ slot.seat) → idle b e ≡ is_empty (queue e))
+    → ((slot : InService) → b.in_service ≡ Some slot → (slot.seat < 16) × (is_some (seats slot.seat) ≡ true) × (is_empty (queue slot.seat) ≡ not queued)) → Tree seats b
+    → ((e : ℕ) → e < 16 → is_some (seats e) ≡ true → ((slot : InService) → b.in_service ≡ Some slot → e ≢ slot.seat) → idle b e ≡ is_empty (queue e))
     → expire cause l.max_budget queued b ≡ Some c → Busy seats queue c
 expired-busy l cause queued seats queue b c sits tree rests e =
     let x = expire-slot cause l.max_budget queued b c e in
@@ -238,10 +243,10 @@ no_slot None e = refl
 no_slot (Some slot) e = cc
 
 pub with_slot-busy : (seats : ℕ → Option Seat) (queue : ℕ → List WholeRequest) (b : Bfq) → Busy seats queue b → Busy seats queue (with_slot b)
-with_slot-busy seats queue b h = elim (is_none b.slot) as (λ t. is_none b.slot ≡ t → Busy seats queue (cond t (select b) b)) [
+with_slot-busy seats queue b h = elim (is_none b.in_service) as (λ t. is_none b.in_service ≡ t → Busy seats queue (cond t (select b) b)) [
   | true ↦ λ none.
       let choice : Choice seats (idle b) (select b) =
-      select-choice seats (idle b) b (record { tree = h.tree; same = λ e lt. refl; chosen = λ slot at. let no : Some slot ≡ None = sym at ∙ no_slot b.slot none in cc }) in
+      select-choice seats (idle b) b (record { tree = h.tree; same = λ e lt. refl; chosen = λ slot at. let no : Some slot ≡ None = sym at ∙ no_slot b.in_service none in cc }) in
       record {
         tree = choice.tree;
         rests = λ e lt taken. choice.same e lt ∙ h.rests e lt taken;
@@ -252,7 +257,7 @@ with_slot-busy seats queue b h = elim (is_none b.slot) as (λ t. is_none b.slot 
 
 -- the queue in service has lost a request
 without_empty-busy : (l : Limits) (seats : ℕ → Option Seat) (queue : ℕ → List WholeRequest) (k : ℕ) (rest : List WholeRequest) (b c : Bfq)
-    → ((slot : InService) → b.slot ≡ Some slot → slot.seat ≡ k) → (slot : InService) → b.slot ≡ Some slot → Busy seats queue b → without_empty l rest b ≡ Some c → Busy seats (put queue k rest) c
+    → ((slot : InService) → b.in_service ≡ Some slot → slot.seat ≡ k) → (slot : InService) → b.in_service ≡ Some slot → Busy seats queue b → without_empty l rest b ≡ Some c → Busy seats (put queue k rest) c
 without_empty-busy l seats queue k rest b c its slot at h e =
     elim (is_empty rest) as (λ t. is_empty rest ≡ t → cond t (expire Emptying l.max_budget false b) (Some b) ≡ Some c → Busy seats (put queue k rest) c) [
       | true ↦ λ empty f.
@@ -276,7 +281,7 @@ pub sent_by_bfq-tidy : (l : Limits) (m : Plain) (n tag : ℕ) (o : Plain × Repl
 sent_by_bfq-tidy l m n tag o e h =
     let s = sent-is l m n tag o e in
     let b : Bfq = with_slot s.ready in
-    let ready : Busy m.seat m.queue b = with_slot-busy m.seat m.queue s.ready (with_budget_in-busy l m m.bfq.slot s.ready s.readies h.busy) in
+    let ready : Busy m.seat m.queue b = with_slot-busy m.seat m.queue s.ready (with_budget_in-busy l m m.bfq.in_service s.ready s.readies h.busy) in
     let k : ℕ = s.slot.seat in
     let r : WholeRequest = s.request in
     let size : ℕ = (range_of r.bios).count in
@@ -286,7 +291,7 @@ sent_by_bfq-tidy l m n tag o e h =
     let over : Over b c = charge-over size b c s.charges in
     let now : InService = record x.0 { service = x.0.service + size } in
     let one : x.0.seat ≡ k = ap (λ (z : InService). z.seat) (some_is x.0 s.slot (sym x.1 ∙ s.serves)) in
-    let its : (other : InService) → c.slot ≡ Some other → other.seat ≡ k = λ other at. ap (λ (z : InService). z.seat) (some_is other now (sym at ∙ x.3)) ∙ one in
+    let its : (other : InService) → c.in_service ≡ Some other → other.seat ≡ k = λ other at. ap (λ (z : InService). z.seat) (some_is other now (sym at ∙ x.3)) ∙ one in
     let before = ready.serves x.0 x.1 in
     let P : ℕ → Type 0 = λ j. (j < 16) × (is_some (m.seat j) ≡ true) × (is_empty (m.queue j) ≡ false) in
     let at_k : P k = subst P one before in
@@ -320,7 +325,7 @@ entered-tidy m seat f outbox h =
     }
 
 -- the queue in service of a seat that goes would be empty
-pub away-from : (m : Plain) (k : ℕ) → is_empty (m.queue k) ≡ true → Tidy m → (slot : InService) → m.bfq.slot ≡ Some slot → slot.seat ≢ k
+pub away-from : (m : Plain) (k : ℕ) → is_empty (m.queue k) ≡ true → Tidy m → (slot : InService) → m.bfq.in_service ≡ Some slot → slot.seat ≢ k
 away-from m k empty h slot at same =
     let s = h.busy.serves slot at in let no : is_empty (m.queue slot.seat) ≡ true = ap (λ j. is_empty (m.queue j)) same ∙ empty in cc
 
@@ -372,9 +377,9 @@ gone-tidy m k small taken empty h =
     }
 
 -- the queue in service is one tick older
-pub ticked-tidy : (m : Plain) (slot : InService) → m.bfq.slot ≡ Some slot → Tidy m → Tidy (record m { bfq = record m.bfq { slot = Some (older slot) } })
+pub ticked-tidy : (m : Plain) (slot : InService) → m.bfq.in_service ≡ Some slot → Tidy m → Tidy (record m { bfq = record m.bfq { in_service = Some (older slot) } })
 ticked-tidy m slot is h =
-    let c : Bfq = record m.bfq { slot = Some (older slot) } in
+    let c : Bfq = record m.bfq { in_service = Some (older slot) } in
     let over : Over m.bfq c = Over-same m.bfq c refl refl in
     let P : InService → Type 0 = λ s. (s.seat < 16) × (is_some (m.seat s.seat) ≡ true) × (is_empty (m.queue s.seat) ≡ false) in
     record {
@@ -387,7 +392,7 @@ ticked-tidy m slot is h =
     }
 
 -- what BFQ knows of sessions' queues is as it was
-pub over-tidy : (m : Plain) (c : Bfq) → Over m.bfq c → c.slot ≡ m.bfq.slot → Tidy m → Tidy (record m { bfq = c })
+pub over-tidy : (m : Plain) (c : Bfq) → Over m.bfq c → c.in_service ≡ m.bfq.in_service → Tidy m → Tidy (record m { bfq = c })
 over-tidy m c over slots h =
     let kept : Busy m.seat m.queue c = Busy-over m.seat m.queue m.bfq c over slots h.busy in
     record { busy = kept; free = h.free }

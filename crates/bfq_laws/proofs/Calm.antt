@@ -5,21 +5,26 @@ use Rattle.std.proofs.lemmas.Bool.{cases_eq, ltb-true, ltb-false}
 use Rattle.sector_core.specs.declared.bio.Op.{Op}
 use Rattle.sector_core.specs.declared.range.Range.{Range}
 use Rattle.sector_core.specs.declared.config.Scheduler.{Scheduler}
-use Rattle.process_queue.specs.Queue.{is_empty}
-use Rattle.change_record.specs.declared.change.Seat.{Seat}
-use Rattle.change_record.specs.declared.change.InService.{InService}
-use Rattle.change_record.specs.Machine.{WholeRequest, Bfq, Plain}
-use Rattle.change_record.specs.Rules.{group_of, put_vtimes, activate}
-use Rattle.plain_machine.specs.declared.answer.Reply.{Reply}
-use Rattle.plain_machine.specs.Step.{Limits, is_bfq, unreaped, with_unreaped, submitted, woken, sent_by_bfq, with_first_budgets, begun_again, switched}
-use Rattle.plain_machine.proofs.Puts.{some_is, map_is}
-use Rattle.plain_machine.proofs.Sent.{sent-is}
-use Rattle.plain_machine.proofs.Begun.{timed, begun-keeps}
+use Rattle.plain.specs.Lists.{is_empty}
+use Rattle.plain.specs.declared.seat.Seat.{Seat}
+use Rattle.plain.specs.declared.seat.InService.{InService}
+use Rattle.plain.specs.Machine.{WholeRequest, Bfq, Plain}
+use Rattle.plain.specs.Rules.{group_of, put_vtimes, activate}
+use Rattle.plain.specs.declared.answer.Reply.{Reply}
+use Rattle.plain.specs.Opening.{Limits}
+use Rattle.plain.specs.Entities.{is_bfq}
+use Rattle.plain.specs.Sessions.{unreaped, with_unreaped}
+use Rattle.plain.specs.Steps.Submit.{submitted, woken}
+use Rattle.plain.specs.Steps.Dispatch.{sent_by_bfq}
+use Rattle.plain.specs.Steps.Switch.{with_first_budgets, begun_again, switched}
+use Rattle.plain_laws.proofs.Puts.{some_is, map_is}
+use Rattle.plain_laws.proofs.Sent.{sent-is}
+use Rattle.plain_laws.proofs.Begun.{timed, begun-keeps}
 use Rattle.bfq_laws.proofs.Walk.{sent_in_turn}
 use Rattle.bfq_laws.proofs.Tree.{Over, Over-same, Over-member, Over-vtime, idle, idle-over, Tree, Tree-over, Sets, sets-own}
 use Rattle.bfq_laws.proofs.Busy.{Tidy, woken-tidy, entered-tidy, sent_by_bfq-tidy}
 use Rattle.bfq_laws.proofs.Owned.{Owned, free-empty}
-use Rattle.class_trees.specs.Classes.{same_times}
+use Rattle.plain.specs.Classes.{same_times}
 
 -- the queues that BFQ knows of, where this is whether it is the scheduler
 abbrev pub seen : Bool → Plain → Plain
@@ -98,10 +103,10 @@ empty-seen false xs e = refl
 pub record Same (seats : ℕ → Option Seat) (b c : Bfq) : Type 0 where
   pub tree : Tree seats c
   pub idles : (e : ℕ) → e < 16 → idle c e ≡ idle b e
-  pub slots : c.slot ≡ b.slot
+  pub slots : c.in_service ≡ b.in_service
   pub parents : c.parent ≡ b.parent
 
-same-over : (seats : ℕ → Option Seat) (b c d : Bfq) → Over c d → d.slot ≡ c.slot → d.parent ≡ c.parent → Same seats b c → Same seats b d
+same-over : (seats : ℕ → Option Seat) (b c d : Bfq) → Over c d → d.in_service ≡ c.in_service → d.parent ≡ c.parent → Same seats b c → Same seats b d
 same-over seats b c d over slots parents h = record {
   tree = Tree-over seats c d over h.tree;
   idles = λ e lt. idle-over c d e lt over ∙ h.idles e lt;
@@ -136,7 +141,7 @@ begun-same l seats b scheduler sits tree = begun-keeps l (Same seats b) (record 
 }) scheduler b (record { tree = tree; idles = λ e lt. refl; slots = refl; parents = refl })
 
 -- nobody is in service then
-pub drained-slot : (m : Plain) → ((seat : ℕ) → seat < 16 → is_empty (m.queue seat) ≡ true) → Calm m → (slot : InService) → m.bfq.slot ≡ Some slot → ⊥
+pub drained-slot : (m : Plain) → ((seat : ℕ) → seat < 16 → is_empty (m.queue seat) ≡ true) → Calm m → (slot : InService) → m.bfq.in_service ≡ Some slot → ⊥
 drained-slot m drained h slot is =
     let s = h.busy.serves slot is in
     let empty : is_empty (cond (is_bfq m.scheduler) (m.queue slot.seat) []) ≡ true = empty-seen (is_bfq m.scheduler) (m.queue slot.seat) (drained slot.seat s.0) in

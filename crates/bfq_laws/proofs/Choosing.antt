@@ -3,16 +3,16 @@ use Rattle.std.proofs.Common.{true, false, ◌≡◌, ◌≢◌, inl, inr, ℕ, 
 use Rattle.std.specs.Option.{is_none}
 use Rattle.std.proofs.lemmas.Bool.{cases_eq, ltb-false}
 use Rattle.sector_core.specs.declared.class.Class.{Class}
-use Rattle.service_tree.specs.declared.member.State.{State}
-use Rattle.service_tree.specs.declared.member.State.TheVariants.{Idle, Active, Serving}
-use Rattle.group_tree.specs.Groups.{climb, path}
-use Rattle.change_record.specs.declared.change.InService.{InService}
-use Rattle.change_record.specs.Machine.{Bfq, put}
-use Rattle.change_record.specs.Rules.{group_of, is_idle, picked, jumped, in_service, on_pick, taken, class_in, chosen_in, on_class, select_from, select}
-use Rattle.plain_machine.specs.Step.{with_slot}
-use Rattle.plain_machine.proofs.Puts.{put_here, put_other, some_is}
-use Rattle.plain_machine.proofs.Placed.{placed}
-use Rattle.plain_machine.proofs.Rules.{jumped-keeps}
+use Rattle.plain.specs.declared.member.State.{State}
+use Rattle.plain.specs.declared.member.State.TheVariants.{Idle, Active, Serving}
+use Rattle.plain.specs.Groups.{climb, path}
+use Rattle.plain.specs.declared.seat.InService.{InService}
+use Rattle.plain.specs.Machine.{Bfq, put}
+use Rattle.plain.specs.Rules.{group_of, is_idle, picked, jumped, in_service, on_pick, taken, class_in, chosen_in, on_class, select_from, select}
+use Rattle.plain.specs.Steps.Dispatch.{with_slot}
+use Rattle.plain_laws.proofs.Puts.{put_here, put_other, some_is}
+use Rattle.plain_laws.proofs.Placed.{placed}
+use Rattle.plain_laws.proofs.Rules.{jumped-keeps}
 use Rattle.bfq_laws.proofs.Quiet.{jumped-quiet}
 use Rattle.bfq_laws.proofs.Tree.{idle}
 use Rattle.bfq_laws.proofs.Busy.{no_slot}
@@ -31,8 +31,8 @@ pub record Done (above : ℕ → Option ℕ) (c : Bfq) (slot : InService) : Type
 
 -- and one is where this holds
 pub record Chosen (above : ℕ → Option ℕ) (H : Type 0) (c : Bfq) : Type 0 where
-  pub done : (slot : InService) → c.slot ≡ Some slot → Done above c slot
-  pub found : H → is_some c.slot ≡ true
+  pub done : (slot : InService) → c.in_service ≡ Some slot → Done above c slot
+  pub found : H → is_some c.in_service ≡ true
 
 jumped-at : (above : ℕ → Option ℕ) (st : ℕ → State) (group : ℕ) (class : Class) (b : Bfq) → At above st b → At above st (jumped group class b)
 jumped-at above st = jumped-keeps (At above st) (λ b group class start _ _ at. vtime-at above st b group _ at)
@@ -61,9 +61,9 @@ serves-down above st k g parent served down j act nz _ =
 -- an entity that was picked is served: a session's queue is in service now, and from a group the way goes on
 taken-chosen : (above : ℕ → Option ℕ) (levels : Levels above) (choose : ℕ → Bfq → Bfq) (n g : ℕ) (class : Class) (st : ℕ → State) (b : Bfq) (e : ℕ)
     → ((h : ℕ) (now : ℕ → State) (d : Bfq) → levels.level h ≡ suc n → Stands above h → At above now d → Up above now → Down above now → (h ≢ 0 → now (16 + h) ≡ Serving)
-    → d.slot ≡ None → ((x : ℕ) → now x ≡ Serving → In x (climb (suc n) above (Some h))) → ((x : ℕ) → In x (climb (suc n) above (Some h)) → now x ≡ Serving)
+    → d.in_service ≡ None → ((x : ℕ) → now x ≡ Serving → In x (climb (suc n) above (Some h))) → ((x : ℕ) → In x (climb (suc n) above (Some h)) → now x ≡ Serving)
     → Chosen above (Has above now h) (choose h d))
-    → levels.level g ≡ n → n ≤ 4 → At above st b → Up above st → Down above st → (g ≢ 0 → st (16 + g) ≡ Serving) → b.slot ≡ None
+    → levels.level g ≡ n → n ≤ 4 → At above st b → Up above st → Down above st → (g ≢ 0 → st (16 + g) ≡ Serving) → b.in_service ≡ None
     → ((x : ℕ) → st x ≡ Serving → In x (climb n above (Some g))) → ((x : ℕ) → In x (climb n above (Some g)) → st x ≡ Serving) → picked b g class ≡ Some e
     → (H : Type 0) → Chosen above H (taken choose g b e)
 taken-chosen above levels choose n g class st b e more deep few at up down served none serving way is H =
@@ -79,7 +79,7 @@ taken-chosen above levels choose n g class st b e more deep few at up down serve
     let up_d : Up above now = serves-up above st e act up in
     let down_d : Down above now = serves-down above st e g parent served down in
     let slot : InService = record { seat = e; service = 0; age = 0 } in
-    let begun : Bfq = record d { slot = Some slot } in
+    let begun : Bfq = record d { in_service = Some slot } in
     elim (nat_lt e 16) as (λ t. nat_lt e 16 ≡ t → Chosen above H (cond t begun (choose (e - 16) d))) [
       | true ↦ λ _.
           let on : (x : ℕ) → now x ≡ Serving → In x (path above e) = λ x s. elim (cases_eq x e) [
@@ -129,7 +129,7 @@ taken-chosen above levels choose n g class st b e more deep few at up down serve
     ] refl
 
 chooses : (above : ℕ → Option ℕ) (levels : Levels above) (fuel n g : ℕ) (st : ℕ → State) (b : Bfq) → n + fuel ≡ 5 → levels.level g ≡ n → Stands above g → At above st b → Up above st → Down above st
-    → (g ≢ 0 → st (16 + g) ≡ Serving) → b.slot ≡ None → ((x : ℕ) → st x ≡ Serving → In x (climb n above (Some g))) → ((x : ℕ) → In x (climb n above (Some g)) → st x ≡ Serving)
+    → (g ≢ 0 → st (16 + g) ≡ Serving) → b.in_service ≡ None → ((x : ℕ) → st x ≡ Serving → In x (climb n above (Some g))) → ((x : ℕ) → In x (climb n above (Some g)) → st x ≡ Serving)
     → Chosen above (Has above st g) (select_from fuel g b)
 unfolding select_from
 chooses above levels zero n g st b sum deep stands at up down served none serving way =
@@ -149,7 +149,7 @@ chooses above levels (suc fuel) n g st b sum deep stands at up down served none 
           let c : Bfq = jumped g class b in
           let at_c : At above st c = jumped-at above st g class b at in
           let quiet = jumped-quiet g class b in
-          let none_c : c.slot ≡ None = quiet.1 ∙ none in
+          let none_c : c.in_service ≡ None = quiet.1 ∙ none in
           elim (picked c g class) as (λ o. picked c g class ≡ o → Chosen above H (on_pick o c (taken choose g c))) [
             | None ↦ λ no. record {
               done = λ slot is. let bad : Some slot ≡ None = sym is ∙ none_c in cc;
@@ -164,15 +164,15 @@ chooses above levels (suc fuel) n g st b sum deep stands at up down served none 
     ] refl
 
 -- where no queue is in service
-selects : (b : Bfq) (h : Alive b) → b.slot ≡ None → Chosen h.above (Has h.above h.st 0) (select b)
+selects : (b : Bfq) (h : Alive b) → b.in_service ≡ None → Chosen h.above (Has h.above h.st 0) (select b)
 selects b h none =
     chooses h.above h.levels 5 0 0 h.st b refl h.levels.root (omega arith, λ ne. absurd (ne refl)) h.at h.up h.down (λ ne. absurd (ne refl)) none
     (λ x s. let on = h.serving x s in let bad : Some on.0 ≡ None = sym on.1 ∙ none in cc) (λ x i. absurd (climb-none h.above (Some 0) x i))
 
-pub with_slot-alive : (b : Bfq) → Alive b → (slot : InService) → (with_slot b).slot ≡ Some slot → Alive (with_slot b)
-with_slot-alive b h slot = elim (is_none b.slot) as (λ t. is_none b.slot ≡ t → (cond t (select b) b).slot ≡ Some slot → Alive (cond t (select b) b)) [
+pub with_slot-alive : (b : Bfq) → Alive b → (slot : InService) → (with_slot b).in_service ≡ Some slot → Alive (with_slot b)
+with_slot-alive b h slot = elim (is_none b.in_service) as (λ t. is_none b.in_service ≡ t → (cond t (select b) b).in_service ≡ Some slot → Alive (cond t (select b) b)) [
   | true ↦ λ none is.
-      let d : Done h.above (select b) slot = (selects b h (no_slot b.slot none)).done slot is in
+      let d : Done h.above (select b) slot = (selects b h (no_slot b.in_service none)).done slot is in
       record {
         above = h.above;
         st = d.now;
@@ -198,14 +198,14 @@ some_slot None e = cc
 some_slot (Some slot) e = refl
 
 -- where an entity is not idle, a queue is in service then
-pub slot-found : (b : Bfq) → Alive b → (k : ℕ) → idle b k ≡ false → is_some (with_slot b).slot ≡ true
-slot-found b h k awake = elim (is_none b.slot) as (λ t. is_none b.slot ≡ t → is_some (cond t (select b) b).slot ≡ true) [
+pub slot-found : (b : Bfq) → Alive b → (k : ℕ) → idle b k ≡ false → is_some (with_slot b).in_service ≡ true
+slot-found b h k awake = elim (is_none b.in_service) as (λ t. is_none b.in_service ≡ t → is_some (cond t (select b) b).in_service ≡ true) [
   | true ↦ λ is.
-      let none : b.slot ≡ None = no_slot b.slot is in
+      let none : b.in_service ≡ None = no_slot b.in_service is in
       let nobody : (e : ℕ) → h.st e ≢ Serving = λ e s. let on = h.serving e s in let bad : Some on.0 ≡ None = sym on.1 ∙ none in cc in
       let busy : is_idle (h.st k) ≡ false = ap is_idle (sym (h.at.are k)) ∙ awake in
       let m = member-at h.above h.st b k h.at (not_idle (h.st k) busy) in
       let has : Has h.above h.st (group_of b k) = (k, m.3, awake-active (h.st k) busy (nobody k)) in
       (selects b h none).found (to-root h.above h.levels h.st h.up nobody (group_of b k) (parent-stands h.above h.levels k (group_of b k) m.3) has)
-  | false ↦ λ is. some_slot b.slot is
+  | false ↦ λ is. some_slot b.in_service is
 ] refl

@@ -1,18 +1,18 @@
 -- No budget is under 256 sectors.
 use Rattle.std.proofs.Common.{true, false, ◌≡◌, inl, inr, ℕ, ◌≤◌, nat_lt, List, cond, arith}
 use Rattle.std.proofs.lemmas.Bool.{cases_eq}
-use Rattle.group_tree.specs.Groups.{path}
-use Rattle.change_record.specs.Machine.{put}
-use Rattle.change_record.specs.declared.change.Expiry.{Expiry}
-use Rattle.change_record.specs.declared.change.Expiry.TheVariants.{Exhaustion, Timeout, Emptying}
-use Rattle.change_record.specs.Rules.{budget_after}
-use Rattle.plain_machine.specs.declared.call.Call.{Call}
-use Rattle.plain_machine.specs.Step.{Limits, opening}
+use Rattle.plain.specs.Groups.{path}
+use Rattle.plain.specs.Machine.{put}
+use Rattle.plain.specs.declared.seat.Expiry.{Expiry}
+use Rattle.plain.specs.declared.seat.Expiry.TheVariants.{Exhaustion, Timeout, Emptying}
+use Rattle.plain.specs.Rules.{budget_after}
+use Rattle.plain.specs.declared.call.Call.{Call}
+use Rattle.plain.specs.Opening.{Limits, opening}
 use Rattle.bfq_laws.specs.Budgets.{AreEnough, BudgetsAreEnough}
-use Rattle.plain_machine.proofs.Puts.{put_here, put_other}
-use Rattle.plain_machine.proofs.Rules.{Any, all_any, Selects, Changes}
-use Rattle.plain_machine.proofs.Ruled.{Ruled, ruled-leads}
-use Rattle.plain_machine.proofs.Stamps.{machine-leads}
+use Rattle.plain_laws.proofs.Puts.{put_here, put_other}
+use Rattle.plain_laws.proofs.Rules.{Any, all_any, Selects, Changes}
+use Rattle.plain_laws.proofs.Ruled.{Ruled, ruled-leads}
+use Rattle.plain_laws.proofs.Stamps.{machine-leads}
 
 -- one budget is another one, and enough
 pub put-enough : (budget : ℕ → ℕ) (entity v : ℕ) → 256 ≤ v → ((e : ℕ) → 256 ≤ budget e) → (e : ℕ) → 256 ≤ put budget entity v e

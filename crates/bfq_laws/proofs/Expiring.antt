@@ -1,16 +1,16 @@
 -- How expiring keeps that a group's entity waits exactly where one of its members does.
 use Rattle.std.proofs.Common.{true, false, Bool, ◌≡◌, ◌≢◌, ◌⊎◌, inl, inr, ℕ, suc, ◌+◌, ◌-◌, ◌<◌, ◌≤◌, nat_le, nat_lt, List, ◌∷◌, Option, Some, None, is_some, cond, refl, sym, ap, ◌∙◌, subst, arith, rules}
 use Rattle.std.proofs.lemmas.Bool.{cases_eq, cond-false}
-use Rattle.service_tree.specs.declared.member.State.{State}
-use Rattle.service_tree.specs.declared.member.State.TheVariants.{Idle, Active, Serving}
-use Rattle.group_tree.specs.Groups.{climb, most_levels, path}
-use Rattle.change_record.specs.declared.change.InService.{InService}
-use Rattle.change_record.specs.Machine.{Bfq, put}
-use Rattle.change_record.specs.declared.change.Expiry.{Expiry}
-use Rattle.change_record.specs.Rules.{top, group_of, is_idle, along, stamp, ended, is_backlogged, rested, expire_one, out_of_service, expire, class_in}
-use Rattle.plain_machine.proofs.Puts.{put_here, put_other, some_is, and_then_is}
-use Rattle.plain_machine.proofs.Placed.{placed, least_of}
-use Rattle.plain_machine.proofs.Rules.{expire-is}
+use Rattle.plain.specs.declared.member.State.{State}
+use Rattle.plain.specs.declared.member.State.TheVariants.{Idle, Active, Serving}
+use Rattle.plain.specs.Groups.{climb, most_levels, path}
+use Rattle.plain.specs.declared.seat.InService.{InService}
+use Rattle.plain.specs.Machine.{Bfq, put}
+use Rattle.plain.specs.declared.seat.Expiry.{Expiry}
+use Rattle.plain.specs.Rules.{top, group_of, is_idle, along, stamp, ended, is_backlogged, rested, expire_one, out_of_service, expire, class_in}
+use Rattle.plain_laws.proofs.Puts.{put_here, put_other, some_is, and_then_is}
+use Rattle.plain_laws.proofs.Placed.{placed, least_of}
+use Rattle.plain_laws.proofs.Rules.{expire-is}
 use Rattle.bfq_laws.proofs.Quiet.{expire-slot}
 use Rattle.bfq_laws.proofs.Tree.{idle}
 use Rattle.bfq_laws.proofs.Picks.{class-of-active, active-of-class}
@@ -139,7 +139,7 @@ expires above levels service queued n g = climbing above levels (Expires above l
     (λ g h ways ne lt parent more. expire-group above levels service queued g h ways ne parent more) n g
 
 -- the queue in service expires, which was not idle
-pub expire-alive : (cause : Expiry) (most : ℕ) (queued : Bool) (b c : Bfq) → ((slot : InService) → b.slot ≡ Some slot → (slot.seat < 16) × (idle b slot.seat ≡ false)) → expire cause most queued b ≡ Some c → Alive b → Alive c
+pub expire-alive : (cause : Expiry) (most : ℕ) (queued : Bool) (b c : Bfq) → ((slot : InService) → b.in_service ≡ Some slot → (slot.seat < 16) × (idle b slot.seat ≡ false)) → expire cause most queued b ≡ Some c → Alive b → Alive c
 expire-alive cause most queued b c awake e h =
     let slot = expire-is cause most queued b c e in
     let k : ℕ = slot.0.seat in

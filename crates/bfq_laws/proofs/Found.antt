@@ -1,13 +1,16 @@
 -- On the machine of every keeper a dispatch under BFQ finds a queue and a request, a session's entity waits or is served exactly where,
 -- under BFQ, its queue is not empty, a group's tree has just the entities that are in the group, and a queue the requests of its session.
 use Rattle.std.proofs.Common.{true, false, Bool, not, ◌&&◌, cond, ◌≡◌, ℕ, List, [], Option, Some, None, is_some, refl, sym, ap, ◌∙◌}
-use Rattle.process_queue.specs.Queue.{is_empty}
-use Rattle.change_record.specs.declared.change.InService.{InService}
-use Rattle.change_record.specs.Machine.{WholeRequest, Plain}
-use Rattle.change_record.specs.Rules.{member_of, is_idle}
-use Rattle.plain_machine.specs.declared.call.Call.{Call}
-use Rattle.plain_machine.specs.Step.{Limits, is_bfq, with_slot}
-use Rattle.plain_machine.specs.Keeper.{machine_of, replay}
+use Rattle.plain.specs.Lists.{is_empty}
+use Rattle.plain.specs.declared.seat.InService.{InService}
+use Rattle.plain.specs.Machine.{WholeRequest, Plain}
+use Rattle.plain.specs.Rules.{member_of, is_idle}
+use Rattle.plain.specs.declared.call.Call.{Call}
+use Rattle.plain.specs.Opening.{Limits}
+use Rattle.plain.specs.Entities.{is_bfq}
+use Rattle.plain.specs.Steps.Dispatch.{with_slot}
+use Rattle.plain.specs.Keeper.{machine_of}
+use Rattle.plain.specs.Headline.{replay}
 use Rattle.bfq_laws.specs.Found.{DispatchFindsARequest, EachDispatchFindsARequest}
 use Rattle.bfq_laws.specs.Busy.{BusySessionsWaitOrAreServed}
 use Rattle.bfq_laws.specs.Members.{AreMembers, EntitiesAreMembers}
@@ -35,9 +38,9 @@ finds l m h under some b e =
       | true ↦ λ _. refl
       | false ↦ λ no. let empty : is_empty (m.queue k) ≡ true = tidy.free k no in cc
     ] refl in
-    let busy : Busy m.seat m.queue b = with_budget_in-busy l m m.bfq.slot b e tidy.busy in
+    let busy : Busy m.seat m.queue b = with_budget_in-busy l m m.bfq.in_service b e tidy.busy in
     let awake : idle b k ≡ false = busy.rests k next.1 taken ∙ full in
-    let slot = some_slot (with_slot b).slot (slot-found b (with_budget_in-alive l m m.bfq.slot b e tidy h.alive) k awake) in
+    let slot = some_slot (with_slot b).in_service (slot-found b (with_budget_in-alive l m m.bfq.in_service b e tidy h.alive) k awake) in
     let ready : Busy m.seat m.queue (with_slot b) = with_slot-busy m.seat m.queue b busy in
     (slot.0, slot.1, next-some m slot.0.seat (ready.serves slot.0 slot.1).2)
 

@@ -3,16 +3,16 @@ use Rattle.std.proofs.Common.{true, ◌≡◌, inl, inr, ℕ, ◌+◌, ◌<◌, 
 use Rattle.std.proofs.lemmas.Bool.{cases_eq}
 use Rattle.std.proofs.lemmas.List.Elements.{All-cons, All-weaker}
 use Rattle.sector_core.specs.declared.class.Class.{Class}
-use Rattle.service_tree.specs.declared.member.Member.{Member}
-use Rattle.class_trees.specs.declared.Vtimes.{Vtimes}
-use Rattle.group_tree.specs.Groups.{climb, most_levels, path}
-use Rattle.change_record.specs.declared.change.InService.{InService}
-use Rattle.change_record.specs.declared.change.Seat.{Seat}
-use Rattle.change_record.specs.Machine.{Bfq}
-use Rattle.change_record.specs.Rules.{group_of, put_vtimes, picked, activate, select}
-use Rattle.plain_machine.proofs.Puts.{some_is}
-use Rattle.plain_machine.proofs.Placed.{placed, put_place, placed-other, placed-vtime}
-use Rattle.plain_machine.proofs.Rules.{High, climb-high, StampsKeep, Changes, activate_path-keeps, select-keeps}
+use Rattle.plain.specs.declared.member.Member.{Member}
+use Rattle.plain.specs.declared.member.Vtimes.{Vtimes}
+use Rattle.plain.specs.Groups.{climb, most_levels, path}
+use Rattle.plain.specs.declared.seat.InService.{InService}
+use Rattle.plain.specs.declared.seat.Seat.{Seat}
+use Rattle.plain.specs.Machine.{Bfq}
+use Rattle.plain.specs.Rules.{group_of, put_vtimes, picked, activate, select}
+use Rattle.plain_laws.proofs.Puts.{some_is}
+use Rattle.plain_laws.proofs.Placed.{placed, put_place, placed-other, placed-vtime}
+use Rattle.plain_laws.proofs.Rules.{High, climb-high, StampsKeep, Changes, activate_path-keeps, select-keeps}
 use Rattle.bfq_laws.proofs.Picks.{picked-is}
 
 -- an entity that is a session's queue is that of a seat that is taken
@@ -42,7 +42,7 @@ path-fits seats above seat sits =
 
 -- the seat of the queue in service is taken
 abbrev pub Sits : (ℕ → Option Seat) → Bfq → Type 0
-Sits seats b = (slot : InService) → b.slot ≡ Some slot → is_some (seats slot.seat) ≡ true
+Sits seats b = (slot : InService) → b.in_service ≡ Some slot → is_some (seats slot.seat) ≡ true
 
 one-sits : (seats : ℕ → Option Seat) (new : InService) → is_some (seats new.seat) ≡ true → (slot : InService) → Some new ≡ Some slot → is_some (seats slot.seat) ≡ true
 one-sits seats new its slot e = subst (λ (s : InService). is_some (seats s.seat) ≡ true) (some_is new slot e) its
@@ -78,7 +78,7 @@ known-changes most seats = record {
 -- the queue in service, if one is, is that of a seat that is taken, and no sector of it has been sent
 pub record Begins (seats : ℕ → Option Seat) (b : Bfq) : Type 0 where
   pub known : Known seats b
-  pub fresh : (slot : InService) → b.slot ≡ Some slot → (is_some (seats slot.seat) ≡ true) × (slot.service ≡ 0)
+  pub fresh : (slot : InService) → b.in_service ≡ Some slot → (is_some (seats slot.seat) ≡ true) × (slot.service ≡ 0)
 
 pub select-begins : (seats : ℕ → Option Seat) (b : Bfq) → Begins seats b → Begins seats (select b)
 select-begins seats = select-keeps (Begins seats) (record {

@@ -5,23 +5,24 @@ use Rattle.std.proofs.lemmas.Bool.{ltb-false}
 use Rattle.std.proofs.lemmas.List.Elements.{All-nil, All-cons}
 use Rattle.sector_core.specs.declared.class.Class.{Class}
 use Rattle.sector_core.specs.declared.class.Class.TheVariants.{RealTime, BestEffort, Idle as IdleClass}
-use Rattle.service_tree.specs.declared.member.State.TheVariants.{Serving}
-use Rattle.service_tree.specs.declared.member.Member.{Member}
-use Rattle.service_tree.specs.Members.{IsActiveAt}
-use Rattle.class_trees.specs.Classes.{Classes, first_class, has_active, only, rank, with_time}
-use Rattle.class_trees.proofs.Highest.{only-own}
-use Rattle.group_tree.specs.Groups.{climb, path}
-use Rattle.change_record.specs.declared.change.InService.{InService}
-use Rattle.change_record.specs.Exchange.{with_member}
-use Rattle.change_record.specs.Machine.{Bfq, Plain}
-use Rattle.change_record.specs.Rules.{absent, class_in, class_of, chosen_in, group_of, in_service, jumped, member_in, on_class, on_pick, picked, select, select_from, taken}
-use Rattle.plain_machine.specs.declared.call.Call.{Call}
-use Rattle.plain_machine.specs.Step.{Limits, with_slot}
-use Rattle.plain_machine.specs.Keeper.{machine_of, replay}
+use Rattle.plain.specs.declared.member.State.TheVariants.{Serving}
+use Rattle.plain.specs.declared.member.Member.{Member}
+use Rattle.plain.specs.Members.{IsActiveAt}
+use Rattle.plain.specs.Classes.{Classes, first_class, has_active, only, rank, with_time, with_member}
+use Rattle.class_laws.proofs.Highest.{only-own}
+use Rattle.plain.specs.Groups.{climb, path}
+use Rattle.plain.specs.declared.seat.InService.{InService}
+use Rattle.plain.specs.Machine.{Bfq, Plain}
+use Rattle.plain.specs.Rules.{absent, class_in, class_of, chosen_in, group_of, in_service, jumped, member_in, on_class, on_pick, picked, select, select_from, taken}
+use Rattle.plain.specs.declared.call.Call.{Call}
+use Rattle.plain.specs.Opening.{Limits}
+use Rattle.plain.specs.Steps.Dispatch.{with_slot}
+use Rattle.plain.specs.Keeper.{machine_of}
+use Rattle.plain.specs.Headline.{replay}
 use Rattle.bfq_laws.specs.Order.{GoesFirst, SelectsInOrder, DispatchesInOrder, ClassesAreInOrder}
-use Rattle.plain_machine.proofs.Puts.{put_other, some_is}
-use Rattle.plain_machine.proofs.Placed.{placed, places_of, places-vtime}
-use Rattle.plain_machine.proofs.Rules.{jumped-keeps}
+use Rattle.plain_laws.proofs.Puts.{put_other, some_is}
+use Rattle.plain_laws.proofs.Placed.{placed, places_of, places-vtime}
+use Rattle.plain_laws.proofs.Rules.{jumped-keeps}
 use Rattle.bfq_laws.proofs.Quiet.{jumped-quiet}
 use Rattle.bfq_laws.proofs.Picks.{picked-is, start-of-active}
 use Rattle.bfq_laws.proofs.Shape.{In, Levels, parent-stands, climb-back, climb-none, climb-whole}
@@ -96,14 +97,14 @@ abbrev AreIn : (ℕ → Option ℕ) → Bfq → Type 0
 AreIn above b = (j e : ℕ) → is_some (placed b j e) ≡ true → above e ≡ Some j
 
 taken-ordered : (above : ℕ → Option ℕ) (levels : Levels above) (choose : ℕ → Bfq → Bfq) (n g : ℕ) (b c : Bfq) (e : ℕ) (slot : InService) (x : ℕ)
-    → ((h : ℕ) (d : Bfq) → levels.level h ≡ suc n → d.slot ≡ None → AsBefore above levels (suc n) b d → (choose h d).slot ≡ Some slot → Ordered above (suc n) h x b)
-    → levels.level g ≡ n → above e ≡ Some g → c.slot ≡ None → AsBefore above levels n b c → GoesFirst b e → In x (path above slot.seat)
-    → (taken choose g c e).slot ≡ Some slot → Ordered above n g x b
+    → ((h : ℕ) (d : Bfq) → levels.level h ≡ suc n → d.in_service ≡ None → AsBefore above levels (suc n) b d → (choose h d).in_service ≡ Some slot → Ordered above (suc n) h x b)
+    → levels.level g ≡ n → above e ≡ Some g → c.in_service ≡ None → AsBefore above levels n b c → GoesFirst b e → In x (path above slot.seat)
+    → (taken choose g c e).in_service ≡ Some slot → Ordered above n g x b
 taken-ordered above levels choose n g b c e slot x more deep parent none before goes on at =
     let d : Bfq = in_service g e c in
     let new : InService = record { seat = e; service = 0; age = 0 } in
-    let begun : Bfq = record d { slot = Some new } in
-    elim (nat_lt e 16) as (λ t. nat_lt e 16 ≡ t → (let y : Bfq = cond t begun (choose (e - 16) d) in y.slot) ≡ Some slot → Ordered above n g x b) [
+    let begun : Bfq = record d { in_service = Some new } in
+    elim (nat_lt e 16) as (λ t. nat_lt e 16 ≡ t → (let y : Bfq = cond t begun (choose (e - 16) d) in y.in_service) ≡ Some slot → Ordered above n g x b) [
       | true ↦ λ _ p.
           let seat : e ≡ slot.seat = ap (λ (s : InService). s.seat) (some_is new slot p) in
           let way : In x (path above e) = subst (λ k. In x (path above k)) (sym seat) on in
@@ -133,19 +134,19 @@ taken-ordered above levels choose n g b c e slot x more deep parent none before 
           ]
     ] refl at
 
-ordered : (above : ℕ → Option ℕ) (levels : Levels above) (fuel n g : ℕ) (b c : Bfq) (slot : InService) (x : ℕ) → levels.level g ≡ n → b.parent ≡ above → AreIn above b → c.slot ≡ None
-    → AsBefore above levels n b c → In x (path above slot.seat) → (select_from fuel g c).slot ≡ Some slot → Ordered above n g x b
+ordered : (above : ℕ → Option ℕ) (levels : Levels above) (fuel n g : ℕ) (b c : Bfq) (slot : InService) (x : ℕ) → levels.level g ≡ n → b.parent ≡ above → AreIn above b → c.in_service ≡ None
+    → AsBefore above levels n b c → In x (path above slot.seat) → (select_from fuel g c).in_service ≡ Some slot → Ordered above n g x b
 unfolding select_from
 ordered above levels zero n g b c slot x deep par known none before on at = let bad : Some slot ≡ None = sym at ∙ none in cc
 ordered above levels (suc fuel) n g b c slot x deep par known none before on at =
     let choose : ℕ → Bfq → Bfq = λ h d. select_from fuel h d in
     let same : places_of c g ≡ places_of b g = before g (omega (arith, deep)) in
-    elim (class_in c g) as (λ o. class_in c g ≡ o → (on_class o c (chosen_in choose g c)).slot ≡ Some slot → Ordered above n g x b) [
+    elim (class_in c g) as (λ o. class_in c g ≡ o → (on_class o c (chosen_in choose g c)).in_service ≡ Some slot → Ordered above n g x b) [
       | None ↦ λ _ f. let bad : Some slot ≡ None = sym f ∙ none in cc
       | Some class ↦ λ first f.
           let d : Bfq = jumped g class c in
-          let none_d : d.slot ≡ None = (jumped-quiet g class c).1 ∙ none in
-          elim (picked d g class) as (λ o. picked d g class ≡ o → (on_pick o d (taken choose g d)).slot ≡ Some slot → Ordered above n g x b) [
+          let none_d : d.in_service ≡ None = (jumped-quiet g class c).1 ∙ none in
+          elim (picked d g class) as (λ o. picked d g class ≡ o → (on_pick o d (taken choose g d)).in_service ≡ Some slot → Ordered above n g x b) [
             | None ↦ λ _ p. let bad : Some slot ≡ None = sym p ∙ none_d in cc
             | Some e ↦ λ is p.
                 let m = picked-is d g class e is in
@@ -166,7 +167,7 @@ all-in P (x ∷ xs) each = All-cons P x xs (each x (inl refl)) (all-in P xs (λ 
 select-ordered : (b : Bfq) → Alive b → SelectsInOrder b
 select-ordered b h none slot at =
     let same : with_slot b ≡ select b = ap (λ (o : Option InService). cond (is_none o) (select b) b) none in
-    let made : (select b).slot ≡ Some slot = ap (λ (c : Bfq). c.slot) (sym same) ∙ at in
+    let made : (select b).in_service ≡ Some slot = ap (λ (c : Bfq). c.in_service) (sym same) ∙ at in
     all-in (GoesFirst b) (path b.parent slot.seat) (λ x i.
     elim (ordered h.above h.levels 5 0 0 b b slot x h.levels.root h.at.parents h.at.places.known none (λ j le. refl)
     (subst (λ (f : ℕ → Option ℕ). In x (path f slot.seat)) h.at.parents i) made) [
@@ -175,7 +176,7 @@ select-ordered b h none slot at =
     ])
 
 in-order : (l : Limits) (m : Plain) → Sound m → DispatchesInOrder l m
-in-order l m h under b e none slot at = select-ordered b (with_budget_in-alive l m m.bfq.slot b e (calm-tidy m under h.calm) h.alive) none slot at
+in-order l m h under b e none slot at = select-ordered b (with_budget_in-alive l m m.bfq.in_service b e (calm-tidy m under h.calm) h.alive) none slot at
 
 -- the law
 pub classes-in-order : (l : Limits) (most : ℕ) (journal : List Call) → ClassesAreInOrder l most journal

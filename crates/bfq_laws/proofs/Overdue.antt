@@ -1,13 +1,14 @@
 -- Before a dispatch the queue in service expires, for its time or its budget, or has room for its next request.
 use Rattle.std.proofs.Common.{true, false, ◌≡◌, ◌⊎◌, inl, inr, ℕ, ◌+◌, ◌≤◌, nat_le, nat_lt, Some, cond, refl}
 use Rattle.std.proofs.lemmas.Bool.{ltb-false}
-use Rattle.change_record.specs.declared.change.InService.{InService}
-use Rattle.change_record.specs.Machine.{Bfq, Plain}
-use Rattle.change_record.specs.declared.change.Expiry.{Expiry}
-use Rattle.change_record.specs.declared.change.Expiry.TheVariants.{Exhaustion, Timeout}
-use Rattle.change_record.specs.Rules.{expire}
-use Rattle.plain_machine.specs.Step.{Limits, next_size, with_budget_in}
-use Rattle.plain_machine.proofs.Puts.{some_is}
+use Rattle.plain.specs.declared.seat.InService.{InService}
+use Rattle.plain.specs.Machine.{Bfq, Plain}
+use Rattle.plain.specs.declared.seat.Expiry.{Expiry}
+use Rattle.plain.specs.declared.seat.Expiry.TheVariants.{Exhaustion, Timeout}
+use Rattle.plain.specs.Rules.{expire}
+use Rattle.plain.specs.Opening.{Limits}
+use Rattle.plain.specs.Steps.Dispatch.{next_size, with_budget_in}
+use Rattle.plain_laws.proofs.Puts.{some_is}
 
 pub overdue : (l : Limits) (m : Plain) (slot : InService) (b : Bfq) → with_budget_in l m (Some slot) ≡ Some b
     → ((cause : Expiry) × (expire cause l.max_budget true m.bfq ≡ Some b)) ⊎ ((slot.service + next_size m slot.seat ≤ m.bfq.budget slot.seat) × (m.bfq ≡ b))

@@ -6,17 +6,22 @@ use Rattle.std.proofs.lemmas.List.Elements.{All-nil, All-cons, All-head, All-tai
 use Rattle.sector_core.specs.declared.bio.Bio.{Bio}
 use Rattle.sector_core.specs.declared.bio.Op.{Op}
 use Rattle.sector_core.specs.declared.range.Range.{Range}
-use Rattle.process_queue.specs.Queue.{is_empty}
-use Rattle.process_queue.specs.Merge.{joins_at}
-use Rattle.process_queue.specs.Next.{has_start}
-use Rattle.change_record.specs.declared.change.Seat.{Seat}
-use Rattle.change_record.specs.Machine.{WholeRequest, Plain, put}
-use Rattle.change_record.specs.Rules.{activate}
-use Rattle.plain_machine.specs.declared.answer.Reply.{Reply}
-use Rattle.plain_machine.specs.Step.{Limits, is_bfq, is_session, unreaped, with_unreaped, new_bio, with_bio, change_first, queue_with, merge_in, submitted, woken, is_of, flying, left_of, is_gone, range_of, without_first, sent_by_bfq, shape}
-use Rattle.plain_machine.proofs.Puts.{put_here, put_other, some_is, map_is}
-use Rattle.plain_machine.proofs.Moves.{Stays}
-use Rattle.plain_machine.proofs.Sent.{sent-is}
+use Rattle.plain.specs.Lists.{is_empty}
+use Rattle.plain.specs.Merge.{joins_at}
+use Rattle.plain.specs.Next.{has_start}
+use Rattle.plain.specs.declared.seat.Seat.{Seat}
+use Rattle.plain.specs.Machine.{WholeRequest, Plain, put}
+use Rattle.plain.specs.Rules.{activate}
+use Rattle.plain.specs.declared.answer.Reply.{Reply}
+use Rattle.plain.specs.Opening.{Limits}
+use Rattle.plain.specs.Entities.{is_bfq}
+use Rattle.plain.specs.Sessions.{is_session, unreaped, with_unreaped}
+use Rattle.plain.specs.Steps.Submit.{new_bio, with_bio, change_first, queue_with, merge_in, submitted, woken}
+use Rattle.plain.specs.Requests.{is_of, flying, left_of, is_gone, range_of, shape}
+use Rattle.plain.specs.Steps.Dispatch.{without_first, sent_by_bfq}
+use Rattle.plain_laws.proofs.Puts.{put_here, put_other, some_is, map_is}
+use Rattle.plain_laws.proofs.Moves.{Stays}
+use Rattle.plain_laws.proofs.Sent.{sent-is}
 use Rattle.bfq_laws.proofs.Walk.{Keeps}
 
 abbrev pub Owns : Option Seat → WholeRequest → Type 0

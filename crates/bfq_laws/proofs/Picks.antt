@@ -4,19 +4,18 @@ use Rattle.std.specs.List.{filter}
 use Rattle.std.specs.Option.{option_map, option_map_or}
 use Rattle.std.proofs.lemmas.List.Elements.{All-nil, All-cons, All-head, All-tail, All-filter, filter_passes}
 use Rattle.sector_core.specs.declared.class.Class.{Class}
-use Rattle.process_queue.specs.Queue.{is_empty}
-use Rattle.service_tree.specs.declared.member.Member.{Member}
-use Rattle.service_tree.specs.declared.member.State.{State}
-use Rattle.service_tree.specs.declared.member.State.TheVariants.{Idle, Active, Serving}
-use Rattle.class_trees.specs.Classes.{Classes, only, time_of, with_time}
-use Rattle.class_trees.proofs.Highest.{first_is, first_none, only-own, only-placed}
-use Rattle.class_trees.proofs.Times.{time_of-with}
-use Rattle.service_tree.specs.Members.{is_active, is_eligible, numbered, is_sooner, sooner, soonest, lesser, least, least_start, pick}
-use Rattle.change_record.specs.Exchange.{with_vtimes}
-use Rattle.change_record.specs.Machine.{Bfq}
-use Rattle.change_record.specs.Rules.{vtime_of, put_vtime, picked, jumped, class_in, service_in}
-use Rattle.plain_machine.proofs.Puts.{put_here, some_is}
-use Rattle.plain_machine.proofs.Placed.{placed, places_of, least_of}
+use Rattle.plain.specs.Lists.{is_empty}
+use Rattle.plain.specs.declared.member.Member.{Member}
+use Rattle.plain.specs.declared.member.State.{State}
+use Rattle.plain.specs.declared.member.State.TheVariants.{Idle, Active, Serving}
+use Rattle.plain.specs.Classes.{Classes, only, time_of, with_time, with_vtimes}
+use Rattle.class_laws.proofs.Highest.{first_is, first_none, only-own, only-placed}
+use Rattle.class_laws.proofs.Times.{time_of-with}
+use Rattle.plain.specs.Members.{is_active, is_eligible, numbered, is_sooner, sooner, soonest, lesser, least, least_start, pick}
+use Rattle.plain.specs.Machine.{Bfq}
+use Rattle.plain.specs.Rules.{vtime_of, put_vtime, picked, jumped, class_in, service_in}
+use Rattle.plain_laws.proofs.Puts.{put_here, some_is}
+use Rattle.plain_laws.proofs.Placed.{placed, places_of, least_of}
 
 -- who is among the members of a tree stands there
 abbrev IsPlaced : List (Option Member) → ℕ × Member → Type 0

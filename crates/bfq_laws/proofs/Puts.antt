@@ -4,8 +4,8 @@ use Rattle.std.specs.List.{find}
 use Rattle.std.proofs.lemmas.Bool.{cases_eq}
 use Rattle.std.proofs.lemmas.List.Elements.{All-head, All-tail}
 use Rattle.std.proofs.lemmas.List.Sums.{sum_by-cons}
-use Rattle.soft_queue.specs.Turn.{numbers}
-use Rattle.plain_machine.proofs.Puts.{some_is}
+use Rattle.plain.specs.Lists.{numbers}
+use Rattle.plain_laws.proofs.Puts.{some_is}
 
 -- what holds of all holds of one that is found
 pub All-find : {A : Type 0} (P : A → Type 0) (passes : A → Bool) (xs : List A) (x : A) → find passes xs ≡ Some x → All P xs → P x

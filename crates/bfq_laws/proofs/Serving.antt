@@ -1,11 +1,12 @@
 -- On the machine of every keeper an entity is in service exactly where it is on the path of the queue in service, and a seat's entity is in
 -- a group exactly where a session sits there.
 use Rattle.std.proofs.Common.{true, false, ◌≡◌, inl, inr, ℕ, zero, suc, ◌<◌, List, [], ◌∷◌, length, Contains, slice_index_or, Option, is_some, refl, sym, ap, ◌∙◌, subst, arith}
-use Rattle.group_tree.specs.Groups.{path}
-use Rattle.change_record.specs.Machine.{Bfq, Plain}
-use Rattle.plain_machine.specs.declared.call.Call.{Call}
-use Rattle.plain_machine.specs.Step.{Limits}
-use Rattle.plain_machine.specs.Keeper.{machine_of, replay}
+use Rattle.plain.specs.Groups.{path}
+use Rattle.plain.specs.Machine.{Bfq, Plain}
+use Rattle.plain.specs.declared.call.Call.{Call}
+use Rattle.plain.specs.Opening.{Limits}
+use Rattle.plain.specs.Keeper.{machine_of}
+use Rattle.plain.specs.Headline.{replay}
 use Rattle.bfq_laws.specs.Served.{PathIsServed, ThePathIsServed}
 use Rattle.bfq_laws.specs.Seats.{SeatsAreInGroups, TakenSeatsAreInGroups}
 use Rattle.bfq_laws.proofs.Tree.{Tree}

@@ -1,17 +1,17 @@
 -- The tree of groups above the entities, and the state of each entity.
 use Rattle.std.proofs.Common.{true, false, ◌≡◌, ◌≢◌, ◌⊎◌, inl, inr, ℕ, zero, suc, ◌+◌, ◌<◌, ◌≤◌, nat_le, nat_lt, List, [], ◌∷◌, length, Option, Some, None, is_some, unwrap_or, cond, slice_index_or, refl, sym, ap, ◌∙◌, subst, arith, rules}
 use Rattle.std.proofs.lemmas.Bool.{cases_eq, cond-true}
-use Rattle.service_tree.specs.declared.member.Member.{Member}
-use Rattle.service_tree.specs.declared.member.State.{State}
-use Rattle.service_tree.specs.declared.member.State.TheVariants.{Idle, Active}
-use Rattle.class_trees.specs.declared.Vtimes.{Vtimes}
-use Rattle.class_trees.specs.Classes.{Classes}
-use Rattle.group_tree.specs.Groups.{has_entity, entity_of, climb}
-use Rattle.change_record.specs.Machine.{Bfq, put}
-use Rattle.change_record.specs.Rules.{top, absent, group_of, member_of, put_member, put_vtimes, finish_from, stamped, stamp}
-use Rattle.plain_machine.proofs.Puts.{put_here, put_other, some_is}
-use Rattle.plain_machine.proofs.Placed.{placed, placed-here, placed-elsewhere, placed-other, placed-vtime, length-member, places_of, places-vtime}
-use Rattle.plain_machine.proofs.Rules.{unrefused}
+use Rattle.plain.specs.declared.member.Member.{Member}
+use Rattle.plain.specs.declared.member.State.{State}
+use Rattle.plain.specs.declared.member.State.TheVariants.{Idle, Active}
+use Rattle.plain.specs.declared.member.Vtimes.{Vtimes}
+use Rattle.plain.specs.Classes.{Classes}
+use Rattle.plain.specs.Groups.{has_entity, entity_of, climb}
+use Rattle.plain.specs.Machine.{Bfq, put}
+use Rattle.plain.specs.Rules.{top, absent, group_of, member_of, put_member, put_vtimes, finish_from, stamped, stamp}
+use Rattle.plain_laws.proofs.Puts.{put_here, put_other, some_is}
+use Rattle.plain_laws.proofs.Placed.{placed, placed-here, placed-elsewhere, placed-other, placed-vtime, length-member, places_of, places-vtime}
+use Rattle.plain_laws.proofs.Rules.{unrefused}
 
 -- an entity is in a list
 abbrev pub In : ℕ → List ℕ → Type 0

@@ -6,24 +6,32 @@ use Rattle.std.proofs.lemmas.List.Elements.{All-nil}
 use Rattle.sector_core.specs.declared.config.Scheduler.{Scheduler}
 use Rattle.sector_core.specs.declared.config.Scheduler.TheVariants.{Plain as PlainScheduler, Bfq as BfqScheduler}
 use Rattle.sector_core.specs.declared.class.Class.{Class}
-use Rattle.service_tree.specs.declared.member.State.{State}
-use Rattle.service_tree.specs.declared.member.State.TheVariants.{Idle}
-use Rattle.process_queue.specs.Queue.{is_empty}
-use Rattle.group_tree.specs.Groups.{entity_of, path}
-use Rattle.change_record.specs.declared.change.InService.{InService}
-use Rattle.change_record.specs.declared.change.Seat.{Seat}
-use Rattle.change_record.specs.Machine.{WholeRequest, Bfq, Plain, put}
-use Rattle.change_record.specs.declared.change.Expiry.TheVariants.{Emptying}
-use Rattle.change_record.specs.Rules.{activate, charge, expire, stands, absent}
-use Rattle.plain_machine.specs.declared.answer.Reply.{Reply}
-use Rattle.plain_machine.specs.declared.call.Call.{Call}
-use Rattle.plain_machine.specs.Step.{Limits, opening, is_bfq, older, begun_again, with_entity, without_entity, is_gone, prio_weight, attached, submitted, woken, range_of, with_budget_in, with_slot, without_empty, sent_by_bfq}
-use Rattle.plain_machine.specs.Keeper.{machine_of, replay}
-use Rattle.plain_machine.proofs.Puts.{put_here, put_other, some_is, map_is}
-use Rattle.plain_machine.proofs.Leads.{made}
-use Rattle.plain_machine.proofs.Sent.{rest_of, sent-is}
-use Rattle.plain_machine.proofs.Placed.{placed, placed-same}
-use Rattle.plain_machine.proofs.Begun.{timed, begun-keeps}
+use Rattle.plain.specs.declared.member.State.{State}
+use Rattle.plain.specs.declared.member.State.TheVariants.{Idle}
+use Rattle.plain.specs.Lists.{is_empty}
+use Rattle.plain.specs.Groups.{entity_of, path}
+use Rattle.plain.specs.declared.seat.InService.{InService}
+use Rattle.plain.specs.declared.seat.Seat.{Seat}
+use Rattle.plain.specs.Machine.{WholeRequest, Bfq, Plain, put}
+use Rattle.plain.specs.declared.seat.Expiry.TheVariants.{Emptying}
+use Rattle.plain.specs.Rules.{activate, charge, expire, stands, absent}
+use Rattle.plain.specs.declared.answer.Reply.{Reply}
+use Rattle.plain.specs.declared.call.Call.{Call}
+use Rattle.plain.specs.Opening.{Limits, opening}
+use Rattle.plain.specs.Entities.{is_bfq, with_entity, without_entity}
+use Rattle.plain.specs.Steps.Tick.{older}
+use Rattle.plain.specs.Steps.Switch.{begun_again}
+use Rattle.plain.specs.Requests.{is_gone, range_of}
+use Rattle.plain.specs.Steps.Attach.{prio_weight, attached}
+use Rattle.plain.specs.Steps.Submit.{submitted, woken}
+use Rattle.plain.specs.Steps.Dispatch.{with_budget_in, with_slot, without_empty, sent_by_bfq}
+use Rattle.plain.specs.Keeper.{machine_of}
+use Rattle.plain.specs.Headline.{replay}
+use Rattle.plain_laws.proofs.Puts.{put_here, put_other, some_is, map_is}
+use Rattle.plain_laws.proofs.Leads.{made}
+use Rattle.plain_laws.proofs.Sent.{rest_of, sent-is}
+use Rattle.plain_laws.proofs.Placed.{placed, placed-same}
+use Rattle.plain_laws.proofs.Begun.{timed, begun-keeps}
 use Rattle.bfq_laws.proofs.Quiet.{activate-quiet, charge-slot}
 use Rattle.bfq_laws.proofs.Walk.{Keeps, machine-keeps}
 use Rattle.bfq_laws.proofs.Tree.{Over-same, idle, idle-over, Tree, charge-over}
@@ -37,14 +45,14 @@ use Rattle.bfq_laws.proofs.Alive.{Alive, activate-alive, charge-at}
 use Rattle.bfq_laws.proofs.Expiring.{expire-alive}
 use Rattle.bfq_laws.proofs.Choosing.{with_slot-alive}
 use Rattle.bfq_laws.proofs.Standing.{session-alive, made-alive, dropped-alive, left-alive}
-use Rattle.class_trees.specs.Classes.{same_times}
+use Rattle.plain.specs.Classes.{same_times}
 
 -- the queue in service is that of a seat whose entity is not idle
-pub awake-slot : (seats : ℕ → Option Seat) (queue : ℕ → List WholeRequest) (b : Bfq) → Busy seats queue b → (slot : InService) → b.slot ≡ Some slot → (slot.seat < 16) × (idle b slot.seat ≡ false)
+pub awake-slot : (seats : ℕ → Option Seat) (queue : ℕ → List WholeRequest) (b : Bfq) → Busy seats queue b → (slot : InService) → b.in_service ≡ Some slot → (slot.seat < 16) × (idle b slot.seat ≡ false)
 awake-slot seats queue b h slot is = let s = h.serves slot is in (s.0, h.rests slot.seat s.0 s.1 ∙ s.2)
 
 -- what leaves groups, members and the slot
-alive-same : (b c : Bfq) → c.parent ≡ b.parent → c.service ≡ b.service → c.slot ≡ b.slot → Alive b → Alive c
+alive-same : (b c : Bfq) → c.parent ≡ b.parent → c.service ≡ b.service → c.in_service ≡ b.in_service → Alive b → Alive c
 alive-same b c p s o h = record {
   above = h.above;
   st = h.st;
@@ -95,7 +103,7 @@ with_budget_in-alive l m (Some slot) b e tidy h =
       | inr y ↦ subst Alive y.1 h
     ]
 
-without_empty-alive : (l : Limits) (rest : List WholeRequest) (b c : Bfq) → ((slot : InService) → b.slot ≡ Some slot → (slot.seat < 16) × (idle b slot.seat ≡ false)) → without_empty l rest b ≡ Some c → Alive b → Alive c
+without_empty-alive : (l : Limits) (rest : List WholeRequest) (b c : Bfq) → ((slot : InService) → b.in_service ≡ Some slot → (slot.seat < 16) × (idle b slot.seat ≡ false)) → without_empty l rest b ≡ Some c → Alive b → Alive c
 without_empty-alive l rest b c awake e h =
     elim (is_empty rest) as (λ t. cond t (expire Emptying l.max_budget false b) (Some b) ≡ Some c → Alive c) [
       | true ↦ λ f. expire-alive Emptying l.max_budget false b c awake f h
@@ -127,9 +135,9 @@ sent_by_bfq-alive l m n tag o e tidy h =
     let s = sent-is l m n tag o e in
     let a : Bfq = s.ready in
     let b : Bfq = with_slot a in
-    let ready : Busy m.seat m.queue b = with_slot-busy m.seat m.queue a (with_budget_in-busy l m m.bfq.slot a s.readies tidy.busy) in
+    let ready : Busy m.seat m.queue b = with_slot-busy m.seat m.queue a (with_budget_in-busy l m m.bfq.in_service a s.readies tidy.busy) in
     let k : ℕ = s.slot.seat in
-    let alive : Alive b = with_slot-alive a (with_budget_in-alive l m m.bfq.slot a s.readies tidy h) s.slot s.serves in
+    let alive : Alive b = with_slot-alive a (with_budget_in-alive l m m.bfq.in_service a s.readies tidy h) s.slot s.serves in
     let r : WholeRequest = s.request in
     let size : ℕ = (range_of r.bios).count in
     let rest : List WholeRequest = rest_of m k r in
@@ -137,7 +145,7 @@ sent_by_bfq-alive l m n tag o e tidy h =
     let x = charge-slot size b c s.charges in
     let over = charge-over size b c s.charges in
     let now : InService = record x.0 { service = x.0.service + size } in
-    let awake : (other : InService) → c.slot ≡ Some other → (other.seat < 16) × (idle c other.seat ≡ false) = λ other is.
+    let awake : (other : InService) → c.in_service ≡ Some other → (other.seat < 16) × (idle c other.seat ≡ false) = λ other is.
     let one : other.seat ≡ x.0.seat = ap (λ (z : InService). z.seat) (some_is other now (sym is ∙ x.3)) in
     let was = awake-slot m.seat m.queue b ready x.0 x.1 in
     let P : ℕ → Type 0 = λ j. (j < 16) × (idle c j ≡ false) in
@@ -174,7 +182,7 @@ opening-alive l = record {
 }
 
 -- Tick
-pub ticked-alive : (b : Bfq) (slot : InService) → b.slot ≡ Some slot → Alive b → Alive (record b { slot = Some (older slot) })
+pub ticked-alive : (b : Bfq) (slot : InService) → b.in_service ≡ Some slot → Alive b → Alive (record b { in_service = Some (older slot) })
 ticked-alive b slot is h =
     record {
       above = h.above;
@@ -207,7 +215,7 @@ timed-at l above levels st b e g up at =
 
 begun-alive : (l : Limits) (scheduler : Scheduler) (b : Bfq) → Alive b → Alive (begun_again l scheduler b)
 begun-alive l scheduler b h =
-    let Q : Bfq → Type 0 = λ c. At h.above h.st c × (c.slot ≡ b.slot) in
+    let Q : Bfq → Type 0 = λ c. At h.above h.st c × (c.in_service ≡ b.in_service) in
     let c : Bfq = begun_again l scheduler b in
     let last : Q c = begun-keeps l Q (record {
       times = λ c e g up q. (timed-at l h.above h.levels h.st c e g up q.0, q.1);
@@ -252,10 +260,10 @@ sound-known m h group e there small = (h.calm.busy.tree.known group e small ther
 pub gone-empty_seen : (l : Limits) (m : Plain) (seat : ℕ) → Sound m → is_gone l m seat ≡ true → is_empty ((under m).queue seat) ≡ true
 gone-empty_seen l m seat h last = empty-seen (is_bfq m.scheduler) (m.queue seat) (gone-empty l m seat h.owned last).1
 
-pub gone-away : (l : Limits) (m : Plain) (seat : ℕ) → Sound m → is_gone l m seat ≡ true → (slot : InService) → m.bfq.slot ≡ Some slot → slot.seat ≢ seat
+pub gone-away : (l : Limits) (m : Plain) (seat : ℕ) → Sound m → is_gone l m seat ≡ true → (slot : InService) → m.bfq.in_service ≡ Some slot → slot.seat ≢ seat
 gone-away l m seat h last = away-from (under m) seat (gone-empty_seen l m seat h last) h.calm
 
-sound-slot : (m : Plain) → Sound m → (slot : InService) → m.bfq.slot ≡ Some slot → slot.seat < 16
+sound-slot : (m : Plain) → Sound m → (slot : InService) → m.bfq.in_service ≡ Some slot → slot.seat < 16
 sound-slot m h slot is = (h.calm.busy.serves slot is).0
 
 not_bfq : (s : Scheduler) → s ≡ PlainScheduler → is_bfq s ≡ false

@@ -4,24 +4,27 @@ use Rattle.std.specs.List.{find}
 use Rattle.std.proofs.lemmas.Bool.{cases_eq, cond-true, cond-false, leb-false}
 use Rattle.sector_core.specs.declared.class.Class.{Class}
 use Rattle.sector_core.specs.declared.class.Class.TheVariants.{BestEffort}
-use Rattle.service_tree.specs.declared.member.Member.{Member}
-use Rattle.service_tree.specs.declared.member.State.{State}
-use Rattle.service_tree.specs.declared.member.State.TheVariants.{Idle, Active, Serving}
-use Rattle.soft_queue.specs.Turn.{numbers}
-use Rattle.group_tree.specs.Groups.{has_entity, entity_of, climb, most_levels, path, depth}
-use Rattle.change_record.specs.declared.change.InService.{InService}
-use Rattle.change_record.specs.Machine.{Bfq, put}
-use Rattle.change_record.specs.Rules.{absent, group_of, is_idle, stands}
-use Rattle.plain_machine.specs.Step.{Limits, with_entity, without_entity, free_group, is_in, is_used}
-use Rattle.plain_machine.proofs.Puts.{put_here, put_other, put_cases, some_is}
-use Rattle.plain_machine.proofs.Leads.{made}
-use Rattle.plain_machine.proofs.Placed.{placed, placed-here, placed-elsewhere, placed-other, length-member, places_of}
+use Rattle.plain.specs.declared.member.Member.{Member}
+use Rattle.plain.specs.declared.member.State.{State}
+use Rattle.plain.specs.declared.member.State.TheVariants.{Idle, Active, Serving}
+use Rattle.plain.specs.Lists.{numbers}
+use Rattle.plain.specs.Groups.{has_entity, entity_of, climb, most_levels, path, depth}
+use Rattle.plain.specs.declared.seat.InService.{InService}
+use Rattle.plain.specs.Machine.{Bfq, put}
+use Rattle.plain.specs.Rules.{absent, group_of, is_idle, stands}
+use Rattle.plain.specs.Opening.{Limits}
+use Rattle.plain.specs.Entities.{with_entity, without_entity}
+use Rattle.plain.specs.Steps.GroupMake.{free_group}
+use Rattle.plain.specs.Steps.GroupDrop.{is_in, is_used}
+use Rattle.plain_laws.proofs.Puts.{put_here, put_other, put_cases, some_is}
+use Rattle.plain_laws.proofs.Leads.{made}
+use Rattle.plain_laws.proofs.Placed.{placed, placed-here, placed-elsewhere, placed-other, length-member, places_of}
 use Rattle.bfq_laws.proofs.Puts.{find-within}
 use Rattle.bfq_laws.proofs.Busy.{stood}
 use Rattle.bfq_laws.proofs.Shape.{In, Levels, Stands, stands-low, has-entity, climbing, climb-has, At, state, parent-at, group-at, member-at, vtime-at}
 use Rattle.bfq_laws.proofs.Upcoming.{some_of, passes-of, was-false}
 use Rattle.bfq_laws.proofs.Alive.{Alive, put-was}
-use Rattle.class_trees.specs.Classes.{same_times}
+use Rattle.plain.specs.Classes.{same_times}
 
 -- the way up is as it was where the groups on it are in those they were in
 climb-same : (above after : ℕ → Option ℕ) → ((e j : ℕ) → above e ≡ Some j → j ≢ 0 → after (16 + j) ≡ above (16 + j)) → (n : ℕ) (o : Option ℕ)
@@ -94,7 +97,7 @@ enters-at l above st b k g class weight at small low nowhere =
     }
 
 enters-alive : (l : Limits) (b : Bfq) (h : Alive b) (k g : ℕ) (class : Class) (weight : ℕ) → k < 48 → g < 32 → ((j : ℕ) → is_some (placed b j k) ≡ true → ⊥) → Levels (put h.above k (Some g))
-    → ((e j : ℕ) → h.above e ≡ Some j → j ≢ 0 → 16 + j ≢ k) → ((slot : InService) → b.slot ≡ Some slot → slot.seat ≢ k) → Alive (with_entity l k g class weight b)
+    → ((e j : ℕ) → h.above e ≡ Some j → j ≢ 0 → 16 + j ≢ k) → ((slot : InService) → b.in_service ≡ Some slot → slot.seat ≢ k) → Alive (with_entity l k g class weight b)
 enters-alive l b h k g class weight small low nowhere levels apart away =
     let after : ℕ → Option ℕ = put h.above k (Some g) in
     let at : At after h.st (with_entity l k g class weight b) = enters-at l h.above h.st b k g class weight h.at small low nowhere in
@@ -133,7 +136,7 @@ stands-is b h g e =
     (lt, λ ne. some_of (h.above (16 + g)) (ap is_some (sym (parent-at h.above h.st b (16 + g) h.at)) ∙ sym (stands-test b g lt ne) ∙ e))
 
 -- a session's entity is new
-pub session-alive : (l : Limits) (b : Bfq) (k g : ℕ) (class : Class) (weight : ℕ) → k < 16 → stands b g ≡ true → ((j : ℕ) → is_some (placed b j k) ≡ true → ⊥) → ((slot : InService) → b.slot ≡ Some slot → slot.seat ≢ k)
+pub session-alive : (l : Limits) (b : Bfq) (k g : ℕ) (class : Class) (weight : ℕ) → k < 16 → stands b g ≡ true → ((j : ℕ) → is_some (placed b j k) ≡ true → ⊥) → ((slot : InService) → b.in_service ≡ Some slot → slot.seat ≢ k)
     → Alive b → Alive (with_entity l k g class weight b)
 session-alive l b k g class weight small stand nowhere away h =
     let above : ℕ → Option ℕ = h.above in
@@ -177,7 +180,7 @@ none_of None e = refl
 none_of (Some v) e = cc
 
 -- a group is made under its parent
-pub made-alive : (l : Limits) (b : Bfq) (q p weight : ℕ) → stands b p ≡ true → nat_le most_levels (depth b.parent p) ≡ false → free_group b ≡ Some q → ((slot : InService) → b.slot ≡ Some slot → slot.seat < 16)
+pub made-alive : (l : Limits) (b : Bfq) (q p weight : ℕ) → stands b p ≡ true → nat_le most_levels (depth b.parent p) ≡ false → free_group b ≡ Some q → ((slot : InService) → b.in_service ≡ Some slot → slot.seat < 16)
     → Alive b → Alive (made l q p weight b)
 made-alive l b q p weight stand shallow free low_slot h =
     let above : ℕ → Option ℕ = h.above in
@@ -254,7 +257,7 @@ nobody-idle None absent_one = refl
 nobody-idle (Some m) absent_one = absurd (absent_one refl)
 
 -- an entity goes that is no active one, and in whose group, if it is one, nobody is
-gone-alive : (b : Bfq) (h : Alive b) (k up : ℕ) → h.above k ≡ Some up → ((e j : ℕ) → h.above e ≡ Some j → 16 + j ≢ k) → h.st k ≢ Active → ((slot : InService) → b.slot ≡ Some slot → slot.seat ≢ k)
+gone-alive : (b : Bfq) (h : Alive b) (k up : ℕ) → h.above k ≡ Some up → ((e j : ℕ) → h.above e ≡ Some j → 16 + j ≢ k) → h.st k ≢ Active → ((slot : InService) → b.in_service ≡ Some slot → slot.seat ≢ k)
     → Alive (without_entity k b)
 gone-alive b h k up above_k unused rests away =
     let above : ℕ → Option ℕ = h.above in
@@ -334,7 +337,7 @@ gone-alive b h k up above_k unused rests away =
     }
 
 -- a group in which nobody is goes
-pub dropped-alive : (b : Bfq) (q : ℕ) → stands b q ≡ true → (q == 0) ≡ false → is_used b q ≡ false → ((slot : InService) → b.slot ≡ Some slot → slot.seat < 16) → Alive b → Alive (without_entity (entity_of q) b)
+pub dropped-alive : (b : Bfq) (q : ℕ) → stands b q ≡ true → (q == 0) ≡ false → is_used b q ≡ false → ((slot : InService) → b.in_service ≡ Some slot → slot.seat < 16) → Alive b → Alive (without_entity (entity_of q) b)
 dropped-alive b q stand not_root not_used low_slot h =
     let above : ℕ → Option ℕ = h.above in
     let nz : q ≢ 0 = λ z. let yes_root : (q == 0) ≡ true = eq-eqb q 0 z in cc in
@@ -352,6 +355,6 @@ idle-rests Active e = cc
 idle-rests Serving e = cc
 
 -- a session goes, whose entity is idle
-pub left-alive : (b : Bfq) (k g : ℕ) → k < 16 → b.parent k ≡ Some g → is_idle (state b k) ≡ true → ((slot : InService) → b.slot ≡ Some slot → slot.seat ≢ k) → Alive b → Alive (without_entity k b)
+pub left-alive : (b : Bfq) (k g : ℕ) → k < 16 → b.parent k ≡ Some g → is_idle (state b k) ≡ true → ((slot : InService) → b.in_service ≡ Some slot → slot.seat ≢ k) → Alive b → Alive (without_entity k b)
 left-alive b k g small parent rests away h =
     gone-alive b h k g (sym (parent-at h.above h.st b k h.at) ∙ parent) (λ e j is same. absurd (omega (arith, same, small))) (idle-rests (h.st k) (ap is_idle (sym (h.at.are k)) ∙ rests)) away

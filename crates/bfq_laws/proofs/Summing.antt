@@ -4,23 +4,25 @@ use Rattle.std.specs.List.{filter}
 use Rattle.std.proofs.lemmas.List.Elements.{All-nil, All-cons}
 use Rattle.std.proofs.lemmas.List.Sums.{sum_by-cons}
 use Rattle.sector_core.specs.declared.class.Class.{Class}
-use Rattle.service_tree.specs.declared.member.Member.{Member}
-use Rattle.service_tree.specs.declared.member.State.{State}
-use Rattle.service_tree.specs.declared.member.State.TheVariants.{Idle, Active, Serving}
-use Rattle.service_tree.specs.Members.{counts_in, does_count, numbered}
-use Rattle.class_trees.proofs.Highest.{only-own}
-use Rattle.group_tree.specs.Groups.{path}
-use Rattle.change_record.specs.declared.change.InService.{InService}
-use Rattle.change_record.specs.Machine.{Bfq, Plain}
-use Rattle.change_record.specs.Rules.{absent, class_of, group_of, service_in, vtime_of, wsum, is_idle}
-use Rattle.plain_machine.specs.declared.call.Call.{Call}
-use Rattle.plain_machine.specs.Step.{Limits, with_slot}
-use Rattle.plain_machine.specs.Keeper.{machine_of, replay}
+use Rattle.plain.specs.declared.member.Member.{Member}
+use Rattle.plain.specs.declared.member.State.{State}
+use Rattle.plain.specs.declared.member.State.TheVariants.{Idle, Active, Serving}
+use Rattle.plain.specs.Members.{counts_in, does_count, numbered}
+use Rattle.class_laws.proofs.Highest.{only-own}
+use Rattle.plain.specs.Groups.{path}
+use Rattle.plain.specs.declared.seat.InService.{InService}
+use Rattle.plain.specs.Machine.{Bfq, Plain}
+use Rattle.plain.specs.Rules.{absent, class_of, group_of, service_in, vtime_of, wsum, is_idle}
+use Rattle.plain.specs.declared.call.Call.{Call}
+use Rattle.plain.specs.Opening.{Limits}
+use Rattle.plain.specs.Steps.Dispatch.{with_slot}
+use Rattle.plain.specs.Keeper.{machine_of}
+use Rattle.plain.specs.Headline.{replay}
 use Rattle.bfq_laws.specs.Weights.{WeighEnough}
 use Rattle.bfq_laws.specs.Sums.{SumsArePositiveIn, SumsArePositive}
-use Rattle.plain_machine.proofs.Puts.{some_is}
-use Rattle.plain_machine.proofs.Placed.{places_of}
-use Rattle.plain_machine.proofs.Rules.{Changes, with_slot-keeps, with_budget_in-keeps}
+use Rattle.plain_laws.proofs.Puts.{some_is}
+use Rattle.plain_laws.proofs.Placed.{places_of}
+use Rattle.plain_laws.proofs.Rules.{Changes, with_slot-keeps, with_budget_in-keeps}
 use Rattle.bfq_laws.proofs.Walk.{machine-keeps}
 use Rattle.bfq_laws.proofs.Tree.{idle}
 use Rattle.bfq_laws.proofs.Busy.{Busy, Tidy, with_budget_in-busy, with_slot-busy}
@@ -92,11 +94,11 @@ sums-in l m h under =
     let alive : Alive m.bfq = h.1.alive in (
       λ slot is. sums-there m.bfq alive h.0 slot (awake-slot m.seat m.queue m.bfq tidy.busy slot is).1,
       λ b e slot is.
-          let ready : Busy m.seat m.queue (with_slot b) = with_slot-busy m.seat m.queue b (with_budget_in-busy l m m.bfq.slot b e tidy.busy) in
-          let served : Alive (with_slot b) = with_slot-alive b (with_budget_in-alive l m m.bfq.slot b e tidy alive) slot is in
+          let ready : Busy m.seat m.queue (with_slot b) = with_slot-busy m.seat m.queue b (with_budget_in-busy l m m.bfq.in_service b e tidy.busy) in
+          let served : Alive (with_slot b) = with_slot-alive b (with_budget_in-alive l m m.bfq.in_service b e tidy alive) slot is in
           let changes : Changes l.max_budget (InGroup alive.above) (WeighAt alive.above) = weigh_at-changes l.max_budget alive.above alive.levels in
           let weigh : WeighAt alive.above (with_slot b) =
-          with_slot-keeps (WeighAt alive.above) changes.selects b (with_budget_in-keeps l (InGroup alive.above) (WeighAt alive.above) changes m m.bfq.slot b e (weigh_at-alive m.bfq alive h.0)) in
+          with_slot-keeps (WeighAt alive.above) changes.selects b (with_budget_in-keeps l (InGroup alive.above) (WeighAt alive.above) changes m m.bfq.in_service b e (weigh_at-alive m.bfq alive h.0)) in
           sums-there (with_slot b) served weigh.weigh slot (awake-slot m.seat m.queue (with_slot b) ready slot is).1,
     )
 

@@ -2,18 +2,18 @@
 use Rattle.std.proofs.Common.{true, false, Bool, ◌≡◌, ◌≢◌, inl, inr, ℕ, ◌-◌, ◌<◌, ◌≤◌, nat_le, nat_lt, not, List, length, Option, Some, None, is_some, unwrap_or, cond, refl, sym, ap, ◌∙◌, subst, arith, rules}
 use Rattle.std.specs.Option.{option_and_then}
 use Rattle.std.proofs.lemmas.Bool.{cases_eq, cond-true}
-use Rattle.service_tree.specs.declared.member.Member.{Member}
-use Rattle.class_trees.specs.declared.Vtimes.{Vtimes}
-use Rattle.class_trees.specs.Classes.{Classes}
-use Rattle.group_tree.specs.Groups.{climb, most_levels, path}
-use Rattle.change_record.specs.declared.change.InService.{InService}
-use Rattle.change_record.specs.declared.change.Seat.{Seat}
-use Rattle.change_record.specs.Machine.{Bfq}
-use Rattle.change_record.specs.declared.change.Expiry.{Expiry}
-use Rattle.change_record.specs.Rules.{top, absent, group_of, member_of, put_member, put_vtime, put_vtimes, class_in, is_idle, along, finish_from, stamped, stamp, start_from, activate_path, activate, in_service, select, served_more, charge, ended, is_backlogged, rested, expire_one, out_of_service, expire}
-use Rattle.plain_machine.proofs.Puts.{some_is, and_then_is}
-use Rattle.plain_machine.proofs.Placed.{placed, placed-here, placed-elsewhere, placed-other, placed-vtime, placed-same, put_place, places_of, places-vtime, length-member, least_of}
-use Rattle.plain_machine.proofs.Rules.{High, climb-high, StampsKeep, RestsKeep, selected, Selects, unrefused, activate_path-keeps, select-keeps, charge-is, charges-keep, expire-is, expires-keep}
+use Rattle.plain.specs.declared.member.Member.{Member}
+use Rattle.plain.specs.declared.member.Vtimes.{Vtimes}
+use Rattle.plain.specs.Classes.{Classes}
+use Rattle.plain.specs.Groups.{climb, most_levels, path}
+use Rattle.plain.specs.declared.seat.InService.{InService}
+use Rattle.plain.specs.declared.seat.Seat.{Seat}
+use Rattle.plain.specs.Machine.{Bfq}
+use Rattle.plain.specs.declared.seat.Expiry.{Expiry}
+use Rattle.plain.specs.Rules.{top, absent, group_of, member_of, put_member, put_vtime, put_vtimes, class_in, is_idle, along, finish_from, stamped, stamp, start_from, activate_path, activate, in_service, select, served_more, charge, ended, is_backlogged, rested, expire_one, out_of_service, expire}
+use Rattle.plain_laws.proofs.Puts.{some_is, and_then_is}
+use Rattle.plain_laws.proofs.Placed.{placed, placed-here, placed-elsewhere, placed-other, placed-vtime, placed-same, put_place, places_of, places-vtime, length-member, least_of}
+use Rattle.plain_laws.proofs.Rules.{High, climb-high, StampsKeep, RestsKeep, selected, Selects, unrefused, activate_path-keeps, select-keeps, charge-is, charges-keep, expire-is, expires-keep}
 use Rattle.bfq_laws.proofs.Picks.{picked-is}
 
 -- the sessions' queues are as they were
@@ -168,8 +168,8 @@ expire_one-sets seats service queued k b c small sits tree e =
 
 -- the queue in service becomes idle where nothing is queued
 pub expire-sets : (seats : ℕ → Option Seat) (cause : Expiry) (most : ℕ) (queued : Bool) (b c : Bfq)
-    → ((slot : InService) → b.slot ≡ Some slot → (slot.seat < 16) × (is_some (seats slot.seat) ≡ true)) → Tree seats b → expire cause most queued b ≡ Some c
-    → (slot : InService) × (b.slot ≡ Some slot) × Sets seats slot.seat (not queued) b c
+    → ((slot : InService) → b.in_service ≡ Some slot → (slot.seat < 16) × (is_some (seats slot.seat) ≡ true)) → Tree seats b → expire cause most queued b ≡ Some c
+    → (slot : InService) × (b.in_service ≡ Some slot) × Sets seats slot.seat (not queued) b c
 expire-sets seats cause most queued b c sits tree e =
     let slot = expire-is cause most queued b c e in
     let k : ℕ = slot.0.seat in
@@ -188,9 +188,9 @@ expire-sets seats cause most queued b c sits tree e =
 pub record Choice (seats : ℕ → Option Seat) (was : ℕ → Bool) (b : Bfq) : Type 0 where
   pub tree : Tree seats b
   pub same : (e : ℕ) → e < 16 → idle b e ≡ was e
-  pub chosen : (slot : InService) → b.slot ≡ Some slot → (slot.seat < 16) × (is_some (seats slot.seat) ≡ true) × (was slot.seat ≡ false)
+  pub chosen : (slot : InService) → b.in_service ≡ Some slot → (slot.seat < 16) × (is_some (seats slot.seat) ≡ true) × (was slot.seat ≡ false)
 
-Choice-over : (seats : ℕ → Option Seat) (was : ℕ → Bool) (b c : Bfq) → Over b c → c.slot ≡ b.slot → Choice seats was b → Choice seats was c
+Choice-over : (seats : ℕ → Option Seat) (was : ℕ → Bool) (b c : Bfq) → Over b c → c.in_service ≡ b.in_service → Choice seats was b → Choice seats was c
 Choice-over seats was b c over slots h = record {
   tree = Tree-over seats b c over h.tree;
   same = λ e lt. idle-over b c e lt over ∙ h.same e lt;

@@ -5,13 +5,13 @@ use Rattle.std.specs.Option.{option_map_or, option_or, option_and_then}
 use Rattle.std.proofs.Math.Nat.{min-eq_left, min-eq_right}
 use Rattle.std.proofs.lemmas.Bool.{leb-true, leb-false}
 use Rattle.std.proofs.lemmas.List.Elements.{All-nil, All-cons, All-head, All-tail, All-filter, All-append, All-take, All-drop}
-use Rattle.soft_queue.specs.Turn.{numbers, seats}
-use Rattle.process_queue.specs.Queue.{is_empty}
-use Rattle.process_queue.specs.Merge.{shape_of}
-use Rattle.process_queue.specs.Next.{minimum, wanted, starts, has_start}
-use Rattle.change_record.specs.Machine.{WholeRequest, Plain}
-use Rattle.plain_machine.specs.Step.{shape, next_queue, next_request}
-use Rattle.plain_machine.proofs.Puts.{some_is}
+use Rattle.plain.specs.Lists.{numbers, seats, is_empty}
+use Rattle.plain.specs.Merge.{shape_of}
+use Rattle.plain.specs.Next.{minimum, wanted, starts, has_start}
+use Rattle.plain.specs.Machine.{WholeRequest, Plain}
+use Rattle.plain.specs.Requests.{shape}
+use Rattle.plain.specs.Steps.Dispatch.{next_queue, next_request}
+use Rattle.plain_laws.proofs.Puts.{some_is}
 use Rattle.bfq_laws.proofs.Puts.{All-find}
 
 all-other : (P Q : ℕ → Type 0) → ((n : ℕ) → P n → Q n) → (xs : List ℕ) → All P xs → All Q xs

@@ -9,24 +9,37 @@ use Rattle.sector_core.specs.declared.range.Range.{Range}
 use Rattle.sector_core.specs.declared.config.Scheduler.{Scheduler}
 use Rattle.sector_core.specs.declared.config.Scheduler.TheVariants.{Plain as PlainScheduler, Bfq as BfqScheduler}
 use Rattle.sector_core.specs.declared.class.Class.{Class}
-use Rattle.change_record.specs.Blocks.{Blocks}
-use Rattle.process_queue.specs.Queue.{is_empty}
-use Rattle.group_tree.specs.Groups.{entity_of, depth, most_levels}
-use Rattle.change_record.specs.Rules.{stands}
-use Rattle.change_record.specs.declared.change.InService.{InService}
-use Rattle.change_record.specs.declared.change.Seat.{Seat}
-use Rattle.change_record.specs.Machine.{WholeRequest, Flight, Plain, put}
-use Rattle.plain_machine.specs.declared.answer.Reply.{Reply}
-use Rattle.plain_machine.specs.declared.call.Call.{Call}
-use Rattle.plain_machine.specs.Step.{Limits, attached, is_session, is_leaving, submitted, woken, with_unreaped, unreaped, without_entity, is_gone, without_gone, with_leaving, owed_fewer, left, sent_by_bfq, after_outcome, completed, seat_of, delivered, after_finish, is_weight, is_used, free_group, queued, in_flight, requests_of, switched, older, opening}
-use Rattle.plain_machine.specs.Keeper.{machine_of, replay}
-use Rattle.plain_machine.specs.Requests.{EachRequest}
-use Rattle.plain_machine.specs.Whole.{IsWhole, AreWhole}
-use Rattle.plain_machine.proofs.Flights.{find-numbers}
-use Rattle.plain_machine.proofs.Leads.{Leads, made}
-use Rattle.plain_machine.proofs.Moves.{Stays}
-use Rattle.plain_machine.proofs.Stamps.{machine-leads}
-use Rattle.plain_machine.proofs.Wholes.{whole-leads, whole-opening, all-whole}
+use Rattle.plain.specs.Machine.{Blocks}
+use Rattle.plain.specs.Lists.{is_empty}
+use Rattle.plain.specs.Groups.{entity_of, depth, most_levels}
+use Rattle.plain.specs.Rules.{stands}
+use Rattle.plain.specs.declared.seat.InService.{InService}
+use Rattle.plain.specs.declared.seat.Seat.{Seat}
+use Rattle.plain.specs.Machine.{WholeRequest, Flight, Plain, put}
+use Rattle.plain.specs.declared.answer.Reply.{Reply}
+use Rattle.plain.specs.declared.call.Call.{Call}
+use Rattle.plain.specs.Opening.{Limits, opening}
+use Rattle.plain.specs.Steps.Attach.{attached}
+use Rattle.plain.specs.Sessions.{is_session, is_leaving, with_unreaped, unreaped}
+use Rattle.plain.specs.Steps.Submit.{submitted, woken}
+use Rattle.plain.specs.Entities.{without_entity, without_gone, owed_fewer, is_weight}
+use Rattle.plain.specs.Requests.{is_gone, queued, in_flight, requests_of}
+use Rattle.plain.specs.Steps.Leave.{with_leaving, left}
+use Rattle.plain.specs.Steps.Dispatch.{sent_by_bfq}
+use Rattle.plain.specs.Steps.Finish.{after_outcome, completed, seat_of, delivered, after_finish}
+use Rattle.plain.specs.Steps.GroupDrop.{is_used}
+use Rattle.plain.specs.Steps.GroupMake.{free_group}
+use Rattle.plain.specs.Steps.Switch.{switched}
+use Rattle.plain.specs.Steps.Tick.{older}
+use Rattle.plain.specs.Keeper.{machine_of}
+use Rattle.plain.specs.Headline.{replay}
+use Rattle.plain_laws.specs.Requests.{EachRequest}
+use Rattle.plain_laws.specs.Whole.{IsWhole, AreWhole}
+use Rattle.plain_laws.proofs.Flights.{find-numbers}
+use Rattle.plain_laws.proofs.Leads.{Leads, made}
+use Rattle.plain_laws.proofs.Moves.{Stays}
+use Rattle.plain_laws.proofs.Stamps.{machine-leads}
+use Rattle.plain_laws.proofs.Wholes.{whole-leads, whole-opening, all-whole}
 use Rattle.bfq_laws.proofs.Puts.{sum-none}
 
 -- a request of a seat's queue, sent in turn
@@ -67,7 +80,7 @@ pub record Keeps (l : Limits) (P : Plain → Type 0) : Type 0 where
       → P m → P (record m { bfq = made l group parent weight m.bfq })
   pub drops : (m : Plain) (group : ℕ) → stands m.bfq group ≡ true → (group == 0) ≡ false → is_used m.bfq group ≡ false → P m → P (record m { bfq = without_entity (entity_of group) m.bfq })
   pub weighs : (m : Plain) (group weight : ℕ) → is_weight weight ≡ true → P m → P (record m { bfq = record m.bfq { pending = put m.bfq.pending (entity_of group) weight } })
-  pub ticks : (m : Plain) (slot : InService) → m.bfq.slot ≡ Some slot → P m → P (record m { bfq = record m.bfq { slot = Some (older slot) } })
+  pub ticks : (m : Plain) (slot : InService) → m.bfq.in_service ≡ Some slot → P m → P (record m { bfq = record m.bfq { in_service = Some (older slot) } })
   pub switches : (m : Plain) (scheduler : Scheduler) → ((seat : ℕ) → seat < 16 → is_empty (m.queue seat) ≡ true) → P m → P (switched l m scheduler)
 
 -- Leave, and the seat that is free with the last of a session's requests

@@ -2,25 +2,29 @@
 use Rattle.std.proofs.Common.{true, false, ◌≡◌, inl, inr, ℕ, zero, suc, ◌+◌, ◌≤◌, List, ◌∷◌, Option, Some, None, All, is_some, unwrap_or, refl, sym, ap, ◌∙◌, subst, arith}
 use Rattle.std.proofs.lemmas.Bool.{cases_eq}
 use Rattle.std.proofs.lemmas.List.Elements.{All-nil, All-cons}
-use Rattle.service_tree.specs.declared.member.Member.{Member}
-use Rattle.service_tree.specs.declared.member.State.{State}
-use Rattle.service_tree.specs.declared.member.State.TheVariants.{Idle, Active, Serving}
+use Rattle.plain.specs.declared.member.Member.{Member}
+use Rattle.plain.specs.declared.member.State.{State}
+use Rattle.plain.specs.declared.member.State.TheVariants.{Idle, Active, Serving}
 use Rattle.sector_core.specs.declared.config.Scheduler.{Scheduler}
 use Rattle.sector_core.specs.declared.class.Class.{Class}
 use Rattle.sector_core.specs.declared.class.Class.TheVariants.{BestEffort}
-use Rattle.class_trees.specs.declared.Vtimes.{Vtimes}
-use Rattle.class_trees.specs.Classes.{same_times}
-use Rattle.group_tree.specs.Groups.{entity_of, climb, most_levels, path}
-use Rattle.change_record.specs.declared.change.InService.{InService}
-use Rattle.change_record.specs.Machine.{Bfq, Plain, put}
-use Rattle.change_record.specs.Rules.{absent, group_of, member_in, member_of, put_member, put_vtimes, is_idle, picked, in_service}
-use Rattle.plain_machine.specs.declared.call.Call.{Call}
-use Rattle.plain_machine.specs.Step.{Limits, opening, is_weight, with_entity, prio_weight, submitted, begun_again}
+use Rattle.plain.specs.declared.member.Vtimes.{Vtimes}
+use Rattle.plain.specs.Classes.{same_times}
+use Rattle.plain.specs.Groups.{entity_of, climb, most_levels, path}
+use Rattle.plain.specs.declared.seat.InService.{InService}
+use Rattle.plain.specs.Machine.{Bfq, Plain, put}
+use Rattle.plain.specs.Rules.{absent, group_of, member_in, member_of, put_member, put_vtimes, is_idle, picked, in_service}
+use Rattle.plain.specs.declared.call.Call.{Call}
+use Rattle.plain.specs.Opening.{Limits, opening}
+use Rattle.plain.specs.Entities.{is_weight, with_entity}
+use Rattle.plain.specs.Steps.Attach.{prio_weight}
+use Rattle.plain.specs.Steps.Submit.{submitted}
+use Rattle.plain.specs.Steps.Switch.{begun_again}
 use Rattle.bfq_laws.specs.Weights.{WeighEnough, WeightsArePositive}
-use Rattle.plain_machine.proofs.Puts.{put_here, put_other, some_is}
-use Rattle.plain_machine.proofs.Placed.{placed, put_place, placed-vtime, placed-either}
-use Rattle.plain_machine.proofs.Rules.{Any, all_any, StampsKeep, Changes, woken-bfq, sent_by_bfq-rules}
-use Rattle.plain_machine.proofs.Begun.{begun-keeps}
+use Rattle.plain_laws.proofs.Puts.{put_here, put_other, some_is}
+use Rattle.plain_laws.proofs.Placed.{placed, put_place, placed-vtime, placed-either}
+use Rattle.plain_laws.proofs.Rules.{Any, all_any, StampsKeep, Changes, woken-bfq, sent_by_bfq-rules}
+use Rattle.plain_laws.proofs.Begun.{begun-keeps}
 use Rattle.bfq_laws.proofs.Walk.{Keeps, machine-keeps}
 use Rattle.bfq_laws.proofs.Tree.{idle}
 use Rattle.bfq_laws.proofs.Busy.{opening-none}
@@ -131,11 +135,11 @@ pub record WeighAt (above : ℕ → Option ℕ) (b : Bfq) : Type 0 where
   pub weigh : WeighEnough b
   pub st : ℕ → State
   pub at : At above st b
-  pub seated : (slot : InService) → b.slot ≡ Some slot → InGroup above slot.seat
+  pub seated : (slot : InService) → b.in_service ≡ Some slot → InGroup above slot.seat
 
 -- budgets and the slot change
 slot-weighs_at : (above : ℕ → Option ℕ) (b : Bfq) (budget : ℕ → ℕ) (o : Option InService) → ((slot : InService) → o ≡ Some slot → InGroup above slot.seat)
-    → WeighAt above b → WeighAt above (record b { budget = budget; slot = o })
+    → WeighAt above b → WeighAt above (record b { budget = budget; in_service = o })
 slot-weighs_at above b budget o its h = record { weigh = h.weigh; st = h.st; at = record { parents = h.at.parents; places = h.at.places; are = h.at.are }; seated = its }
 
 one-in : (above : ℕ → Option ℕ) (new : InService) → InGroup above new.seat → (slot : InService) → Some new ≡ Some slot → InGroup above slot.seat

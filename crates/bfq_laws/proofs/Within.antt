@@ -6,26 +6,33 @@ use Rattle.std.proofs.lemmas.Bool.{cases_eq}
 use Rattle.sector_core.specs.declared.bio.Bio.{Bio}
 use Rattle.sector_core.specs.declared.class.Class.{Class}
 use Rattle.sector_core.specs.declared.class.Class.TheVariants.{BestEffort}
-use Rattle.class_trees.specs.Classes.{same_times}
-use Rattle.process_queue.specs.Queue.{is_empty}
-use Rattle.process_queue.specs.Next.{has_start, wanted, starts}
-use Rattle.group_tree.specs.Groups.{entity_of}
-use Rattle.change_record.specs.declared.change.Seat.{Seat}
-use Rattle.change_record.specs.declared.change.InService.{InService}
-use Rattle.change_record.specs.Machine.{WholeRequest, Bfq, Plain, put}
-use Rattle.change_record.specs.declared.change.Expiry.TheVariants.{Emptying}
-use Rattle.change_record.specs.Rules.{group_of, activate, select, expire}
-use Rattle.plain_machine.specs.declared.answer.Reply.{Reply}
-use Rattle.plain_machine.specs.declared.call.Call.{Call}
-use Rattle.plain_machine.specs.Step.{Limits, opening, is_bfq, with_entity, attached, submitted, woken, size_of, range_of, next_request, next_size, with_budget_in, with_slot, without_empty, sent_by_bfq, older, switched, shape}
-use Rattle.plain_machine.specs.Whole.{IsWhole, AreWhole}
+use Rattle.plain.specs.Classes.{same_times}
+use Rattle.plain.specs.Lists.{is_empty}
+use Rattle.plain.specs.Next.{has_start, wanted, starts}
+use Rattle.plain.specs.Groups.{entity_of}
+use Rattle.plain.specs.declared.seat.Seat.{Seat}
+use Rattle.plain.specs.declared.seat.InService.{InService}
+use Rattle.plain.specs.Machine.{WholeRequest, Bfq, Plain, put}
+use Rattle.plain.specs.declared.seat.Expiry.TheVariants.{Emptying}
+use Rattle.plain.specs.Rules.{group_of, activate, select, expire}
+use Rattle.plain.specs.declared.answer.Reply.{Reply}
+use Rattle.plain.specs.declared.call.Call.{Call}
+use Rattle.plain.specs.Opening.{Limits, opening}
+use Rattle.plain.specs.Entities.{is_bfq, with_entity}
+use Rattle.plain.specs.Steps.Attach.{attached}
+use Rattle.plain.specs.Steps.Submit.{submitted, woken}
+use Rattle.plain.specs.Requests.{size_of, range_of, shape}
+use Rattle.plain.specs.Steps.Dispatch.{next_request, next_size, with_budget_in, with_slot, without_empty, sent_by_bfq}
+use Rattle.plain.specs.Steps.Tick.{older}
+use Rattle.plain.specs.Steps.Switch.{switched}
+use Rattle.plain_laws.specs.Whole.{IsWhole, AreWhole}
 use Rattle.bfq_laws.specs.Budgets.{AreEnough, ServiceIsWithinBudget}
-use Rattle.plain_machine.proofs.Puts.{put_here, put_other, some_is, and_then_is, map_is}
-use Rattle.plain_machine.proofs.Sent.{rest_of, sent-is}
-use Rattle.plain_machine.proofs.Placed.{placed}
-use Rattle.plain_machine.proofs.Rules.{Any, select-keeps, charge-keeps, expire-keeps}
-use Rattle.plain_machine.proofs.Begun.{begun-keeps, begun-slot}
-use Rattle.plain_machine.proofs.Ruled.{again}
+use Rattle.plain_laws.proofs.Puts.{put_here, put_other, some_is, and_then_is, map_is}
+use Rattle.plain_laws.proofs.Sent.{rest_of, sent-is}
+use Rattle.plain_laws.proofs.Placed.{placed}
+use Rattle.plain_laws.proofs.Rules.{Any, select-keeps, charge-keeps, expire-keeps}
+use Rattle.plain_laws.proofs.Begun.{begun-keeps, begun-slot}
+use Rattle.plain_laws.proofs.Ruled.{again}
 use Rattle.bfq_laws.proofs.Puts.{All-find}
 use Rattle.bfq_laws.proofs.Quiet.{activate-quiet, charge-slot, expire-slot}
 use Rattle.bfq_laws.proofs.Walk.{gone, Keeps, machine-keeps}
@@ -39,7 +46,7 @@ use Rattle.bfq_laws.proofs.Known.{Fits, Known, Sits, Begins, member-known, vtime
 
 -- the queue in service is that of a seat that is taken, and has been sent no more than its budget
 abbrev pub Served : (ℕ → Option Seat) → Bfq → Type 0
-Served seats b = (slot : InService) → b.slot ≡ Some slot → (is_some (seats slot.seat) ≡ true) × (slot.service ≤ b.budget slot.seat)
+Served seats b = (slot : InService) → b.in_service ≡ Some slot → (is_some (seats slot.seat) ≡ true) × (slot.service ≤ b.budget slot.seat)
 
 -- with what is known of the members of groups
 pub record Within (m : Plain) : Type 0 where
@@ -128,12 +135,12 @@ count_of_range (bio ∷ bios) = refl
 record HasRoom (m : Plain) (b : Bfq) : Type 0 where
   enough : AreEnough b
   known : Known m.seat b
-  room : (slot : InService) → b.slot ≡ Some slot → (is_some (m.seat slot.seat) ≡ true) × (slot.service + next_size m slot.seat ≤ b.budget slot.seat)
+  room : (slot : InService) → b.in_service ≡ Some slot → (is_some (m.seat slot.seat) ≡ true) × (slot.service + next_size m slot.seat ≤ b.budget slot.seat)
 
 sits-within : (m : Plain) → Within m → Sits m.seat m.bfq
 sits-within m h slot e = (h.served slot e).0
 
-with_budget_in-room : (l : Limits) → 256 ≤ l.max_budget → (m : Plain) (o : Option InService) (b : Bfq) → m.bfq.slot ≡ o → with_budget_in l m o ≡ Some b → Within m → HasRoom m b
+with_budget_in-room : (l : Limits) → 256 ≤ l.max_budget → (m : Plain) (o : Option InService) (b : Bfq) → m.bfq.in_service ≡ o → with_budget_in l m o ≡ Some b → Within m → HasRoom m b
 with_budget_in-room l most m None b at e h =
     subst (HasRoom m) (some_is m.bfq b e) (record { enough = h.enough; known = h.known; room = λ slot is. let none : Some slot ≡ None = sym is ∙ at in cc })
 with_budget_in-room l most m (Some slot) b at e h =
@@ -160,10 +167,10 @@ no_slot (Some slot) e = cc
 
 with_slot-room : (m : Plain) (b : Bfq) → AreWhole m → HasRoom m b → HasRoom m (with_slot b)
 with_slot-room m b whole h =
-    elim (is_none b.slot) as (λ t. is_none b.slot ≡ t → HasRoom m (cond t (select b) b)) [
+    elim (is_none b.in_service) as (λ t. is_none b.in_service ≡ t → HasRoom m (cond t (select b) b)) [
       | true ↦ λ free.
           let begins : Begins m.seat (select b) =
-          select-begins m.seat b (record { known = h.known; fresh = λ slot is. let none : Some slot ≡ None = sym is ∙ no_slot b.slot free in cc }) in
+          select-begins m.seat b (record { known = h.known; fresh = λ slot is. let none : Some slot ≡ None = sym is ∙ no_slot b.in_service free in cc }) in
           let enough : AreEnough (select b) = select-keeps AreEnough enough-selects b h.enough in
           record {
             enough = enough;
@@ -194,7 +201,7 @@ sent_by_bfq-within : (l : Limits) → 256 ≤ l.max_budget → (m : Plain) (n ta
 sent_by_bfq-within l most m n tag o whole e h =
     let s = sent-is l m n tag o e in
     let b : Bfq = with_slot s.ready in
-    let has : HasRoom m b = with_slot-room m s.ready whole (with_budget_in-room l most m m.bfq.slot s.ready refl s.readies h) in
+    let has : HasRoom m b = with_slot-room m s.ready whole (with_budget_in-room l most m m.bfq.in_service s.ready refl s.readies h) in
     let seat : ℕ = s.slot.seat in
     let r : WholeRequest = s.request in
     let size : ℕ = (range_of r.bios).count in

@@ -1,10 +1,11 @@
 -- What budgets are on every machine of a keeper.
 use Rattle.std.specs.Prelude.{◌≡◌, ℕ, ◌≤◌, true, List, Some, is_some}
-use Rattle.change_record.specs.declared.change.InService.{InService}
-use Rattle.change_record.specs.Machine.{Bfq, Plain}
-use Rattle.plain_machine.specs.declared.call.Call.{Call}
-use Rattle.plain_machine.specs.Step.{Limits}
-use Rattle.plain_machine.specs.Keeper.{machine_of, replay}
+use Rattle.plain.specs.declared.seat.InService.{InService}
+use Rattle.plain.specs.Machine.{Bfq, Plain}
+use Rattle.plain.specs.declared.call.Call.{Call}
+use Rattle.plain.specs.Opening.{Limits}
+use Rattle.plain.specs.Keeper.{machine_of}
+use Rattle.plain.specs.Headline.{replay}
 
 -- each entity may be served 256 sectors or more at a time (bfq: a budget has room for a request; 256 sectors are our profile)
 abbrev pub AreEnough : Bfq → Type 0
@@ -17,7 +18,7 @@ BudgetsAreEnough l most journal = 256 ≤ l.first_budget → l.first_budget ≤ 
 -- the queue in service is that of a seat that is taken, and it has been sent no more sectors than its budget (bfq: a queue is served within
 -- its budget)
 abbrev pub ServiceIsWithin : Plain → Type 0
-ServiceIsWithin m = (slot : InService) → m.bfq.slot ≡ Some slot → (is_some (m.seat slot.seat) ≡ true) × (slot.service ≤ m.bfq.budget slot.seat)
+ServiceIsWithin m = (slot : InService) → m.bfq.in_service ≡ Some slot → (is_some (m.seat slot.seat) ≡ true) × (slot.service ≤ m.bfq.budget slot.seat)
 
 -- so it is on the machine of every such keeper
 abbrev pub ServiceIsWithinBudget : Limits → ℕ → List Call → Type 0

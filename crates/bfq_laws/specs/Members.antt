@@ -1,9 +1,10 @@
 -- Which entities a group's trees have.
 use Rattle.std.specs.Prelude.{◌≡◌, ℕ, true, List, Some, None, is_some, slice_index_or}
-use Rattle.change_record.specs.Machine.{Bfq}
-use Rattle.plain_machine.specs.declared.call.Call.{Call}
-use Rattle.plain_machine.specs.Step.{Limits}
-use Rattle.plain_machine.specs.Keeper.{machine_of, replay}
+use Rattle.plain.specs.Machine.{Bfq}
+use Rattle.plain.specs.declared.call.Call.{Call}
+use Rattle.plain.specs.Opening.{Limits}
+use Rattle.plain.specs.Keeper.{machine_of}
+use Rattle.plain.specs.Headline.{replay}
 
 -- an entity that a group's trees have is in that group, and each entity that is in a group is in its trees (our profile)
 abbrev pub AreMembers : Bfq → Type 0

@@ -1,15 +1,18 @@
 -- Whom select takes into service: nobody while a sibling of a higher class waits.
 use Rattle.std.specs.Prelude.{◌≡◌, ℕ, ◌≤◌, true, List, All, Some, None}
-use Rattle.service_tree.specs.declared.member.Member.{Member}
-use Rattle.service_tree.specs.Members.{IsActiveAt}
-use Rattle.class_trees.specs.Classes.{rank}
-use Rattle.group_tree.specs.Groups.{path}
-use Rattle.change_record.specs.declared.change.InService.{InService}
-use Rattle.change_record.specs.Machine.{Bfq, Plain}
-use Rattle.change_record.specs.Rules.{class_of, group_of}
-use Rattle.plain_machine.specs.declared.call.Call.{Call}
-use Rattle.plain_machine.specs.Step.{Limits, is_bfq, with_budget_in, with_slot}
-use Rattle.plain_machine.specs.Keeper.{machine_of, replay}
+use Rattle.plain.specs.declared.member.Member.{Member}
+use Rattle.plain.specs.Members.{IsActiveAt}
+use Rattle.plain.specs.Classes.{rank}
+use Rattle.plain.specs.Groups.{path}
+use Rattle.plain.specs.declared.seat.InService.{InService}
+use Rattle.plain.specs.Machine.{Bfq, Plain}
+use Rattle.plain.specs.Rules.{class_of, group_of}
+use Rattle.plain.specs.declared.call.Call.{Call}
+use Rattle.plain.specs.Opening.{Limits}
+use Rattle.plain.specs.Entities.{is_bfq}
+use Rattle.plain.specs.Steps.Dispatch.{with_budget_in, with_slot}
+use Rattle.plain.specs.Keeper.{machine_of}
+use Rattle.plain.specs.Headline.{replay}
 
 -- no entity that waits in the same group is of a higher class (bfq: classes in strict order)
 abbrev pub GoesFirst : Bfq → ℕ → Type 0
@@ -17,11 +20,11 @@ GoesFirst b entity = (n : ℕ) (m : Member) → IsActiveAt (b.service (group_of 
 
 -- if nobody is in service, whoever is selected goes first, as things stand before that: the session, and each group above it
 abbrev pub SelectsInOrder : Bfq → Type 0
-SelectsInOrder b = b.slot ≡ None → (slot : InService) → (with_slot b).slot ≡ Some slot → All (GoesFirst b) (path b.parent slot.seat)
+SelectsInOrder b = b.in_service ≡ None → (slot : InService) → (with_slot b).in_service ≡ Some slot → All (GoesFirst b) (path b.parent slot.seat)
 
 -- so it is if a dispatch selects
 abbrev pub DispatchesInOrder : Limits → Plain → Type 0
-DispatchesInOrder l m = is_bfq m.scheduler ≡ true → (b : Bfq) → with_budget_in l m m.bfq.slot ≡ Some b → SelectsInOrder b
+DispatchesInOrder l m = is_bfq m.scheduler ≡ true → (b : Bfq) → with_budget_in l m m.bfq.in_service ≡ Some b → SelectsInOrder b
 
 -- on the machine of every keeper that a journal makes
 abbrev pub ClassesAreInOrder : Limits → ℕ → List Call → Type 0

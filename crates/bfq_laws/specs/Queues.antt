@@ -1,9 +1,11 @@
 -- Whose requests a queue has.
 use Rattle.std.specs.Prelude.{◌≡◌, ℕ, true, List, All}
-use Rattle.change_record.specs.Machine.{Plain}
-use Rattle.plain_machine.specs.declared.call.Call.{Call}
-use Rattle.plain_machine.specs.Step.{Limits, is_session}
-use Rattle.plain_machine.specs.Keeper.{machine_of, replay}
+use Rattle.plain.specs.Machine.{Plain}
+use Rattle.plain.specs.declared.call.Call.{Call}
+use Rattle.plain.specs.Opening.{Limits}
+use Rattle.plain.specs.Sessions.{is_session}
+use Rattle.plain.specs.Keeper.{machine_of}
+use Rattle.plain.specs.Headline.{replay}
 
 -- each request in the queue of a seat is of the session that sits there, and so the queue of a free seat is empty (our profile)
 abbrev pub QueuesAreOwned : Plain → Type 0

@@ -1,9 +1,10 @@
 -- Which seats' entities are in a group.
 use Rattle.std.specs.Prelude.{◌≡◌, ℕ, ◌<◌, List, is_some}
-use Rattle.change_record.specs.Machine.{Plain}
-use Rattle.plain_machine.specs.declared.call.Call.{Call}
-use Rattle.plain_machine.specs.Step.{Limits}
-use Rattle.plain_machine.specs.Keeper.{machine_of, replay}
+use Rattle.plain.specs.Machine.{Plain}
+use Rattle.plain.specs.declared.call.Call.{Call}
+use Rattle.plain.specs.Opening.{Limits}
+use Rattle.plain.specs.Keeper.{machine_of}
+use Rattle.plain.specs.Headline.{replay}
 
 -- the entity of a seat is in a group exactly where a session sits there (our profile)
 abbrev pub SeatsAreInGroups : Plain → Type 0

@@ -1,22 +1,25 @@
 -- What the sums of weights are by which a charge divides.
 use Rattle.std.specs.Prelude.{◌≡◌, ℕ, ◌≤◌, true, List, All, Some}
-use Rattle.group_tree.specs.Groups.{path}
-use Rattle.change_record.specs.Rules.{class_of, group_of, wsum}
-use Rattle.change_record.specs.declared.change.InService.{InService}
-use Rattle.change_record.specs.Machine.{Bfq, Plain}
-use Rattle.plain_machine.specs.declared.call.Call.{Call}
-use Rattle.plain_machine.specs.Step.{Limits, is_bfq, with_budget_in, with_slot}
-use Rattle.plain_machine.specs.Keeper.{machine_of, replay}
+use Rattle.plain.specs.Groups.{path}
+use Rattle.plain.specs.Rules.{class_of, group_of, wsum}
+use Rattle.plain.specs.declared.seat.InService.{InService}
+use Rattle.plain.specs.Machine.{Bfq, Plain}
+use Rattle.plain.specs.declared.call.Call.{Call}
+use Rattle.plain.specs.Opening.{Limits}
+use Rattle.plain.specs.Entities.{is_bfq}
+use Rattle.plain.specs.Steps.Dispatch.{with_budget_in, with_slot}
+use Rattle.plain.specs.Keeper.{machine_of}
+use Rattle.plain.specs.Headline.{replay}
 
 -- if a queue is in service, some weight counts in the class of each entity on its path, in its group (B-WF2Q+: by their sum the share is
 -- made by which a virtual time rises)
 abbrev pub SumsAreThere : Bfq → Type 0
-SumsAreThere b = (slot : InService) → b.slot ≡ Some slot → All (λ entity. 1 ≤ wsum b (group_of b entity) (class_of b entity)) (path b.parent slot.seat)
+SumsAreThere b = (slot : InService) → b.in_service ≡ Some slot → All (λ entity. 1 ≤ wsum b (group_of b entity) (class_of b entity)) (path b.parent slot.seat)
 
 -- so it is under bfq, and where a dispatch has a queue in service, before it charges
 abbrev pub SumsArePositiveIn : Limits → Plain → Type 0
 SumsArePositiveIn l m =
-    is_bfq m.scheduler ≡ true → SumsAreThere m.bfq × ((b : Bfq) → with_budget_in l m m.bfq.slot ≡ Some b → SumsAreThere (with_slot b))
+    is_bfq m.scheduler ≡ true → SumsAreThere m.bfq × ((b : Bfq) → with_budget_in l m m.bfq.in_service ≡ Some b → SumsAreThere (with_slot b))
 
 -- so it is on the machine of every keeper that a journal makes
 abbrev pub SumsArePositive : Limits → ℕ → List Call → Type 0

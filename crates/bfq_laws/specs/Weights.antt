@@ -1,10 +1,11 @@
 -- What weights are on every machine of a keeper.
 use Rattle.std.specs.Prelude.{◌≡◌, ℕ, ◌≤◌, List, Some, None, slice_index_or}
-use Rattle.service_tree.specs.declared.member.Member.{Member}
-use Rattle.change_record.specs.Machine.{Bfq}
-use Rattle.plain_machine.specs.declared.call.Call.{Call}
-use Rattle.plain_machine.specs.Step.{Limits}
-use Rattle.plain_machine.specs.Keeper.{machine_of, replay}
+use Rattle.plain.specs.declared.member.Member.{Member}
+use Rattle.plain.specs.Machine.{Bfq}
+use Rattle.plain.specs.declared.call.Call.{Call}
+use Rattle.plain.specs.Opening.{Limits}
+use Rattle.plain.specs.Keeper.{machine_of}
+use Rattle.plain.specs.Headline.{replay}
 
 -- no weight is 0, be it pending or in effect (bfq: weights are 1 to 1000; a session's is 10 to 80, by its priority)
 abbrev pub WeighEnough : Bfq → Type 0

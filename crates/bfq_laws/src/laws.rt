@@ -9,8 +9,8 @@ ghost use Rattle.bfq_laws.specs.Queues.{QueuesAreOfTheirSessions};
 ghost use Rattle.bfq_laws.specs.Served.{ThePathIsServed};
 ghost use Rattle.bfq_laws.specs.Seats.{TakenSeatsAreInGroups};
 ghost use Rattle.bfq_laws.specs.Order.{ClassesAreInOrder};
-ghost use Rattle.plain_machine.specs.Step.{Limits};
-ghost use Rattle.plain_machine.specs.declared.call.Call.{Call};
+ghost use Rattle.plain.specs.Opening.{Limits};
+ghost use Rattle.plain.specs.declared.call.Call.{Call};
 ghost use Rattle.std.specs.Prelude.{ℕ, List};
 
 /// On the machine of every keeper that a journal makes, each entity has a budget of 256 sectors or more, where the first

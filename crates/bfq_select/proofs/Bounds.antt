@@ -1,18 +1,17 @@
 -- The bounds of the numbers, after each exchange.
 use Rattle.std.proofs.Common.{arith, ◌≡◌, ℕ, zero, suc, ◌≤◌, ◌^◌, ◌==◌, List, [], ◌∷◌, Option, Some, None, true, false, if◌then◌else◌, slice_index_or, slice_set, MatchOption, IfSome, sym, ap, ◌∙◌, subst}
 use Rattle.sector_core.specs.declared.class.Class.{Class}
-use Rattle.service_tree.specs.declared.member.Member.{Member}
-use Rattle.class_trees.specs.declared.Vtimes.{Vtimes}
-use Rattle.class_trees.specs.Classes.{Classes, only, time_of, with_time}
-use Rattle.class_trees.proofs.Times.{each_time}
-use Rattle.class_trees.proofs.Highest.{active-from}
-use Rattle.service_tree.specs.Members.{IsLeastStart, NoneActive}
-use Rattle.change_record.specs.declared.change.InService.{InService}
-use Rattle.change_record.specs.Exchange.{with_member, with_vtimes}
-use Rattle.change_record.specs.Machine.{Bfq, put}
-use Rattle.change_record.specs.declared.change.Expiry.{Expiry}
-use Rattle.change_record.specs.declared.change.Expiry.TheVariants.{Exhaustion, Timeout, Emptying}
-use Rattle.change_record.specs.Rules.{put_member, put_vtime, budget_after}
+use Rattle.plain.specs.declared.member.Member.{Member}
+use Rattle.plain.specs.declared.member.Vtimes.{Vtimes}
+use Rattle.plain.specs.Classes.{Classes, only, time_of, with_time, with_member, with_vtimes}
+use Rattle.class_laws.proofs.Times.{each_time}
+use Rattle.class_laws.proofs.Highest.{active-from}
+use Rattle.plain.specs.Members.{IsLeastStart, NoneActive}
+use Rattle.plain.specs.declared.seat.InService.{InService}
+use Rattle.plain.specs.Machine.{Bfq, put}
+use Rattle.plain.specs.declared.seat.Expiry.{Expiry}
+use Rattle.plain.specs.declared.seat.Expiry.TheVariants.{Exhaustion, Timeout, Emptying}
+use Rattle.plain.specs.Rules.{put_member, put_vtime, budget_after}
 use Rattle.bfq_select.specs.Service.{IsBounded}
 
 -- what holds of each member and of the new one holds of each after it is put
@@ -72,10 +71,10 @@ bounded_vtime b c group class vtime e v small =
     } in
     subst IsBounded (sym e) put_in
 
-pub bounded_slot : (b c : Bfq) (slot : Option InService) → c ≡ record b { slot = slot } → IsBounded b
+pub bounded_slot : (b c : Bfq) (slot : Option InService) → c ≡ record b { in_service = slot } → IsBounded b
     → ((served : InService) → slot ≡ Some served → served.service ≤ 65536) → IsBounded c
 bounded_slot b c slot e v fits =
-    let put_in : IsBounded (record b { slot = slot }) = record {
+    let put_in : IsBounded (record b { in_service = slot }) = record {
       vtimes = v.vtimes;
       starts = v.starts;
       finishes = v.finishes;

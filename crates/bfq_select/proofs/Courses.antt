@@ -11,7 +11,7 @@ course_none n t r = record { others = refl; trail = λ o h. h; steps = refl; roo
 
 -- what is left alone twice is left alone
 pub serves_twice : (t u v : Tables) → OnlyServes t u → OnlyServes u v → OnlyServes t v
-serves_twice t u v first second = second ∙ ap (λ (x : Tables). record x { trees = v.trees; budgets = v.budgets; slot = v.slot }) first
+serves_twice t u v first second = second ∙ ap (λ (x : Tables). record x { trees = v.trees; budgets = v.budgets; in_service = v.in_service }) first
 
 -- one part after another
 pub course_more : (m n k : ℕ) (t u v : Tables) (r s w : Record) → Exchanges m t r u s → Exchanges n u s v w → m + n ≤ k → Exchanges k t r v w

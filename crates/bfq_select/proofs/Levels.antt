@@ -1,8 +1,8 @@
 -- The choice, level by level.
 use Rattle.std.proofs.Common.{◌≡◌, ℕ, suc, ◌-◌, Option, Some, None, true, false, if◌then◌else◌, nat_lt, sym, ap, ◌∙◌}
 use Rattle.sector_core.specs.declared.class.Class.{Class}
-use Rattle.change_record.specs.Machine.{Bfq}
-use Rattle.change_record.specs.Rules.{select_from, chosen_in, class_in, on_class, jumped, picked, in_service, on_pick, taken}
+use Rattle.plain.specs.Machine.{Bfq}
+use Rattle.plain.specs.Rules.{select_from, chosen_in, class_in, on_class, jumped, picked, in_service, on_pick, taken}
 
 -- the choice goes on with so many levels
 abbrev next : ℕ → ℕ → Bfq → ℕ → Bfq
@@ -35,11 +35,11 @@ select_none n k group class m j more first jump pick = opened n k group class m 
 
 -- a session is taken
 pub select_session : (n k group x : ℕ) (class : Class) (m j i r : Bfq) → n ≡ suc k → Some class ≡ class_in m group → j ≡ jumped group class m → Some x ≡ picked j group class → i ≡ in_service group x j → nat_lt x 16 ≡ true
-    → r ≡ record i { slot = Some (record { seat = x; service = 0; age = 0 }) } → select_from n group m ≡ r
+    → r ≡ record i { in_service = Some (record { seat = x; service = 0; age = 0 }) } → select_from n group m ≡ r
 select_session n k group x class m j i r more first jump pick serve seat put =
     opened n k group class m j (Some x) more first jump pick
-    ∙ ap (λ t. if t then record (in_service group x j) { slot = Some (record { seat = x; service = 0; age = 0 }) } else select_from k (x - 16) (in_service group x j)) seat
-    ∙ ap (λ (y : Bfq). record y { slot = Some (record { seat = x; service = 0; age = 0 }) }) (sym serve)
+    ∙ ap (λ t. if t then record (in_service group x j) { in_service = Some (record { seat = x; service = 0; age = 0 }) } else select_from k (x - 16) (in_service group x j)) seat
+    ∙ ap (λ (y : Bfq). record y { in_service = Some (record { seat = x; service = 0; age = 0 }) }) (sym serve)
     ∙ sym put
 
 -- a group is taken
@@ -47,5 +47,5 @@ pub select_group : (n k group x : ℕ) (class : Class) (m j i : Bfq) → n ≡ s
     → select_from n group m ≡ select_from k (x - 16) i
 select_group n k group x class m j i more first jump pick serve seat =
     opened n k group class m j (Some x) more first jump pick
-    ∙ ap (λ t. if t then record (in_service group x j) { slot = Some (record { seat = x; service = 0; age = 0 }) } else select_from k (x - 16) (in_service group x j)) seat
+    ∙ ap (λ t. if t then record (in_service group x j) { in_service = Some (record { seat = x; service = 0; age = 0 }) } else select_from k (x - 16) (in_service group x j)) seat
     ∙ ap (λ y. select_from k (x - 16) y) (sym serve)

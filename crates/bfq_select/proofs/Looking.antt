@@ -1,8 +1,8 @@
 -- What is read at a place that may not be there.
 use Rattle.std.specs.Prelude.{slice_get}
 use Rattle.std.proofs.Common.{◌≡◌, ℕ, zero, suc, List, [], ◌∷◌, Option, Some, None, slice_index_or, refl, sym, ap, ◌∙◌}
-use Rattle.service_tree.specs.declared.member.Member.{Member}
-use Rattle.class_trees.specs.Classes.{Classes, same_times}
+use Rattle.plain.specs.declared.member.Member.{Member}
+use Rattle.plain.specs.Classes.{Classes, same_times}
 use Rattle.change_record.specs.Tables.{Tables}
 use Rattle.change_record.specs.Exchange.{tree_at}
 

@@ -1,7 +1,7 @@
 // From an entity upwards to the first that is not idle.
 ghost use Rattle.std.specs.Prelude.{◌≡◌, ◌≤◌, MatchResult, Some, None, length};
 ghost use Rattle.change_record.specs.Machine.{bfq_of};
-ghost use Rattle.change_record.specs.Rules.{activate_path};
+ghost use Rattle.plain.specs.Rules.{activate_path};
 ghost use Rattle.bfq_select.specs.Service.{IsSized, IsBounded};
 ghost use Rattle.bfq_select.specs.Course.{Exchanges};
 

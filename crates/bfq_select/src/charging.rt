@@ -1,7 +1,7 @@
 // What the service of some sectors does to the virtual times on a path.
 ghost use Rattle.std.specs.Prelude.{◌≡◌, ◌≤◌, MatchResult, Some, None, length};
 ghost use Rattle.change_record.specs.Machine.{bfq_of};
-ghost use Rattle.change_record.specs.Rules.{along, charge_one};
+ghost use Rattle.plain.specs.Rules.{along, charge_one};
 ghost use Rattle.bfq_select.specs.Service.{IsSized, IsBounded};
 ghost use Rattle.bfq_select.specs.Course.{Exchanges};
 

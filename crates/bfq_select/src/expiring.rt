@@ -1,7 +1,7 @@
 // How the entities of a path leave the service.
 ghost use Rattle.std.specs.Prelude.{◌≡◌, ◌≤◌, MatchResult, Some, None, length};
 ghost use Rattle.change_record.specs.Machine.{bfq_of};
-ghost use Rattle.change_record.specs.Rules.{along, budget_after, expire_one, is_backlogged};
+ghost use Rattle.plain.specs.Rules.{along, budget_after, expire_one, is_backlogged};
 ghost use Rattle.bfq_select.specs.Service.{IsSized, IsBounded};
 ghost use Rattle.bfq_select.specs.Course.{Exchanges};
 
@@ -10,8 +10,8 @@ use crate::reading::{class_in, group_of, member_in};
 use crate::stamping::{TOP, delta, stamp};
 use crate::{Expiry, VtimeFull};
 use change_record::{Parts, Tape};
+use plain::{LEAST_BUDGET, Member, SEATS, State};
 use sector_core::Entity;
-use service_tree::{Member, State};
 
 // The new budget of a session that leaves the service.
 pub fn budget_after(cause: Expiry, budget: u32, service: u32, most: u32) -> u32
@@ -21,7 +21,7 @@ pub fn budget_after(cause: Expiry, budget: u32, service: u32, most: u32) -> u32
     match cause {
         Expiry::Exhaustion => (4 * budget).min(most),
         Expiry::Timeout => (2 * budget).min(most),
-        Expiry::Emptying => service.max(256),
+        Expiry::Emptying => service.max(LEAST_BUDGET),
     }
 }
 
@@ -29,10 +29,10 @@ pub fn budget_after(cause: Expiry, budget: u32, service: u32, most: u32) -> u32
 fn is_backlogged(parts: &Parts, queued: bool, entity: Entity) -> bool
     ensures { result ≡ is_backlogged queued entity (bfq_of parts.now.tables) }
 {
-    if entity < 16 {
+    if entity < SEATS {
         queued
     } else {
-        class_in(parts, entity - 16).is_some()
+        class_in(parts, entity - SEATS).is_some()
     }
 }
 

@@ -25,7 +25,7 @@ mod rules;
 mod selecting;
 mod stamping;
 
-pub use change_record::Expiry;
+pub use plain::Expiry;
 pub use reading::{member_in, vtime_of};
 pub use refused::VtimeFull;
 pub use rules::{activate, charge, expire, select};

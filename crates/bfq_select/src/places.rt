@@ -1,17 +1,18 @@
 // The four places that the rules change, each by one exchange.
 ghost use Rattle.std.specs.Prelude.{◌≡◌, ◌≤◌, ◌<◌, ◌^◌, Some};
-ghost use Rattle.change_record.specs.declared.change.InService.{InService as Slot};
-ghost use Rattle.change_record.specs.Machine.{bfq_of, put};
-ghost use Rattle.change_record.specs.Rules.{put_member, put_vtime};
+ghost use Rattle.plain.specs.declared.seat.InService.{InService as Slot};
+ghost use Rattle.change_record.specs.Machine.{bfq_of};
+ghost use Rattle.plain.specs.Machine.{put};
+ghost use Rattle.plain.specs.Rules.{put_member, put_vtime};
 ghost use Rattle.bfq_select.specs.Service.{IsSized, IsBounded};
 ghost use Rattle.bfq_select.specs.Course.{Exchanges};
 
 use crate::reading::vtimes_of;
-use change_record::{Change, InService, Parts, Tape};
+use change_record::{Change, Parts, Tape};
+use plain::{InService, Member};
 use sector_core::{Class, Entity};
-use service_tree::Member;
 
-// This at an entity's place in a group's tree.
+// This at an entity's place in a group.
 pub fn set_member(parts: &mut Parts, tape: &mut Tape, group: u8, entity: Entity, member: Member)
     requires room { 1 ≤ tape.old.room }
     requires sized { IsSized parts.old.tables }
@@ -62,7 +63,7 @@ pub fn set_budget(parts: &mut Parts, tape: &mut Tape, entity: Entity, budget: u3
 pub fn set_slot(parts: &mut Parts, tape: &mut Tape, slot: Option<InService>)
     requires room { 1 ≤ tape.old.room }
     requires sized { IsSized parts.old.tables }
-    ensures made { bfq_of parts.new.tables ≡ record (bfq_of parts.old.tables) { slot = slot } }
+    ensures made { bfq_of parts.new.tables ≡ record (bfq_of parts.old.tables) { in_service = slot } }
     ensures sized { ((served : Slot) → slot ≡ Some served → served.seat < 16) → IsSized parts.new.tables }
     ensures bounded { IsBounded (bfq_of parts.old.tables) → ((served : Slot) → slot ≡ Some served → served.service ≤ 65536) → IsBounded (bfq_of parts.new.tables) }
     ensures course { Exchanges 1 parts.old.tables tape.old parts.new.tables tape.new }

@@ -1,14 +1,13 @@
 // What the rules read of entities and groups.
 ghost use Rattle.std.specs.Prelude.{◌≡◌, ◌<◌, ◌≤◌, ◌^◌, IfSome};
 ghost use Rattle.change_record.specs.Machine.{bfq_of};
-ghost use Rattle.change_record.specs.Rules.{class_in, group_of, member_in, service_in, vtime_of, wsum, picked, is_idle};
-ghost use Rattle.service_tree.specs.Members.{least_start};
+ghost use Rattle.plain.specs.Rules.{class_in, group_of, member_in, service_in, vtime_of, wsum, picked, is_idle};
+ghost use Rattle.plain.specs.Members.{least_start};
 ghost use Rattle.bfq_select.specs.Service.{IsSized, IsBounded};
 
 use change_record::Parts;
-use class_trees::Vtimes;
+use plain::{Member, State, Vtimes};
 use sector_core::{Class, Entity};
-use service_tree::{Member, State};
 
 // What is known of an entity that is no member.
 const ABSENT: Member = Member {
@@ -31,7 +30,7 @@ pub fn group_of(parts: &Parts, entity: Entity) -> u8
     }
 }
 
-/// What a group's tree knows of an entity: of one that it has not, an idle member with its times and its weight at 0.
+/// What a group knows of an entity: of one that it has not, an idle member with its times and its weight at 0.
 pub fn member_in(parts: &Parts, group: u8, entity: Entity) -> Member
     ensures value { result ≡ member_in (bfq_of parts.now.tables) group entity }
     ensures start { IsBounded (bfq_of parts.now.tables) → result.start ≤ 2 ^ 62 }

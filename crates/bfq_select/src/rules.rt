@@ -1,9 +1,9 @@
 // The four rules, as `dispatch_core` calls them.
 ghost use Rattle.std.specs.Prelude.{◌≡◌, ◌+◌, ◌≤◌, ◌<◌, MatchResult, Some, None, length};
-ghost use Rattle.change_record.specs.declared.change.InService.{InService as Slot};
+ghost use Rattle.plain.specs.declared.seat.InService.{InService as Slot};
 ghost use Rattle.change_record.specs.Trail.{KeepsTrail};
 ghost use Rattle.change_record.specs.Machine.{bfq_of};
-ghost use Rattle.change_record.specs.Rules.{activate, select, charge, expire};
+ghost use Rattle.plain.specs.Rules.{activate, select, charge, expire};
 ghost use Rattle.bfq_select.specs.Service.{IsSized, IsBounded, OnlyServes};
 
 use crate::activating::activate_path;
@@ -13,7 +13,8 @@ use crate::places::{set_budget, set_slot};
 use crate::reading::class_in;
 use crate::selecting::{jump, serve};
 use crate::{Expiry, VtimeFull};
-use change_record::{InService, Parts, Tape};
+use change_record::{Parts, Tape};
+use plain::{InService, SEATS};
 
 /// A session's queue has a request now: its entity waits to be served, and so does each group above it that was idle.
 ///
@@ -69,7 +70,7 @@ pub fn select(parts: &mut Parts, tape: &mut Tape)
             return;
         };
         serve(parts, tape, group, entity);
-        if entity < 16 {
+        if entity < SEATS {
             let taken = InService {
                 seat: entity,
                 service: 0,
@@ -78,7 +79,7 @@ pub fn select(parts: &mut Parts, tape: &mut Tape)
             set_slot(parts, tape, Some(taken));
             return;
         }
-        group = entity - 16;
+        group = entity - SEATS;
     }
 }
 
@@ -91,7 +92,7 @@ pub fn charge(parts: &mut Parts, tape: &mut Tape, sectors: u32) -> Result<(), Vt
     requires room { 6 ≤ tape.old.room }
     requires sized { IsSized parts.old.tables }
     requires bounded { IsBounded (bfq_of parts.old.tables) }
-    requires fits { (slot : Slot) → parts.old.tables.slot ≡ Some slot → slot.service + sectors ≤ (bfq_of parts.old.tables).budget slot.seat }
+    requires fits { (slot : Slot) → parts.old.tables.in_service ≡ Some slot → slot.service + sectors ≤ (bfq_of parts.old.tables).budget slot.seat }
     ensures made { MatchResult result (λ _. charge sectors (bfq_of parts.old.tables) ≡ Some (bfq_of parts.new.tables)) (λ _. charge sectors (bfq_of parts.old.tables) ≡ None) }
     ensures sized { IsSized parts.new.tables }
     ensures bounded { IsBounded (bfq_of parts.new.tables) }

@@ -1,18 +1,18 @@
 // The choice in one class of a group.
 ghost use Rattle.std.specs.Prelude.{◌≡◌, ◌≤◌, ◌<◌, IfSome};
 ghost use Rattle.change_record.specs.Machine.{bfq_of};
-ghost use Rattle.change_record.specs.Rules.{jumped, picked, in_service};
+ghost use Rattle.plain.specs.Rules.{jumped, picked, in_service};
 ghost use Rattle.bfq_select.specs.Service.{IsSized, IsBounded};
 ghost use Rattle.bfq_select.specs.Course.{Exchanges};
 
 use crate::places::{set_member, set_vtime};
 use crate::reading::{least_start_of, member_in, picked};
 use change_record::{Parts, Tape};
+use plain::{Member, State};
 use sector_core::{Class, Entity};
-use service_tree::{Member, State};
 
-// Where nobody in a class of a group is eligible, its virtual time becomes the least start of those that are active. The entity that
-// is picked then comes back: it is asked for again only where the virtual time has changed.
+// If nobody in a class of a group is eligible, its virtual time becomes the least start of those that are active. The entity that
+// is picked then comes back: it is asked for again only if the virtual time has changed.
 pub fn jump(parts: &mut Parts, tape: &mut Tape, group: u8, class: Class) -> Option<Entity>
     requires room { 1 ≤ tape.old.room }
     requires sized { IsSized parts.old.tables }

@@ -1,7 +1,7 @@
 // What a service costs in virtual time, and how an entity gets its start and its finish.
 ghost use Rattle.std.specs.Prelude.{◌≡◌, ◌*◌, ◌≤◌, ◌^◌, MatchResult, Some, None};
 ghost use Rattle.change_record.specs.Machine.{bfq_of};
-ghost use Rattle.change_record.specs.Rules.{delta, stamp};
+ghost use Rattle.plain.specs.Rules.{delta, stamp};
 ghost use Rattle.bfq_select.specs.Service.{IsSized, IsBounded};
 ghost use Rattle.bfq_select.specs.Course.{Exchanges};
 
@@ -9,8 +9,8 @@ use crate::VtimeFull;
 use crate::places::set_member;
 use crate::reading::{group_of, member_in};
 use change_record::{Parts, Tape};
+use plain::{Member, State};
 use sector_core::Entity;
-use service_tree::{Member, State};
 
 // No time is greater.
 pub const TOP: u64 = 1 << 62;

@@ -4,14 +4,15 @@ use Rattle.std.specs.Ordering.{nat_cmp, is_eq, eq_by_cmp}
 use Rattle.std.specs.declared.cmp.Ordering.TheVariants.{Less, Equal, Greater}
 use Rattle.std.specs.Cmp.{nat_cmp_total, eq_by_cmp_equiv}
 use Rattle.std.specs.FinMap as map
-use Rattle.overlay.specs.Blocks.{Blocks, exchanged}
+use Rattle.plain.specs.Machine.{Blocks}
+use Rattle.overlay.specs.Blocks.{exchanged}
 use Rattle.change_record.specs.declared.change.Change.{Change}
 use Rattle.change_record.specs.declared.change.Change.TheVariants.{Sector, RequestSlot, BioSlot, Tag, QueueLink, OutboxWhole, SeatEntry, Requeued, Mode, Head, TreeMember, Vtime, GroupEntry, Pending, Budget, Serving}
-use Rattle.service_tree.specs.declared.member.Member.{Member}
-use Rattle.class_trees.specs.declared.Vtimes.{Vtimes}
-use Rattle.class_trees.specs.Classes.{Classes, same_times}
+use Rattle.plain.specs.declared.member.Member.{Member}
+use Rattle.plain.specs.declared.member.Vtimes.{Vtimes}
+use Rattle.plain.specs.Classes.{Classes, same_times, with_member, with_vtimes}
 use Rattle.change_record.specs.Tables.{Tables}
-use Rattle.change_record.specs.Exchange.{with_member, with_vtimes, after, left_by, FitsAt, FitsIn, IsPut, ArePuts, FitBack, forth_tables, forth_left, back_tables, back_left}
+use Rattle.change_record.specs.Exchange.{after, left_by, FitsAt, FitsIn, IsPut, ArePuts, FitBack, forth_tables, forth_left, back_tables, back_left}
 
 -- lists: putting back what stood there
 set-set_back : {A : Type 0} (xs : List A) (i : ℕ) (y : A) → set (set xs i y) i (get_or xs i y) ≡ xs

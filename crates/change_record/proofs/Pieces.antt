@@ -300,10 +300,6 @@ rest_cut es ends xs changes now ys start end e f h s t n =
           ∙ take-append-le start (take start xs) (ys ++ drop end xs) (omega (arith, length-take-le start xs within)) ∙ take-take_of start start xs (omega arith) ∙ ap (λ k. take k xs) b,
     )
 
--- the first ends alone
-take-cons : {A : Type 0} (n : ℕ) (x : A) (xs : List A) → take (suc n) (x ∷ xs) ≡ x ∷ take n xs
-take-cons n x xs = refl
-
 pieces-first : {A : Type 0} (a : ℕ) (es : List ℕ) (xs : List A) (k : ℕ) → pieces a (take k es) xs ≡ take k (pieces a es xs)
 pieces-first a [] xs zero = refl
 pieces-first a [] xs (suc k) = refl

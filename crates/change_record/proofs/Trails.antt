@@ -26,10 +26,3 @@ KeepsTrail-push changes now t u c left p e f g origin trail =
     let P : List Change → Type 0 = λ l. IsTrail l u origin in
     let Q : Tables → Type 0 = λ v. IsTrail (changes ++ left_by t c ∷ []) v origin in
     subst P (sym (g ∙ ap (λ d. changes ++ d ∷ []) e)) (subst Q (sym f) (IsTrail-after changes t origin c p trail))
-
--- nothing has been turned
-pub KeepsTrail-same : (changes : List Change) (t u : Tables) → u ≡ t → KeepsTrail changes t changes u
-KeepsTrail-same changes t u e origin trail = let P : Tables → Type 0 = λ v. IsTrail changes v origin in subst P (sym e) trail
-
-pub KeepsTrail-then : (a b c : List Change) (t u v : Tables) → KeepsTrail a t b u → KeepsTrail b u c v → KeepsTrail a t c v
-KeepsTrail-then a b c t u v h k origin trail = k origin (h origin trail)

@@ -1,12 +1,11 @@
 -- An exchange puts a value at a place and leaves the old value in its stead (our profile).
 use Rattle.std.specs.Prelude.{◌≡◌, ℕ, List, [], ◌∷◌, Option, None, Some, IsSome, slice_set, slice_index_or}
 use Rattle.std.specs.FinMap as map
-use Rattle.overlay.specs.Blocks.{Blocks, exchanged}
+use Rattle.plain.specs.Machine.{Blocks}
+use Rattle.overlay.specs.Blocks.{exchanged}
 use Rattle.change_record.specs.declared.change.Change.{Change}
 use Rattle.change_record.specs.declared.change.Change.TheVariants.{Sector, RequestSlot, BioSlot, Tag, QueueLink, OutboxWhole, SeatEntry, Requeued, Mode, Head, TreeMember, Vtime, GroupEntry, Pending, Budget, Serving}
-use Rattle.service_tree.specs.declared.member.Member.{Member}
-use Rattle.class_trees.specs.declared.Vtimes.{Vtimes}
-use Rattle.class_trees.specs.Classes.{Classes, same_times}
+use Rattle.plain.specs.Classes.{Classes, same_times, with_member, with_vtimes}
 use Rattle.change_record.specs.Tables.{Tables}
 
 -- the trees of a group; where there is no such group, one without a place
@@ -15,13 +14,6 @@ tree_of trees group = slice_index_or trees group (record { vtimes = same_times 0
 
 abbrev pub tree_at : Tables → ℕ → Classes
 tree_at t group = tree_of t.trees group
-
--- trees with this at an entity's place, and ones at these virtual times
-abbrev pub with_member : Classes → ℕ → Option Member → Classes
-with_member tree entity member = record tree { members = slice_set tree.members entity member }
-
-abbrev pub with_vtimes : Classes → Vtimes → Classes
-with_vtimes tree vtimes = record tree { vtimes = vtimes }
 
 -- the tables with the change's value at its place
 abbrev pub after : Tables → Change → Tables
@@ -40,7 +32,7 @@ after t (Vtime group vtimes) = record t { trees = slice_set t.trees group (with_
 after t (GroupEntry entity group) = record t { parents = slice_set t.parents entity group }
 after t (Pending entity weight) = record t { weights = slice_set t.weights entity weight }
 after t (Budget entity budget) = record t { budgets = slice_set t.budgets entity budget }
-after t (Serving slot) = record t { slot = slot }
+after t (Serving slot) = record t { in_service = slot }
 
 -- the change with the value that stood at its place; where there is no such place, as it was
 abbrev pub left_by : Tables → Change → Change
@@ -59,7 +51,7 @@ left_by t (Vtime group vtimes) = Vtime group (slice_index_or t.trees group (with
 left_by t (GroupEntry entity group) = GroupEntry entity (slice_index_or t.parents entity group)
 left_by t (Pending entity weight) = Pending entity (slice_index_or t.weights entity weight)
 left_by t (Budget entity budget) = Budget entity (slice_index_or t.budgets entity budget)
-left_by t (Serving slot) = Serving t.slot
+left_by t (Serving slot) = Serving t.in_service
 
 -- the exchange would add a block to the overlay, the one thing that takes memory
 abbrev pub AddsBlock : Tables → Change → Type 0

@@ -4,12 +4,7 @@ pub mod Laws
 pub mod Trail
 pub mod Tape
 pub mod Machine
-pub mod Rules
 pub use Rattle.overlay.specs.Blocks
 pub use Rattle.request_pool.specs.Slots
 pub use Rattle.process_queue.specs.Queue
-pub use Rattle.service_tree.specs.Members
-pub use Rattle.class_trees.specs.Classes
-pub use Rattle.group_tree.specs.Groups
 pub use Rattle.sector_core.specs.Table
-pub use Rattle.sector_core.specs.First

@@ -7,11 +7,12 @@ use Rattle.sector_core.specs.declared.config.Scheduler.{Scheduler}
 use Rattle.request_pool.specs.declared.Request.{Request}
 use Rattle.tag_set.specs.declared.Issue.{Issue}
 use Rattle.process_queue.specs.declared.Link.{Link}
-use Rattle.class_trees.specs.Classes.{Classes, same_times}
-use Rattle.change_record.specs.declared.change.Seat.{Seat}
-use Rattle.change_record.specs.declared.change.InService.{InService}
+use Rattle.plain.specs.Classes.{Classes}
+use Rattle.plain.specs.declared.seat.Seat.{Seat}
+use Rattle.plain.specs.declared.seat.InService.{InService}
 use Rattle.change_record.specs.declared.change.Making.{Making}
-use Rattle.overlay.specs.Blocks.{Blocks}
+use Rattle.plain.specs.Machine.{Blocks}
+use Rattle.plain.specs.Opening.{empty_service}
 
 pub record Tables : Type 0 where
   pub overlay : Blocks
@@ -33,17 +34,13 @@ pub record Tables : Type 0 where
   pub parents : List (Option ℕ)
   pub weights : List ℕ
   pub budgets : List ℕ
-  pub slot : Option InService
+  pub in_service : Option InService
   pub scheduler : Scheduler
 
 -- the tables, and how many exchanges were made on them
 pub record Loose : Type 0 where
   pub tables : Tables
   pub turns : ℕ
-
--- a group without a member, at a virtual time
-abbrev pub empty_service : ℕ → Classes
-empty_service vtime = record { vtimes = same_times vtime; members = replicate 48 None }
 
 -- the tables of a new machine: every place is free, and the round robin begins at seat 0
 abbrev pub empty_tables : Making → Tables
@@ -63,6 +60,6 @@ empty_tables making = record {
   parents = replicate 48 None;
   weights = replicate 48 1;
   budgets = replicate 16 making.first_budget ++ replicate 32 making.max_budget;
-  slot = None;
+  in_service = None;
   scheduler = making.scheduler;
 }

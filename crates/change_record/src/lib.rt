@@ -14,7 +14,7 @@
 //! The tables change by `turn` alone. An exchange turned twice leaves the tables as they were, at every point
 //! between two others. An exchange on a place that is not there does nothing.
 //!
-//! The plain machine, which the tables mean, is in `specs/Machine.antt`, and the rules of BFQ on it in `specs/Rules.antt`.
+//! What the tables mean is in `specs/Machine.antt`: the plain machine that one reads off them.
 
 mod change;
 mod laws;
@@ -23,8 +23,9 @@ mod room;
 mod tape;
 mod turns;
 
-pub use change::{Change, Expiry, InService, Making, Outbox, Seat};
+pub use change::{Change, Making, Outbox};
 pub use laws::{back_leads_forth, turned_twice};
 pub use parts::Parts;
+pub use plain::{Expiry, InService, Seat};
 pub use room::push_within;
 pub use tape::Tape;

@@ -1,20 +1,22 @@
 // All tables of the host.
 ghost use Rattle.std.specs.Prelude.{◌≡◌, ◌+◌, ◌%◌, ◌^◌, None, IfOk, IsOk, OnOk, OnErr, IfSome, IsSome, MatchOption, ◌++◌, replicate, slice_index_or, slice_get, slice_set, []};
 ghost use Rattle.std.specs.Option.{option_copied};
-ghost use Rattle.change_record.specs.Tables.{empty_tables, empty_service};
+ghost use Rattle.change_record.specs.Tables.{empty_tables};
+ghost use Rattle.plain.specs.Opening.{empty_service};
 ghost use Rattle.std.specs.FinMap as map;
 ghost use Rattle.overlay.specs.Blocks.{exchanged};
-ghost use Rattle.change_record.specs.Exchange.{IsBesideOverlay, after, left_by, AddsBlock, FitsAt, FitsIn, tree_of, with_member, with_vtimes};
+ghost use Rattle.change_record.specs.Exchange.{IsBesideOverlay, after, left_by, AddsBlock, FitsAt, FitsIn, tree_of};
+ghost use Rattle.plain.specs.Classes.{with_member, with_vtimes};
 
-use crate::{Change, InService, Making, Outbox, Seat};
+use crate::{Change, Making, Outbox};
 use arrayvec::ArrayVec;
-use class_trees::{ClassTrees, Vtimes};
+use class_trees::ClassTrees;
 use group_tree::GroupTree;
 use overlay::Overlay;
+use plain::{InService, Member, Seat, Vtimes};
 use process_queue::{Link, ProcessQueue};
 use request_pool::{Request, RequestPool};
 use sector_core::{Bio, Block, Entity, OutOfMemory, Scheduler, Slot, empty_table};
-use service_tree::Member;
 use std::alloc::Global;
 use std::marker::Model;
 use std::mem;
@@ -93,7 +95,7 @@ impl Model for Parts {
         parents = p.groups;
         weights = p.weights.items;
         budgets = p.budgets.items;
-        slot = p.slot;
+        in_service = p.slot;
         scheduler = p.scheduler;
       };
       turns = p.turns;
@@ -249,7 +251,7 @@ impl Parts {
 
     /// The queue in service, if one is.
     pub fn slot(&self) -> Option<InService>
-        ensures { result ≡ self.now.tables.slot }
+        ensures { result ≡ self.now.tables.in_service }
     {
         self.slot
     }

@@ -3,20 +3,16 @@ use Rattle.std.proofs.Common.{◌≡◌, ℕ, zero, suc, eqb, cond, List, [], �
 use Rattle.std.specs.Option.{option_or}
 use Rattle.sector_core.specs.declared.class.Class.{Class}
 use Rattle.sector_core.specs.declared.class.Class.TheVariants.{RealTime, BestEffort, Idle}
-use Rattle.service_tree.specs.declared.member.Member.{Member}
-use Rattle.service_tree.specs.Members.{Service}
-use Rattle.class_trees.specs.Classes.{only, only_one, rank}
+use Rattle.plain.specs.declared.member.Member.{Member}
+use Rattle.plain.specs.Members.{Service}
+use Rattle.plain.specs.Classes.{only, only_one, rank}
+use Rattle.class_laws.proofs.Highest.{only-get}
 use Rattle.class_trees.specs.Divided.{AreDivided, merged, together}
 
 only-set : (c : Class) (xs : List (Option Member)) (i : ℕ) (w : Option Member) → only c (set xs i w) ≡ set (only c xs) i (only_one c w)
 only-set c [] i w = refl
 only-set c (x ∷ xs) zero w = refl
 only-set c (x ∷ xs) (suc i) w = ap (λ (ys : List (Option Member)). only_one c x ∷ ys) (only-set c xs i w)
-
-pub only-get : (c : Class) (xs : List (Option Member)) (i : ℕ) (d : Option Member) → get_or (only c xs) i (only_one c d) ≡ only_one c (get_or xs i d)
-only-get c [] i d = refl
-only-get c (x ∷ xs) zero d = refl
-only-get c (x ∷ xs) (suc i) d = only-get c xs i d
 
 -- a member is of one class
 any-only_one : (o : Option Member) → option_or (option_or (only_one RealTime o) (only_one BestEffort o)) (only_one Idle o) ≡ o

@@ -2,9 +2,9 @@
 use Rattle.std.specs.Prelude.{◌≡◌, List, [], ◌∷◌, Option}
 use Rattle.std.specs.Option.{option_or}
 use Rattle.sector_core.specs.declared.class.Class.TheVariants.{RealTime, BestEffort, Idle}
-use Rattle.service_tree.specs.declared.member.Member.{Member}
-use Rattle.service_tree.specs.Members.{Service}
-use Rattle.class_trees.specs.Classes.{Classes, only}
+use Rattle.plain.specs.declared.member.Member.{Member}
+use Rattle.plain.specs.Members.{Service}
+use Rattle.plain.specs.Classes.{Classes, only}
 
 -- the members of three lists, each under its number
 abbrev pub merged : List (Option Member) → List (Option Member) → List (Option Member) → List (Option Member)

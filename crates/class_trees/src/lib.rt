@@ -14,74 +14,21 @@
 //! | [`ClassTrees::weight_sum`] | the sum of the weights of a class that count at a virtual time |
 //! | [`ClassTrees::first_class`] | the highest class that has an active member |
 //!
-//! Its contracts see three virtual times and one list of 48 places, one for each entity number: a member says itself in which
-//! class it competes, so no entity is in two. A question about a class is asked of the same list without the members of the others.
+//! Its contracts see three virtual times and one list of 48 places, one for each entity number. A member says itself in which class it
+//! competes, so no entity is in two. A question about a class is asked of the same list without the members of the others.
 //!
 //! Inside there is a [`ServiceTree`] for each class. An exchange is made in all three: in two of them none comes in the place of
 //! none, or the old member goes. No call takes memory.
 
 ghost use Rattle.std.specs.Prelude.{◌≡◌, true, false, None, Some, MatchOption, replicate, slice_index_or, slice_set};
-ghost use Rattle.service_tree.specs.Members.{IsLeastStart, IsPicked, NoneActive, NoneEligible, WeighsAtMost, least_start, pick, weight_sum};
-ghost use Rattle.class_trees.specs.Classes.{HasActive, IsFirstClass, first_class, has_active, of_class, only, only_one, rank, same_times, time_of, with_time};
+ghost use Rattle.plain.specs.Members.{IsLeastStart, IsPicked, NoneActive, NoneEligible, WeighsAtMost, least_start, pick, weight_sum};
+ghost use Rattle.plain.specs.Classes.{HasActive, IsFirstClass, first_class, has_active, of_class, only, only_one, rank, same_times, time_of, with_time};
 
+use plain::Member;
+pub use plain::Vtimes;
 use sector_core::{Class, Entity};
-use service_tree::{Member, ServiceTree};
+use service_tree::ServiceTree;
 use std::marker::Model;
-
-/// A virtual time of each class.
-#[derive(Clone, Copy, Debug, PartialEq, Eq)]
-pub struct Vtimes {
-    /// Of the real-time class.
-    pub real_time: u64,
-    /// Of the best-effort class.
-    pub best_effort: u64,
-    /// Of the idle class.
-    pub idle: u64,
-}
-
-impl Vtimes {
-    /// Every class at the same virtual time.
-    pub fn same(vtime: u64) -> Vtimes
-        ensures { result ≡ same_times vtime }
-    {
-        Vtimes {
-            real_time: vtime,
-            best_effort: vtime,
-            idle: vtime,
-        }
-    }
-
-    /// The virtual time of a class.
-    pub fn of(self, class: Class) -> u64
-        ensures { result ≡ time_of self class }
-    {
-        match class {
-            Class::RealTime => self.real_time,
-            Class::BestEffort => self.best_effort,
-            Class::Idle => self.idle,
-        }
-    }
-
-    /// The times with this one of a class.
-    pub fn with(self, class: Class, vtime: u64) -> Vtimes
-        ensures { result ≡ with_time self class vtime }
-    {
-        match class {
-            Class::RealTime => Vtimes {
-                real_time: vtime,
-                ..self
-            },
-            Class::BestEffort => Vtimes {
-                best_effort: vtime,
-                ..self
-            },
-            Class::Idle => Vtimes {
-                idle: vtime,
-                ..self
-            },
-        }
-    }
-}
 
 /// The members of one group, under the numbers 0 to 47, and the virtual time of each of its classes.
 #[derive(Drop)]
@@ -92,7 +39,7 @@ pub struct ClassTrees {
 }
 
 impl Model for ClassTrees {
-    ghost use Rattle.class_trees.specs.Classes.{Classes};
+    ghost use Rattle.plain.specs.Classes.{Classes};
     ghost use Rattle.class_trees.specs.Divided.{AreDivided, together};
 
     ghost Value = { Classes };
@@ -185,7 +132,7 @@ impl ClassTrees {
     }
 
     /// Of the members of a class that are eligible at a virtual time the one with the least finish; on a tie the one with
-    /// the lower number. None only where no member of the class is eligible.
+    /// the lower number. None only if no member of the class is eligible.
     pub fn pick(&self, class: Class, vtime: u64) -> Option<Entity>
         ensures value { result ≡ pick vtime (only class self.now.members) }
         ensures picked { MatchOption result (NoneEligible vtime (only class self.now.members)) (IsPicked vtime (only class self.now.members)) }
@@ -193,7 +140,7 @@ impl ClassTrees {
         self.tree(class).pick(vtime)
     }
 
-    /// The least start of the active members of a class. None only where no member of the class is active.
+    /// The least start of the active members of a class. None only if no member of the class is active.
     pub fn least_start(&self, class: Class) -> Option<u64>
         ensures value { result ≡ least_start (only class self.now.members) }
         ensures least { MatchOption result (NoneActive (only class self.now.members)) (IsLeastStart (only class self.now.members)) }
@@ -222,7 +169,7 @@ impl ClassTrees {
         }
     }
 
-    /// The highest class that has an active member. None only where no member is active.
+    /// The highest class that has an active member. None only if no member is active.
     pub fn first_class(&self) -> Option<Class>
         ensures value { result ≡ first_class self.now.members }
         ensures first { MatchOption result (NoneActive self.now.members) (IsFirstClass self.now.members) }

@@ -3,7 +3,7 @@ use crate::host::opened;
 use bytes::Bytes;
 use history::RunStop;
 use host_console::put_answer;
-use plain_machine::{Call, Step};
+use plain::{Call, Step};
 use sector_core::{Class, Op, Outcome, Range};
 use std::alloc::Global;
 use std::test::Fail;

@@ -1,5 +1,5 @@
 // Scripts of sessions of each class, run at a host. A request of 8 sectors moves the time of its class by 8 * 2^22 over the sum of the
-// weights there, which are 80, 40 and 10 at priority 0, 4 and 7; a budget of 1024 sectors takes 2^32 over a weight.
+// weights there. These are 80, 40 and 10 at priority 0, 4 and 7. A budget of 1024 sectors takes 2^32 over a weight.
 use crate::host::usual;
 use base_image::ZeroImage;
 use script_host::run_script;

@@ -1,10 +1,10 @@
 // A keeper that never changes.
 ghost use Rattle.std.specs.Prelude.{true};
 ghost use Rattle.sector_core.specs.declared.config.Scheduler.TheVariants.{Plain};
-ghost use Rattle.plain_machine.specs.Keeper.{opened};
+ghost use Rattle.plain.specs.Keeper.{opened};
 
-use host_console::{Content, Keeps};
-use plain_machine::{Answer, Call, Cause, Code, EntityView, RequestView, Work};
+use host_console::Keeps;
+use plain::{Answer, Call, Cause, Code, EntityView, RequestView, SectorView, Work};
 use script_line::Look;
 use sector_core::Class;
 use std::alloc::Global;
@@ -36,11 +36,11 @@ impl Keeps for Full {
         None
     }
 
-    fn sector(&self, number: u64) -> Content<'_> {
+    fn sector(&self, number: u64) -> SectorView<'_> {
         if number < self.sectors {
-            Content::Base
+            SectorView::Base
         } else {
-            Content::Outside
+            SectorView::Outside
         }
     }
 

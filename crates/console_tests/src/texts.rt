@@ -4,7 +4,7 @@ use base_image::ZeroImage;
 use bytes::Bytes;
 use host_calls::{RingReply, put_ring_reply};
 use host_console::{Teller, put_answer, run_keeper};
-use plain_machine::{Answer, Cause, Code, Reply, Work};
+use plain::{Answer, Cause, Code, Reply, Work};
 use script_line::ScriptEnd;
 use sector_core::{BioResult, FailKind, Op, Range};
 use std::alloc::Global;

@@ -9,9 +9,9 @@ use Rattle.sector_core.specs.declared.range.Range.{Range}
 use Rattle.base_image.specs.Image.{Disk, failed}
 use Rattle.base_image.specs.declared.image.ImageFault.TheVariants.{Busy, Device}
 use Rattle.device_engine.specs.Fill.{IsPart, EndsBefore}
-use Rattle.plain_machine.specs.declared.answer.Work.{Work}
-use Rattle.plain_machine.specs.declared.call.DeviceCall.{DeviceCall}
-use Rattle.plain_machine.specs.declared.call.DeviceCall.TheVariants.{Take, Finish, Requeue}
+use Rattle.plain.specs.declared.answer.Work.{Work}
+use Rattle.plain.specs.declared.call.DeviceCall.{DeviceCall}
+use Rattle.plain.specs.declared.call.DeviceCall.TheVariants.{Take, Finish, Requeue}
 
 -- a fetch ends: the bytes of all its sectors were read, or the image ended before, or a read failed, which is counted
 abbrev pub FetchEnds : Disk → Range → Outcome → Disk → Type 0

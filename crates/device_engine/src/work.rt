@@ -1,13 +1,13 @@
 // The work of one request.
 ghost use Rattle.std.specs.Prelude.{◌≡◌, ◌+◌, ◌-◌, ◌*◌, ◌<◌, ◌≤◌, ◌^◌, ◌↔◌, IsTrue, IfOk, OnErr};
 ghost use Rattle.sector_core.specs.declared.bio.Op.TheVariants as op;
-ghost use Rattle.plain_machine.specs.declared.call.DeviceCall.TheVariants.{Finish, Requeue};
+ghost use Rattle.plain.specs.declared.call.DeviceCall.TheVariants.{Finish, Requeue};
 ghost use Rattle.device_engine.specs.Work.{Works};
 
 use super::fill::{Filled, fill};
 use base_image::{Image, ImageFault};
 use bytes::Bytes;
-use plain_machine::{DeviceCall, Work};
+use plain::{DeviceCall, Work};
 use sector_core::{FailKind, Op, OutOfMemory, Outcome, Range};
 use std::alloc::Global;
 

@@ -6,16 +6,9 @@ use Rattle.std.proofs.lemmas.Bool.{cases_eq, cases_lt}
 use Rattle.std.proofs.lemmas.Bool.Decides.{nat_tests}
 use Rattle.std.proofs.lemmas.List.{get_or-set_same, get_or-set_other, get_or_past}
 use Rattle.std.proofs.lemmas.List.Sums.{sum_by-cons}
-use Rattle.soft_queue.specs.Turn.{numbers}
-use Rattle.service_tree.specs.declared.member.Member.{Member}
-use Rattle.change_record.specs.Tables.{Tables}
-use Rattle.change_record.specs.Exchange.{with_member, tree_at}
-use Rattle.change_record.specs.Machine.{Bfq, bfq_of, put}
-use Rattle.change_record.specs.Rules.{put_member}
-use Rattle.plain_machine.specs.Step.{Limits, with_first_budgets}
-use Rattle.dispatch_core.specs.WellFormed.{one}
+use Rattle.dispatch_core.proofs.Words.{numbers, Member, Tables, with_member, Classes, same_times, tree_at, Bfq, put, bfq_of, put_member, Limits, one}
+use Rattle.plain.specs.Steps.Switch.{with_first_budgets}
 use Rattle.dispatch_core.proofs.Ruling.{put_set}
-use Rattle.class_trees.specs.Classes.{Classes, same_times}
 
 -- the numbers from one on are this one, and those from the next one on
 pub numbers_more : (k n : ℕ) → k < n → numbers k (n - k) ≡ k ∷ numbers (k + 1) (n - (k + 1))

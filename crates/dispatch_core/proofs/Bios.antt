@@ -2,20 +2,11 @@
 use Rattle.std.proofs.Common.{◌≡◌, ℕ, ◌+◌, ◌-◌, ◌<◌, ◌≤◌, List, [], ◌∷◌, inl, inr, length, false, Some, set, refl, sym, ap, ◌∙◌, arith}
 use Rattle.std.specs.Option.{option_map, option_map_or}
 use Rattle.std.proofs.lemmas.List.Elements.{All-head}
-use Rattle.sector_core.specs.declared.range.Range.{Range}
-use Rattle.sector_core.specs.declared.bio.Op.{Op}
-use Rattle.sector_core.specs.declared.bio.Bio.{Bio}
-use Rattle.request_pool.specs.declared.Request.{Request}
+use Rattle.dispatch_core.proofs.Words.{Range, Op, Bio, Request, Seat, Tables, bios_at, meaning, outbox_at, put, Limits, with_unreaped, unreaped, at, WellFormed, Seated, Kept, IsCompleted, attached_tables, submitted_tables, reaped_tables, sent_tables}
 use Rattle.request_pool.specs.Slots.{seat_slots}
 use Rattle.sector_core.specs.Table.{AllTaken}
 use Rattle.sector_core.specs.declared.class.Class.{Class}
-use Rattle.change_record.specs.declared.change.Seat.{Seat}
-use Rattle.change_record.specs.Tables.{Tables}
-use Rattle.process_queue.specs.Merge.{bios_at}
-use Rattle.change_record.specs.Machine.{meaning, outbox_at, put}
-use Rattle.plain_machine.specs.Step.{Limits, with_unreaped, unreaped}
-use Rattle.dispatch_core.specs.WellFormed.{at, taken, WellFormed, Seated, Kept, IsCompleted}
-use Rattle.dispatch_core.specs.Changes.{attached_tables, submitted_tables, reaped_tables, sent_tables}
+use Rattle.dispatch_core.specs.WellFormed.{taken}
 use Rattle.dispatch_core.proofs.Sides.{CanAttach, CanSubmit, CanReap, CanSend}
 use Rattle.dispatch_core.proofs.Times.{set_cases}
 use Rattle.dispatch_core.proofs.SlotCounts.{all_taken}
@@ -84,23 +75,6 @@ pub submitted-outbox : (l : Limits) (n : ℕ) (t : Tables) (seat : ℕ) (entry :
     → WellFormed l n t → CanSubmit l t seat entry slot place session op range payload
     → (meaning (submitted_tables t n seat entry slot place session op range payload)).outbox ≡ (meaning t).outbox
 submitted-outbox l n t seat entry slot place session op range payload w can = submit.outbox_is l n t seat entry slot place session op range payload w can
-
--- Reap: where nothing is unreaped the outbox is empty
-pub nothing_owed : (l : Limits) (n : ℕ) (t : Tables) (seat : ℕ) (entry : Seat) → WellFormed l n t → seat < 16 → at t.seats seat ≡ Some entry → entry.unreaped ≡ 0
-    → outbox_at t.outboxes seat ≡ []
-nothing_owed l n t seat entry w h s none = (elim (outbox_at t.outboxes seat) as (λ xs. outbox_at t.outboxes seat ≡ xs → xs ≡ []) [
-  | [] ↦ λ o. refl
-  | place ∷ rest ↦ λ o.
-      let le = counted_once l n t seat entry place w h s (All-head (IsCompleted t.bios seat) place rest (first_done l n t seat place rest w h o)) in
-      absurd (omega arith)
-]) refl
-
--- a bio in the outbox stands in its slot, and is counted
-pub reap_finds : (l : Limits) (n : ℕ) (t : Tables) (seat place : ℕ) (rest : List ℕ) → WellFormed l n t → seat < 16 → outbox_at t.outboxes seat ≡ place ∷ rest
-    → (bio : Bio) × (at t.bios place ≡ Some bio) × (entry : Seat) × (at t.seats seat ≡ Some entry) × (1 ≤ entry.unreaped)
-reap_finds l n t seat place rest w h o = let done : IsCompleted t.bios seat place = All-head (IsCompleted t.bios seat) place rest (first_done l n t seat place rest w h o) in
-    let found = entry_of l n t seat place w h done in
-    (done.bio, done.here, found.0, found.1, counted_once l n t seat found.0 place w h found.1 done)
 
 pub reaped-outbox_was : (l : Limits) (n : ℕ) (t : Tables) (seat : ℕ) (entry : Seat) (place : ℕ) (rest : List ℕ) (bio : Bio) → WellFormed l n t → CanReap t seat entry place rest bio
     → (meaning t).outbox seat ≡ bio ∷ bios_at t.bios rest

@@ -4,15 +4,12 @@ use Rattle.std.proofs.lemmas.List.Sums.{count_by-le-length}
 use Rattle.std.proofs.lemmas.List.Elements.{All-nil}
 use Rattle.sector_core.specs.declared.config.Scheduler.{Scheduler}
 use Rattle.sector_core.specs.declared.config.Scheduler.TheVariants.{Plain as PlainScheduler, Bfq as BfqScheduler}
-use Rattle.soft_queue.specs.Turn.{numbers}
-use Rattle.process_queue.specs.Queue.{is_empty}
-use Rattle.sector_core.specs.declared.bio.Outcome.{Outcome}
+use Rattle.dispatch_core.proofs.Words.{numbers, is_empty, Outcome, WholeRequest, Plain, Flight, Limits, opening, size_of, merge_in}
 use Rattle.sector_core.specs.declared.bio.Outcome.TheVariants.{Fetched, Stored, Failed}
-use Rattle.change_record.specs.Machine.{WholeRequest, Plain, Flight}
-use Rattle.plain_machine.specs.declared.step.Step.{Step}
-use Rattle.plain_machine.specs.declared.step.Step.TheVariants.{Attach, Submit, Reap, Leave, Dispatch, Finish, Requeue, GroupMake, GroupDrop, SetWeight, Freeze, Thaw, Switch, Tick}
-use Rattle.plain_machine.specs.Step.{Limits, opening, size_of, merge_in, is_bfq}
-use Rattle.plain_machine.specs.Whole.{IsWhole, AreWhole}
+use Rattle.plain.specs.declared.step.Step.{Step}
+use Rattle.plain.specs.declared.step.Step.TheVariants.{Attach, Submit, Reap, Leave, Dispatch, Finish, Requeue, GroupMake, GroupDrop, SetWeight, Freeze, Thaw, Switch, Tick}
+use Rattle.plain.specs.Entities.{is_bfq}
+use Rattle.plain_laws.specs.Whole.{IsWhole, AreWhole}
 use Rattle.dispatch_core.specs.Counts.{blocks_put, finish_exchanges, submit_exchanges, dispatch_exchanges, switch_exchanges, is_of_leaver, exchanges_of, rule_exchanges}
 
 -- no more blocks are put than there are sectors

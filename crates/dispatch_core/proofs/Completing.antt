@@ -5,18 +5,9 @@ use Rattle.std.specs.List.{cons_option}
 use Rattle.std.proofs.lemmas.List.{get_or-set_other, drop_more}
 use Rattle.std.proofs.lemmas.List.Sums.{sum_by-cons}
 use Rattle.std.proofs.lemmas.List.Elements.{All-head, All-tail}
-use Rattle.sector_core.specs.declared.range.Range.{Range}
-use Rattle.sector_core.specs.declared.bio.Bio.{Bio}
+use Rattle.dispatch_core.proofs.Words.{Range, Bio, Outcome, Blocks, Tables, bios_at, after_outcome, completed, result_of, rest_of_outcome, at, one, with_bios, count_of_bio, count_at, total_count}
 use Rattle.sector_core.specs.declared.bio.BioResult.TheVariants.{Written}
-use Rattle.sector_core.specs.declared.bio.Outcome.{Outcome}
 use Rattle.sector_core.specs.declared.bio.Outcome.TheVariants.{Fetched, Stored, Failed}
-use Rattle.overlay.specs.Blocks.{Blocks}
-use Rattle.change_record.specs.Tables.{Tables}
-use Rattle.process_queue.specs.Merge.{bios_at}
-use Rattle.plain_machine.specs.Step.{after_outcome, completed, result_of, rest_of_outcome}
-use Rattle.dispatch_core.specs.WellFormed.{at, one}
-use Rattle.dispatch_core.specs.Changes.{with_bios}
-use Rattle.dispatch_core.specs.Ranges.{count_of_bio, count_at, total_count}
 use Rattle.dispatch_core.specs.Ready.{IsReady, HasBytes, HasPayload}
 use Rattle.dispatch_core.proofs.Times.{Apart, set_cases, at_within, bios_at-set}
 use Rattle.dispatch_core.proofs.Room.{Distinct-head, Distinct-tail}
@@ -43,12 +34,6 @@ one_completed outcome t slot bio = record t {
   overlay = after_outcome outcome t.overlay (bio ∷ []);
   bios = set t.bios slot (Some (done_of outcome t bio));
 }
-
--- with no slot nothing changes
-pub completed_none : (outcome : Outcome) (t : Tables) → completed_tables outcome t [] ≡ t
-completed_none (Fetched bytes) t = refl
-completed_none Stored t = refl
-completed_none (Failed kind) t = refl
 
 -- the results of a store do not depend on the overlay
 stored_alike : (a b : Blocks) (bios : List Bio) → completed Stored a bios ≡ completed Stored b bios

@@ -3,9 +3,7 @@ use Rattle.std.proofs.Common.{◌≡◌, ℕ, suc, ◌+◌, ◌-◌, ◌<◌, �
 use Rattle.std.specs.Prelude.{unwrap_or}
 use Rattle.std.proofs.lemmas.List.{take_min, drop_min}
 use Rattle.std.specs.FinMap as blocks
-use Rattle.overlay.specs.Blocks.{Blocks}
-use Rattle.change_record.specs.Tables.{Tables}
-use Rattle.plain_machine.specs.Step.{content, with_blocks}
+use Rattle.dispatch_core.proofs.Words.{Blocks, Tables, content, with_blocks}
 
 -- one sector more is to come
 one_more : (sector end : ℕ) → sector < end → end - sector ≡ suc (end - (sector + 1))
@@ -45,10 +43,6 @@ with_blocks-more overlay now block rest others sector end all h e f g whole =
     ∙ ap (λ l. with_blocks (blocks.insert overlay sector (take 512 rest)) (sector + 1) (end - (sector + 1)) l) f
     ∙ ap (λ n. with_blocks overlay sector n rest) (sym (one_more sector end h))
     ∙ whole
-
--- and with no sector to come all have been put
-pub with_blocks-none : (overlay : Blocks) (rest : List ℕ) (sector end : ℕ) (all : Blocks) → end ≤ sector → with_blocks overlay sector (end - sector) rest ≡ all → overlay ≡ all
-with_blocks-none overlay rest sector end all h whole = ap (λ n. with_blocks overlay sector n rest) (sym (none_more sector end h)) ∙ whole
 
 -- the first 512 bytes, where there are as many
 pub first_bytes : (rest : List ℕ) (cut : ℕ) → cut ≡ min (length rest) 512 → take cut rest ≡ take 512 rest

@@ -2,10 +2,8 @@
 use Rattle.std.proofs.Common.{◌≡◌, inl, inr, ℕ, zero, suc, ◌+◌, ◌<◌, ◌≤◌, List, [], ◌∷◌, length, Option, Some, None, Bool, true, false, cond, is_some, IsSome, ◌==◌, sum_by, count_by, set, nat_lt, refl, sym, ap, ◌∙◌, arith, eq-eqb, ne_eqb}
 use Rattle.std.proofs.lemmas.Bool.{cases_eq, cond-true, cond-false}
 use Rattle.std.proofs.lemmas.List.Sums.{sum_by-cons, sum_by-set, count_by-le-length}
-use Rattle.process_queue.specs.declared.Link.{Link}
-use Rattle.process_queue.specs.Queue.{insert_in, placed}
-use Rattle.soft_queue.specs.Turn.{numbers}
-use Rattle.dispatch_core.specs.WellFormed.{at, one, taken}
+use Rattle.dispatch_core.proofs.Words.{Link, insert_in, placed, numbers, at, one}
+use Rattle.dispatch_core.specs.WellFormed.{taken}
 
 -- terms that agree on a list have one sum
 pub sum_agree : {A : Type 0} (f g : A → ℕ) (xs : List A) → ((x : A) → f x ≡ g x) → sum_by f xs ≡ sum_by g xs

@@ -3,30 +3,26 @@ use Rattle.std.proofs.Common.{◌≡◌, ◌≢◌, ◌⊎◌, inl, inr, is_some
 use Rattle.std.specs.Option.{option_map, is_none}
 use Rattle.std.specs.Prelude.{slice_get}
 use Rattle.std.proofs.lemmas.Bool.Decides.{nat_tests}
-use Rattle.sector_core.specs.declared.range.Range.{Range}
-use Rattle.sector_core.specs.declared.bio.Op.{Op}
-use Rattle.sector_core.specs.declared.bio.Bio.{Bio}
+use Rattle.dispatch_core.proofs.Words.{Range, Op, Bio, Outcome, Seat, Tables, WholeRequest, Flight, Bfq, Plain, put, meaning, is_empty, merge_of, activate, stands, Limits, has_session, unreaped, with_unreaped, shape, requests_of, size_of, range_of, woken, payload_length, submitted, submit, merge_in, needs_request, fits, after_finish, finished, finish}
 use Rattle.sector_core.specs.declared.bio.BioResult.TheVariants.{Written}
-use Rattle.sector_core.specs.declared.bio.Outcome.{Outcome}
-use Rattle.change_record.specs.declared.change.Seat.{Seat}
 use Rattle.sector_core.specs.declared.memory.OutOfMemory.{OutOfMemory as WantOfMemory}
-use Rattle.change_record.specs.Tables.{Tables}
 use Rattle.dispatch_core.specs.Relation.{Answers}
-use Rattle.change_record.specs.Machine.{WholeRequest, Flight, Bfq, Plain, put, meaning}
-use Rattle.process_queue.specs.Queue.{is_empty}
-use Rattle.process_queue.specs.Merge.{merge_of}
-use Rattle.group_tree.specs.Groups.{has_entity}
+use Rattle.plain.specs.Groups.{has_entity}
 use Rattle.std.proofs.lemmas.Bool.{cases_lt}
-use Rattle.change_record.specs.Rules.{activate, stands}
 use Rattle.sector_core.specs.declared.config.Scheduler.{Scheduler}
 use Rattle.sector_core.specs.declared.class.Class.{Class}
-use Rattle.plain_machine.specs.declared.answer.Reply.{Reply}
-use Rattle.plain_machine.specs.declared.answer.Code.TheVariants.{NoSession, StaleSession, BadCount, BadLength, OutOfRange, TooManyBios, BadSeat, SeatTaken, NoGroup, BadPrio, VtimeFull, NothingQueued, NoTag, BadTag, NotInFlight, BadOutcome, HistoryFull}
-use Rattle.plain_machine.specs.declared.answer.Cause.TheVariants.{Frozen, RequestsFull, NotCompleted}
-use Rattle.plain_machine.specs.declared.answer.Reply.TheVariants.{Attached, Queued, Completed, Issued, Finished}
-use Rattle.plain_machine.specs.declared.answer.Answer.{Answer}
-use Rattle.plain_machine.specs.declared.answer.Answer.TheVariants.{Accepted, Refused, NotYet}
-use Rattle.plain_machine.specs.Step.{Limits, Outcome_of, unless, has_session, attach, attached, accepted, accepted_if, is_bfq, shape, woken, sent_by, unreaped, payload_length, requests_of, submitted, submit, merge_in, needs_request, with_unreaped, reap, next_queue, lowest_free, sent, dispatch_to, dispatch, fits, size_of, range_of, dispatch_of, after_finish, finished, finish, MayGiveWay}
+use Rattle.plain.specs.declared.answer.Reply.{Reply}
+use Rattle.plain.specs.declared.answer.Code.TheVariants.{NoSession, StaleSession, BadCount, BadLength, OutOfRange, TooManyBios, BadSeat, SeatTaken, NoGroup, BadPrio, VtimeFull, NothingQueued, NoTag, BadTag, NotInFlight, BadOutcome, HistoryFull}
+use Rattle.plain.specs.declared.answer.Cause.TheVariants.{Frozen, RequestsFull, NotCompleted}
+use Rattle.plain.specs.declared.answer.Reply.TheVariants.{Attached, Queued, Completed, Issued, Finished}
+use Rattle.plain.specs.declared.answer.Answer.{Answer}
+use Rattle.plain.specs.declared.answer.Answer.TheVariants.{Accepted, Refused, NotYet}
+use Rattle.plain.specs.Tests.{StepResult, unless, accepted, accepted_if}
+use Rattle.plain.specs.Steps.Attach.{attach, attached}
+use Rattle.plain.specs.Entities.{is_bfq}
+use Rattle.plain.specs.Steps.Dispatch.{sent_by, next_queue, lowest_free, sent, dispatch_to, dispatch, dispatch_of}
+use Rattle.plain.specs.Steps.Reap.{reap}
+use Rattle.plain.specs.Step.{MayGiveWay}
 
 lt_16 : (seat : ℕ) → seat < 16 → nat_le 16 seat ≡ false
 lt_16 seat h = grind (arith, nat_tests)
@@ -217,12 +213,12 @@ module _ (l : Limits) (m : Plain) (n : ℕ) (room : Bool) (seat session : ℕ) (
       (not_woken m seat (submitted m n seat session op range payload) (joined_queue (m.queue seat) session op range found some))
 
 -- memory was wanting where the plain step accepts
-pub Answers-err : (plain : Plain → Outcome_of) (t u : Tables) (r : Result Answer WantOfMemory) → IsErr r → MayGiveWay (plain (meaning t)).1 → Answers plain t r u
+pub Answers-err : (plain : Plain → StepResult) (t u : Tables) (r : Result Answer WantOfMemory) → IsErr r → MayGiveWay (plain (meaning t)).1 → Answers plain t r u
 Answers-err plain t u (Ok a) e h = absurd (search rules)
 Answers-err plain t u (Err w) e h = h
 
 -- two plain steps that are one on this machine
-pub Answers-by : (f g : Plain → Outcome_of) (t u : Tables) (r : Result Answer WantOfMemory) → f (meaning t) ≡ g (meaning t) → Answers g t r u → Answers f t r u
+pub Answers-by : (f g : Plain → StepResult) (t u : Tables) (r : Result Answer WantOfMemory) → f (meaning t) ≡ g (meaning t) → Answers g t r u → Answers f t r u
 Answers-by f g t u (Ok a) e h = h ∙ sym e
 Answers-by f g t u (Err w) e h = let P : Plain × Answer → Type 0 = λ o. MayGiveWay o.1 in subst P (sym e) h
 

@@ -3,11 +3,9 @@ use Rattle.std.proofs.Common.{◌≡◌, inl, inr, ℕ, ◌+◌, ◌<◌, List, 
 use Rattle.std.specs.Prelude.{All}
 use Rattle.std.proofs.lemmas.List.{get_or-set_other}
 use Rattle.std.proofs.lemmas.List.Elements.{All-head, All-tail}
-use Rattle.sector_core.specs.declared.bio.Bio.{Bio}
+use Rattle.dispatch_core.proofs.Words.{Bio, bios_at, at, one, times, IsSlotOf, without_bios}
 use Rattle.request_pool.specs.Slots.{seat_slots}
-use Rattle.process_queue.specs.Merge.{bios_at}
-use Rattle.dispatch_core.specs.WellFormed.{at, one, taken, times, IsSlotOf}
-use Rattle.dispatch_core.specs.Changes.{without_bios}
+use Rattle.dispatch_core.specs.WellFormed.{taken}
 use Rattle.dispatch_core.proofs.Times.{Apart, set_cases, same, same_is, same_not, times-cons, filter_map_same}
 use Rattle.dispatch_core.proofs.SlotCounts.{taken_in, taken_out}
 use Rattle.dispatch_core.proofs.Room.{Distinct, Distinct-head, Distinct-tail}

@@ -4,16 +4,8 @@ use Rattle.std.specs.Prelude.{IfSome}
 use Rattle.std.proofs.lemmas.List.{get_or-set_other, drop_more}
 use Rattle.std.proofs.lemmas.List.Sums.{sum_by-cons}
 use Rattle.std.proofs.lemmas.List.Elements.{All-head, All-tail}
-use Rattle.sector_core.specs.declared.bio.Bio.{Bio}
-use Rattle.sector_core.specs.declared.bio.Outcome.{Outcome}
+use Rattle.dispatch_core.proofs.Words.{Bio, Outcome, Blocks, Tables, bios_at, after_outcome, at, one, without_bios, count_of_bio, count_at, total_count}
 use Rattle.sector_core.specs.declared.bio.Outcome.TheVariants.{Fetched, Stored, Failed}
-use Rattle.overlay.specs.Blocks.{Blocks}
-use Rattle.change_record.specs.Tables.{Tables}
-use Rattle.process_queue.specs.Merge.{bios_at}
-use Rattle.plain_machine.specs.Step.{after_outcome}
-use Rattle.dispatch_core.specs.WellFormed.{at, one}
-use Rattle.dispatch_core.specs.Changes.{without_bios}
-use Rattle.dispatch_core.specs.Ranges.{count_of_bio, count_at, total_count}
 use Rattle.dispatch_core.specs.Ready.{IsReady, HasBytes, HasPayload}
 use Rattle.dispatch_core.proofs.Times.{Apart, set_cases, at_within, bios_at-set}
 use Rattle.dispatch_core.proofs.Room.{Distinct-head, Distinct-tail}
@@ -25,12 +17,6 @@ all_dropped outcome t slots = record t {
   overlay = after_outcome outcome t.overlay (bios_at t.bios slots);
   bios = without_bios t.bios slots;
 }
-
--- with no slot nothing changes
-pub dropped_none : (outcome : Outcome) (t : Tables) → all_dropped outcome t [] ≡ t
-dropped_none (Fetched bytes) t = refl
-dropped_none Stored t = refl
-dropped_none (Failed kind) t = refl
 
 -- the first bio is stored, and then the others
 stored_more : (outcome : Outcome) (overlay : Blocks) (bio : Bio) (bios : List Bio) → after_outcome outcome (after_outcome outcome overlay (bio ∷ [])) bios ≡ after_outcome outcome overlay (bio ∷ bios)

@@ -4,17 +4,8 @@ use Rattle.std.specs.Prelude.{All, sum_by}
 use Rattle.std.proofs.Math.Path.{fun_ext}
 use Rattle.std.proofs.lemmas.Bool.{cases_lt}
 use Rattle.std.proofs.lemmas.List.{get_or-set_same, get_or-set_other}
-use Rattle.sector_core.specs.declared.bio.Bio.{Bio}
-use Rattle.sector_core.specs.declared.bio.Outcome.{Outcome}
-use Rattle.request_pool.specs.declared.Request.{Request}
-use Rattle.tag_set.specs.declared.Issue.{Issue}
-use Rattle.process_queue.specs.Merge.{bios_at}
-use Rattle.change_record.specs.declared.change.Seat.{Seat}
-use Rattle.change_record.specs.Tables.{Tables}
-use Rattle.change_record.specs.Machine.{Plain, meaning, whole_at, outbox_at, put}
-use Rattle.plain_machine.specs.Step.{Limits, after_outcome, completed, owed_fewer, without_gone}
-use Rattle.dispatch_core.specs.WellFormed.{at, one, times, WellFormed, IsCompleted}
-use Rattle.dispatch_core.specs.Changes.{leaving_entry, finished_tables, dropped_tables, without_bios}
+use Rattle.dispatch_core.proofs.Words.{Bio, Outcome, Request, Issue, bios_at, Seat, Tables, Plain, put, meaning, whole_at, outbox_at, Limits, after_outcome, completed, at, one, times, WellFormed, IsCompleted, leaving_entry, finished_tables, dropped_tables, without_bios}
+use Rattle.plain.specs.Entities.{owed_fewer, without_gone}
 use Rattle.dispatch_core.proofs.Sides.{CanFinish}
 use Rattle.dispatch_core.proofs.Times.{Apart, set_cases, at_within}
 use Rattle.dispatch_core.proofs.Keeping.{put-set, outbox_past, by_request, by_outbox, requests_set}
@@ -98,15 +89,7 @@ module _ (l : Limits) (n : ℕ) (t : Tables) (tag issue slot seat : ℕ) (entry 
         kept = less-kept l n t seat entry slots w can.within can.sits of few have now.overlay now.requests now.tags t.outboxes were boxed once_less;
         placed = placed_like (n + 1) (finished_tables t tag slot seat slots outcome) now.overlay now.bios t.outboxes now.seats
             (sessions_less l n t seat entry slots w can.within can.sits of few have) (finished-placed l n t tag issue slot seat entry request outcome w can);
-        ruled = record {
-          heads = w.ruled.heads;
-          sized = record { trees = w.ruled.sized.trees; parents = w.ruled.sized.parents; weights = w.ruled.sized.weights; budgets = w.ruled.sized.budgets; groups = w.ruled.sized.groups; seat = w.ruled.sized.seat };
-          bounded = w.ruled.bounded;
-          first_vtime = w.ruled.first_vtime;
-          least_budget = w.ruled.least_budget;
-          first_budget = w.ruled.first_budget;
-          most_budget = w.ruled.most_budget;
-        };
+        ruled = w.ruled;
         young = later.young;
         first = later.first;
         served = w.served;

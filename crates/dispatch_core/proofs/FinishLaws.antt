@@ -1,16 +1,8 @@
 -- Finish: its tables hold together, and mean what the plain step does.
 use Rattle.std.proofs.Common.{◌≡◌, ℕ, ◌+◌, ◌≤◌, List, [], ◌∷◌, ◌++◌, cond, true, false, length, Option, Some, None, set, refl, sym, ap, ◌∙◌, arith, length-set}
 use Rattle.std.specs.Option.{option_map_or}
-use Rattle.sector_core.specs.declared.bio.Bio.{Bio}
-use Rattle.sector_core.specs.declared.bio.Outcome.{Outcome}
-use Rattle.request_pool.specs.declared.Request.{Request}
-use Rattle.change_record.specs.declared.change.Seat.{Seat}
-use Rattle.change_record.specs.Tables.{Tables}
-use Rattle.process_queue.specs.Merge.{bios_at}
-use Rattle.change_record.specs.Machine.{Plain, meaning, outbox_at, put}
-use Rattle.plain_machine.specs.Step.{Limits, completed, delivered, after_outcome, after_finish, is_leaving, seat_of, owed_fewer, without_gone}
-use Rattle.dispatch_core.specs.WellFormed.{WellFormed}
-use Rattle.dispatch_core.specs.Changes.{finished_tables, dropped_tables, ended_tables, with_bios}
+use Rattle.dispatch_core.proofs.Words.{Bio, Outcome, Request, Seat, Tables, bios_at, Plain, put, meaning, outbox_at, Limits, completed, delivered, after_outcome, after_finish, seat_of, is_leaving, WellFormed, finished_tables, dropped_tables, ended_tables, with_bios}
+use Rattle.plain.specs.Entities.{owed_fewer, without_gone}
 use Rattle.dispatch_core.proofs.Sides.{CanFinish}
 use Rattle.dispatch_core.proofs.Ruling.{ruled_like}
 use Rattle.dispatch_core.proofs.Laws.{young_later}
@@ -56,7 +48,7 @@ module _ (l : Limits) (n : ℕ) (t : Tables) (tag issue slot seat : ℕ) (entry 
     kept = finish.kept l n t tag issue slot seat entry request w can outcome;
     placed = finished-placed l n t tag issue slot seat entry request outcome w can;
     ruled = ruled_like l t (finished_tables t tag slot seat request.bios.items outcome) w.ruled;
-    young = young_later n t.slot w.young;
+    young = young_later n t.in_service w.young;
     first = let h = w.first in omega arith;
     served = w.served;
   }

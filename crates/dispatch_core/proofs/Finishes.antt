@@ -3,16 +3,7 @@ use Rattle.std.proofs.Common.{◌≡◌, inl, inr, ℕ, ◌+◌, ◌*◌, ◌<�
 use Rattle.std.specs.Prelude.{All, sum_by}
 use Rattle.std.proofs.lemmas.Bool.{cases_eq, cases_lt, eq-eqb, ne_eqb}
 use Rattle.std.proofs.lemmas.List.Elements.{All-append, All-same, filter_map-append}
-use Rattle.sector_core.specs.declared.bio.Bio.{Bio}
-use Rattle.sector_core.specs.declared.bio.Outcome.{Outcome}
-use Rattle.request_pool.specs.declared.Request.{Request}
-use Rattle.change_record.specs.declared.change.Seat.{Seat}
-use Rattle.change_record.specs.Tables.{Tables}
-use Rattle.process_queue.specs.Merge.{bios_at}
-use Rattle.change_record.specs.Machine.{meaning, outbox_at, put}
-use Rattle.plain_machine.specs.Step.{Limits, completed, is_session, seat_of}
-use Rattle.dispatch_core.specs.WellFormed.{at, one, times, named, WellFormed, Seated, Kept, IsSlotOf, IsBio, IsWaiting, IsCompleted, IsOwned}
-use Rattle.dispatch_core.specs.Changes.{finished_tables}
+use Rattle.dispatch_core.proofs.Words.{Bio, Outcome, Request, Seat, Tables, bios_at, meaning, outbox_at, put, Limits, completed, seat_of, is_session, at, one, times, named, WellFormed, Seated, Kept, IsSlotOf, IsBio, IsWaiting, IsCompleted, IsOwned, finished_tables}
 use Rattle.dispatch_core.proofs.Sides.{CanFinish}
 use Rattle.dispatch_core.proofs.QueueLists.{find_first}
 use Rattle.dispatch_core.proofs.Times.{Apart, Apart_from_times, set_cases, at_within, times-append, times_here, filter_map_same}

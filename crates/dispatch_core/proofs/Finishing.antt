@@ -1,17 +1,9 @@
 -- A request that the device has finished is ready to be completed.
 use Rattle.std.proofs.Common.{◌≡◌, ℕ, ◌*◌, length, Option, Some, true, nat_eq, subst, arith}
 use Rattle.std.proofs.lemmas.Bool.Decides.{nat_tests}
-use Rattle.sector_core.specs.declared.bio.Op.{Op}
+use Rattle.dispatch_core.proofs.Words.{Op, Bio, Outcome, Request, Seat, Tables, Limits, fits, payload_length, WellFormed, total_count}
 use Rattle.sector_core.specs.declared.bio.Op.TheVariants.{Fetch, Store}
-use Rattle.sector_core.specs.declared.bio.Bio.{Bio}
-use Rattle.sector_core.specs.declared.bio.Outcome.{Outcome}
 use Rattle.sector_core.specs.declared.bio.Outcome.TheVariants.{Fetched, Stored, Failed}
-use Rattle.request_pool.specs.declared.Request.{Request}
-use Rattle.change_record.specs.declared.change.Seat.{Seat}
-use Rattle.change_record.specs.Tables.{Tables}
-use Rattle.plain_machine.specs.Step.{Limits, fits, payload_length}
-use Rattle.dispatch_core.specs.WellFormed.{WellFormed}
-use Rattle.dispatch_core.specs.Ranges.{total_count}
 use Rattle.dispatch_core.specs.Ready.{IsReady, HasBytes, HasPayload}
 use Rattle.dispatch_core.proofs.Sides.{CanFinish}
 use Rattle.dispatch_core.proofs.Finishes.{distinct}

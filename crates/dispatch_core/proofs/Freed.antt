@@ -6,15 +6,9 @@ use Rattle.std.proofs.lemmas.Bool.Decides.{nat_tests}
 use Rattle.std.proofs.lemmas.Option.{same_Some}
 use Rattle.std.proofs.lemmas.List.{get_or-set_other, set-set}
 use Rattle.request_pool.specs.Slots.{seat_slots}
-use Rattle.request_pool.specs.declared.Request.{Request}
-use Rattle.change_record.specs.declared.change.Seat.{Seat}
-use Rattle.change_record.specs.Tables.{Tables}
-use Rattle.change_record.specs.Exchange.{with_member, tree_at}
-use Rattle.change_record.specs.Machine.{Plain, meaning, bfq_of, put}
-use Rattle.change_record.specs.Rules.{group_of}
-use Rattle.plain_machine.specs.Step.{Limits, without_entity, without_gone}
-use Rattle.dispatch_core.specs.WellFormed.{at, taken, WellFormed}
-use Rattle.dispatch_core.specs.Changes.{leaving_entry, gone_tables, fewer_tables}
+use Rattle.dispatch_core.proofs.Words.{Request, Seat, Tables, with_member, tree_at, Plain, put, meaning, bfq_of, group_of, Limits, at, WellFormed, leaving_entry, gone_tables, fewer_tables}
+use Rattle.plain.specs.Entities.{without_entity, without_gone}
+use Rattle.dispatch_core.specs.WellFormed.{taken}
 use Rattle.dispatch_core.proofs.Times.{set_cases, at_within}
 use Rattle.dispatch_core.proofs.Keeping.{put-set}
 use Rattle.dispatch_core.proofs.Ruling.{well_with}
@@ -100,19 +94,11 @@ module _ (l : Limits) (n : ℕ) (t : Tables) (seat : ℕ) (entry : Seat) (w : We
       apart = w.placed.apart;
       again = w.placed.again;
       tag = w.placed.tag;
-      requeued = λ k link e. let q = w.placed.requeued k link e in record { early = q.early; number = q.number; here = q.here };
+      requeued = w.placed.requeued;
       once = w.placed.once;
       counted = w.placed.counted;
     };
-    ruled = record {
-      heads = w.ruled.heads;
-      sized = record { trees = w.ruled.sized.trees; parents = w.ruled.sized.parents; weights = w.ruled.sized.weights; budgets = w.ruled.sized.budgets; groups = w.ruled.sized.groups; seat = w.ruled.sized.seat };
-      bounded = w.ruled.bounded;
-      first_vtime = w.ruled.first_vtime;
-      least_budget = w.ruled.least_budget;
-      first_budget = w.ruled.first_budget;
-      most_budget = w.ruled.most_budget;
-    };
+    ruled = w.ruled;
     young = w.young;
     first = w.first;
     served = w.served;
@@ -122,7 +108,7 @@ module _ (l : Limits) (n : ℕ) (t : Tables) (seat : ℕ) (entry : Seat) (w : We
   gone-well =
       let group = group_of (bfq_of t) seat in
       let entity_within : seat < 48 = omega (arith, within) in
-      well_with l n freed t.heads (set t.trees group (with_member (tree_at t group) seat None)) (set t.parents seat None) t.weights t.budgets t.slot freed_well
+      well_with l n freed t.heads (set t.trees group (with_member (tree_at t group) seat None)) (set t.parents seat None) t.weights t.budgets t.in_service freed_well
       (dropped-ruled l n freed seat freed_well entity_within) w.young
 
   gone-meaning : meaning (gone_tables t seat) ≡ record (meaning t) { seat = put (meaning t).seat seat None; bfq = without_entity seat (bfq_of t) }

@@ -8,18 +8,9 @@ use Rattle.std.proofs.lemmas.Option.{same_Some}
 use Rattle.std.proofs.lemmas.List.{get_or-take, get_or-drop}
 use Rattle.std.proofs.lemmas.List.Sums.{sum_by-cons}
 use Rattle.std.proofs.lemmas.List.Elements.{filter-append}
-use Rattle.sector_core.specs.declared.bio.Bio.{Bio}
-use Rattle.request_pool.specs.declared.Request.{Request}
+use Rattle.dispatch_core.proofs.Words.{Bio, Request, Issue, numbers, is_empty, Link, insert_in, placed, queue_slots, Seat, Tables, WholeRequest, Flight, meaning, whole_at, outbox_at, Limits, is_of, left_of, is_gone, request_at, at, one, times, bears, WellFormed, IsSlotOf}
 use Rattle.request_pool.specs.Slots.{seat_slots}
-use Rattle.tag_set.specs.declared.Issue.{Issue}
-use Rattle.soft_queue.specs.Turn.{numbers}
-use Rattle.process_queue.specs.declared.Link.{Link}
-use Rattle.process_queue.specs.Queue.{insert_in, placed, queue_slots, is_empty}
-use Rattle.change_record.specs.declared.change.Seat.{Seat}
-use Rattle.change_record.specs.Tables.{Tables}
-use Rattle.change_record.specs.Machine.{WholeRequest, Flight, meaning, whole_at, outbox_at}
-use Rattle.plain_machine.specs.Step.{Limits, is_of, left_of, is_gone, request_at}
-use Rattle.dispatch_core.specs.WellFormed.{at, one, taken, times, bears, WellFormed, IsSlotOf}
+use Rattle.dispatch_core.specs.WellFormed.{taken}
 use Rattle.dispatch_core.proofs.Times.{same, same_is, same_not, times-cons}
 use Rattle.dispatch_core.proofs.SlotCounts.{one_taken}
 use Rattle.dispatch_core.proofs.Keeping.{one_seat, by_request, by_outbox}

@@ -6,35 +6,24 @@ use Rattle.std.proofs.lemmas.Bool.{cases_eq, eq-eqb, ne_eqb}
 use Rattle.std.proofs.lemmas.Bool.Decides.{nat_tests}
 use Rattle.std.proofs.lemmas.Option.{same_Some}
 use Rattle.sector_core.specs.declared.class.Class.TheVariants.{BestEffort}
-use Rattle.soft_queue.specs.Turn.{numbers}
-use Rattle.group_tree.specs.Groups.{depth, entity_of, most_levels, parent}
-use Rattle.service_tree.specs.declared.member.Member.{Member}
-use Rattle.service_tree.specs.declared.member.State.TheVariants.{Idle}
+use Rattle.dispatch_core.proofs.Words.{numbers, Member, Tables, after, tree_at, with_member, with_vtimes, same_times, Bfq, Plain, put, bfq_of, meaning, stands, group_of, put_vtime, put_vtimes, Limits, WellFormed, Ruled, entered}
+use Rattle.plain.specs.Groups.{depth, entity_of, most_levels, parent}
+use Rattle.plain.specs.declared.member.State.TheVariants.{Idle}
 use Rattle.change_record.specs.declared.change.Change.TheVariants.{TreeMember, Vtime, GroupEntry, Pending}
-use Rattle.change_record.specs.Tables.{Tables}
-use Rattle.change_record.specs.Exchange.{after, with_member, with_vtimes, tree_at}
-use Rattle.change_record.specs.Machine.{Bfq, Plain, bfq_of, meaning, put}
-use Rattle.change_record.specs.Rules.{stands, group_of, put_vtime}
 use Rattle.bfq_select.specs.Service.{IsSized, IsBounded}
-use Rattle.plain_machine.specs.declared.answer.Code.TheVariants.{NoGroup, RootGroup, BadWeight, TooDeep, GroupInUse}
-use Rattle.plain_machine.specs.declared.answer.Reply.TheVariants.{Group, Done}
-use Rattle.plain_machine.specs.declared.answer.Answer.TheVariants.{Accepted, Refused}
-use Rattle.plain_machine.specs.declared.answer.Answer.{Answer}
-use Rattle.plain_machine.specs.Step.{Limits, Outcome_of, unless, accepted, with_entity, without_entity, free_group, is_in, is_used, is_weight, made_group, group_make, group_drop, set_weight}
-use Rattle.dispatch_core.specs.WellFormed.{WellFormed, Ruled}
-use Rattle.dispatch_core.specs.Changes.{entered}
+use Rattle.plain.specs.declared.answer.Code.TheVariants.{NoGroup, RootGroup, BadWeight, TooDeep, GroupInUse}
+use Rattle.plain.specs.declared.answer.Reply.TheVariants.{Group, Done}
+use Rattle.plain.specs.declared.answer.Answer.TheVariants.{Accepted, Refused}
+use Rattle.plain.specs.declared.answer.Answer.{Answer}
+use Rattle.plain.specs.Tests.{StepResult, unless, accepted}
+use Rattle.plain.specs.Entities.{with_entity, without_entity, is_weight}
+use Rattle.plain.specs.Steps.GroupMake.{free_group, made_group, group_make}
+use Rattle.plain.specs.Steps.GroupDrop.{is_in, is_used, group_drop}
+use Rattle.plain.specs.Steps.SetWeight.{set_weight}
 use Rattle.dispatch_core.proofs.QueueLists.{find_first, find_none}
 use Rattle.dispatch_core.proofs.Ruling.{put_set, well_with, entered-bfq, bounded_entity, bounded_without, bounded_vtime, bounded_pending, ruled_of, groups_set}
 use Rattle.dispatch_core.proofs.Laws.{WellFormed-later}
-use Rattle.class_trees.specs.Classes.{same_times}
-use Rattle.change_record.specs.Rules.{put_vtimes}
-use Rattle.class_trees.proofs.Times.{same_most}
-
--- a list past its end
-pub get-none : {A : Type 0} (xs : List A) (i : ℕ) (d : A) → slice_get xs i ≡ None → get_or xs i d ≡ d
-get-none [] i d e = refl
-get-none (x ∷ xs) zero d e = cc
-get-none (x ∷ xs) (suc i) d e = get-none xs i d e
+use Rattle.class_laws.proofs.Times.{same_most}
 
 -- the first group that does not stand is the free one
 pub free_is : (b : Bfq) (group : ℕ) → 1 ≤ group → group < 32 → stands b group ≡ false → ((j : ℕ) → 1 ≤ j → j < group → stands b j ≡ true) → Some group ≡ free_group b
@@ -92,7 +81,7 @@ not_deep : (levels : ℕ) → levels < 4 → nat_le most_levels levels ≡ false
 not_deep levels h = grind (arith, nat_tests)
 
 -- three tests that have passed
-tested : (a b c : Bool) (x y z : Answer) (m : Plain) (o : Outcome_of) → a ≡ false → b ≡ false → c ≡ false → unless ((a, x) ∷ (b, y) ∷ (c, z) ∷ []) m o ≡ o
+tested : (a b c : Bool) (x y z : Answer) (m : Plain) (o : StepResult) → a ≡ false → b ≡ false → c ≡ false → unless ((a, x) ∷ (b, y) ∷ (c, z) ∷ []) m o ≡ o
 tested a b c x y z m o p q r = rw (p, q, r) refl
 
 -- SetWeight where its tests have passed
@@ -153,7 +142,7 @@ module _ (l : Limits) (n : ℕ) (t : Tables) (entity weight : ℕ) (w : WellForm
 
   pub weighed-well : WellFormed l (n + 1) (after t (Pending entity weight))
   weighed-well = WellFormed-later l n (after t (Pending entity weight))
-      (well_with l n t t.heads t.trees t.parents (set t.weights entity weight) t.budgets t.slot w weighed-ruled w.young)
+      (well_with l n t t.heads t.trees t.parents (set t.weights entity weight) t.budgets t.in_service w weighed-ruled w.young)
 
 -- without an entity
 module _ (l : Limits) (n : ℕ) (t : Tables) (entity : ℕ) (w : WellFormed l n t) (within : entity < 48) where
@@ -190,7 +179,7 @@ module _ (l : Limits) (n : ℕ) (t : Tables) (entity : ℕ) (w : WellFormed l n 
   dropped-well =
       let group = group_of (bfq_of t) entity in
       WellFormed-later l n without
-      (well_with l n t t.heads (set t.trees group (with_member (tree_at t group) entity None)) (set t.parents entity None) t.weights t.budgets t.slot w dropped-ruled w.young)
+      (well_with l n t t.heads (set t.trees group (with_member (tree_at t group) entity None)) (set t.parents entity None) t.weights t.budgets t.in_service w dropped-ruled w.young)
 
 -- with a new group
 module _ (l : Limits) (n : ℕ) (t : Tables) (group parent weight : ℕ) (w : WellFormed l n t) (g_within : group < 32) (p_within : parent < 32) where
@@ -244,4 +233,4 @@ module _ (l : Limits) (n : ℕ) (t : Tables) (group parent weight : ℕ) (w : We
 
   pub made-well : WellFormed l (n + 1) (after (entered l t (16 + group) parent BestEffort weight) (Vtime group (same_times l.first_vtime)))
   made-well = WellFormed-later l n made
-      (well_with l n t t.heads made.trees made.parents made.weights t.budgets t.slot w made-ruled w.young)
+      (well_with l n t t.heads made.trees made.parents made.weights t.budgets t.in_service w made-ruled w.young)

@@ -6,19 +6,7 @@ use Rattle.std.proofs.Math.Path.{fun_ext}
 use Rattle.std.proofs.lemmas.Bool.{cases_eq}
 use Rattle.std.proofs.lemmas.List.{get_or-set_same, get_or-set_other}
 use Rattle.std.proofs.lemmas.List.Elements.{filter_map-append}
-use Rattle.sector_core.specs.declared.range.Range.{Range}
-use Rattle.sector_core.specs.declared.bio.Op.{Op}
-use Rattle.sector_core.specs.declared.bio.Bio.{Bio}
-use Rattle.request_pool.specs.declared.Request.{Request}
-use Rattle.process_queue.specs.declared.Link.{Link}
-use Rattle.process_queue.specs.Queue.{queue_slots}
-use Rattle.process_queue.specs.Merge.{bios_at, shape_at, joins_at}
-use Rattle.change_record.specs.declared.change.Seat.{Seat}
-use Rattle.change_record.specs.Tables.{Tables}
-use Rattle.change_record.specs.Machine.{WholeRequest, meaning, whole_at, put}
-use Rattle.plain_machine.specs.Step.{Limits, new_bio, with_bio, change_first, shape}
-use Rattle.dispatch_core.specs.WellFormed.{at, one, times, WellFormed, Placed, IsQueued}
-use Rattle.dispatch_core.specs.Changes.{joined_slots, joined_request, joined_tables}
+use Rattle.dispatch_core.proofs.Words.{Range, Op, Bio, Request, Link, queue_slots, bios_at, shape_at, joins_at, Seat, Tables, WholeRequest, put, meaning, whole_at, Limits, new_bio, with_bio, change_first, shape, at, one, times, WellFormed, Placed, IsQueued, joined_slots, joined_request, joined_tables}
 use Rattle.dispatch_core.proofs.Sides.{CanJoin}
 use Rattle.dispatch_core.proofs.QueueLists.{within_of, same_queue}
 use Rattle.dispatch_core.proofs.Counts.{taken-set}

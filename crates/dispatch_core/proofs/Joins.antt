@@ -2,12 +2,8 @@
 use Rattle.std.proofs.Common.{◌≡◌, ◌≢◌, inl, inr, ℕ, ◌+◌, ◌<◌, ◌≤◌, List, [], ◌∷◌, map, Option, Some, None, Bool, true, false, cond, ◌==◌, nat_lt, get_or, refl, sym, ap, ◌∙◌, subst, arith}
 use Rattle.std.specs.List.{filter_map, cons_option, find, AllByRecursion}
 use Rattle.std.specs.Option.{option_map, option_map_or, option_or, option_and_then}
-use Rattle.process_queue.specs.declared.Link.{Link}
+use Rattle.dispatch_core.proofs.Words.{Link, insert_in, placed, queue_slots, place_of, change_first, at, times}
 use Rattle.process_queue.specs.declared.merge.Place.{Place}
-use Rattle.process_queue.specs.Queue.{insert_in, placed, queue_slots}
-use Rattle.process_queue.specs.Merge.{place_of}
-use Rattle.plain_machine.specs.Step.{change_first}
-use Rattle.dispatch_core.specs.WellFormed.{at, times}
 use Rattle.dispatch_core.proofs.Times.{same, same_not, times-cons, Apart, filter_map_same}
 use Rattle.dispatch_core.proofs.Room.{Distinct, Distinct-head, Distinct-tail}
 use Rattle.std.proofs.lemmas.Bool.{cases_eq}

@@ -7,14 +7,7 @@ use Rattle.std.proofs.lemmas.Bool.{cases_eq, eq-eqb, ne_eqb}
 use Rattle.std.proofs.lemmas.List.{get_or-set_same, get_or-set_other, get_or_past}
 use Rattle.std.proofs.lemmas.List.Sums.{sum_by-set, get_or-le-sum_by}
 use Rattle.arrayvec.specs.ArrayVec.{ArrayVec}
-use Rattle.sector_core.specs.declared.bio.Op.{Op}
-use Rattle.sector_core.specs.declared.bio.Bio.{Bio}
-use Rattle.request_pool.specs.declared.Request.{Request}
-use Rattle.change_record.specs.declared.change.Seat.{Seat}
-use Rattle.change_record.specs.Tables.{Tables}
-use Rattle.change_record.specs.Machine.{outbox_at, put}
-use Rattle.plain_machine.specs.Step.{Limits}
-use Rattle.dispatch_core.specs.WellFormed.{at, times, IsSlotOf, IsBio, IsWaiting, IsCompleted, IsOwned}
+use Rattle.dispatch_core.proofs.Words.{Op, Bio, Request, Seat, Tables, outbox_at, put, Limits, at, times, IsSlotOf, IsBio, IsWaiting, IsCompleted, IsOwned}
 use Rattle.dispatch_core.proofs.Times.{set_cases, at_within}
 
 -- a table with something put at one place, as a function

@@ -1,21 +1,10 @@
 -- Each step leaves a machine for later serials, and means what the plain step does.
 use Rattle.std.proofs.Common.{◌≡◌, ℕ, ◌+◌, ◌-◌, ◌<◌, List, Option, Some, None, Bool, sym, ap, ◌∙◌, arith, length-set}
-use Rattle.sector_core.specs.declared.range.Range.{Range}
-use Rattle.sector_core.specs.declared.bio.Op.{Op}
-use Rattle.sector_core.specs.declared.bio.Bio.{Bio}
-use Rattle.request_pool.specs.declared.Request.{Request}
-use Rattle.change_record.specs.declared.change.Seat.{Seat}
-use Rattle.change_record.specs.declared.change.InService.{InService}
-use Rattle.change_record.specs.Tables.{Tables}
+use Rattle.dispatch_core.proofs.Words.{Range, Op, Bio, Request, Seat, InService, Tables, queue_slots, bios_at, merge_place, WholeRequest, Plain, put, meaning, Limits, submitted, merge_in, queue_with, new_bio, unreaped, with_unreaped, WellFormed, IsSound, attached_tables, submitted_tables, joined_tables, reaped_tables, sent_tables}
 use Rattle.process_queue.specs.declared.merge.Place.{Place}
-use Rattle.process_queue.specs.Queue.{queue_slots}
-use Rattle.process_queue.specs.Merge.{bios_at, merge_place}
-use Rattle.change_record.specs.Machine.{WholeRequest, Plain, meaning, put}
-use Rattle.plain_machine.specs.Step.{Limits, attached, submitted, merge_in, queue_with, new_bio, unreaped, with_unreaped}
+use Rattle.plain.specs.Steps.Attach.{attached}
 use Rattle.std.specs.Option.{option_map}
 use Rattle.sector_core.specs.declared.class.Class.{Class}
-use Rattle.dispatch_core.specs.WellFormed.{WellFormed, IsSound}
-use Rattle.dispatch_core.specs.Changes.{attached_tables, submitted_tables, joined_tables, reaped_tables, sent_tables}
 use Rattle.dispatch_core.proofs.Sides.{CanAttach, CanSubmit, CanJoin, CanReap, CanSend}
 use Rattle.dispatch_core.proofs.Bios.{attached-seated, attached-kept, attached-seat, submitted-seated, submitted-kept, submitted-seat, submitted-outbox, reaped-seated, reaped-kept, reaped-seat, reaped-outbox, sent-seated, sent-kept}
 use Rattle.dispatch_core.proofs.QueueFacts.{whole_with}
@@ -59,7 +48,7 @@ WellFormed-later l n t w = record {
     counted = w.placed.counted;
   };
   ruled = w.ruled;
-  young = young_later n t.slot w.young;
+  young = young_later n t.in_service w.young;
   first = let h = w.first in omega arith;
   served = w.served;
 }
@@ -86,7 +75,7 @@ attached-well l n t seat group prio class w can there = record {
   kept = attached-kept l n t seat group prio class w can;
   placed = attached-placed l n t seat group prio class w can;
   ruled = ruled_attached l n t seat group prio class w can.within there;
-  young = young_later n t.slot w.young;
+  young = young_later n t.in_service w.young;
   first = let h = w.first in omega arith;
   served = w.served;
 }
@@ -126,7 +115,7 @@ submitted-well l n t seat entry slot place session op range payload w can = reco
   kept = submitted-kept l n t seat entry slot place session op range payload w can;
   placed = submitted-placed l n t seat entry slot place session op range payload w can;
   ruled = ruled_like l t (submitted_tables t n seat entry slot place session op range payload) w.ruled;
-  young = young_later n t.slot w.young;
+  young = young_later n t.in_service w.young;
   first = let h = w.first in omega arith;
   served = w.served;
 }
@@ -180,7 +169,7 @@ joined-well l n t seat entry slot place session op range payload request front w
   kept = join.kept l n t seat entry slot place session op range payload request front w can;
   placed = join_queue.placed l n t seat entry slot place session op range payload request front w can;
   ruled = ruled_like l t (joined_tables t n seat entry slot place request front range payload) w.ruled;
-  young = young_later n t.slot w.young;
+  young = young_later n t.in_service w.young;
   first = let h = w.first in omega arith;
   served = w.served;
 }
@@ -225,7 +214,7 @@ reaped-well l n t seat entry place rest bio w can = record {
   kept = reaped-kept l n t seat entry place rest bio w can;
   placed = reaped-placed l n t seat entry place rest bio w can;
   ruled = ruled_like l t (reaped_tables t seat entry place rest) w.ruled;
-  young = young_later n t.slot w.young;
+  young = young_later n t.in_service w.young;
   first = let h = w.first in omega arith;
   served = w.served;
 }
@@ -248,7 +237,7 @@ sent-well l n t seat slot tag request w can = record {
   kept = sent-kept l n t seat slot tag request w can;
   placed = sent-placed l n t seat slot tag request w can;
   ruled = ruled_like l t (sent_tables t n seat slot tag) w.ruled;
-  young = young_later n t.slot w.young;
+  young = young_later n t.in_service w.young;
   first = let h = w.first in omega arith;
   served = can.within;
 }

@@ -1,27 +1,28 @@
 -- What the plain Leave says where the code has made its tests.
 use Rattle.std.proofs.Common.{◌≡◌, ℕ, ◌<◌, ◌≤◌, [], ◌∷◌, Some, None, Bool, true, false, not, nat_le, refl, sym, ap, ◌∙◌, subst, le-leb}
 use Rattle.std.proofs.lemmas.Bool.{lt-leb}
-use Rattle.change_record.specs.declared.change.Seat.{Seat}
-use Rattle.change_record.specs.Machine.{Plain}
-use Rattle.plain_machine.specs.declared.answer.Code.TheVariants.{BadSeat, NoSession, HistoryFull}
-use Rattle.plain_machine.specs.declared.answer.Reply.TheVariants.{Left}
-use Rattle.plain_machine.specs.declared.answer.Answer.{Answer}
-use Rattle.plain_machine.specs.declared.answer.Answer.TheVariants.{Accepted, Refused}
-use Rattle.plain_machine.specs.Step.{Limits, Outcome_of, MayGiveWay, unless, accepted, has_session, left, leave}
+use Rattle.dispatch_core.proofs.Words.{Seat, Plain, Limits, has_session}
+use Rattle.plain.specs.declared.answer.Code.TheVariants.{BadSeat, NoSession, HistoryFull}
+use Rattle.plain.specs.declared.answer.Reply.TheVariants.{Left}
+use Rattle.plain.specs.declared.answer.Answer.{Answer}
+use Rattle.plain.specs.declared.answer.Answer.TheVariants.{Accepted, Refused}
+use Rattle.plain.specs.Tests.{StepResult, unless, accepted}
+use Rattle.plain.specs.Step.{MayGiveWay}
+use Rattle.plain.specs.Steps.Leave.{left, leave}
 
 -- two tests that have passed
-passed : (a b : Bool) (x y : Answer) (m : Plain) (o : Outcome_of) → a ≡ false → b ≡ false → unless ((a, x) ∷ (b, y) ∷ []) m o ≡ o
+passed : (a b : Bool) (x y : Answer) (m : Plain) (o : StepResult) → a ≡ false → b ≡ false → unless ((a, x) ∷ (b, y) ∷ []) m o ≡ o
 passed a b x y m o p q = rw (p, q) refl
 
 -- of which the second has not
-second : (a b : Bool) (x y : Answer) (m : Plain) (o : Outcome_of) → a ≡ false → b ≡ true → unless ((a, x) ∷ (b, y) ∷ []) m o ≡ (m, y)
+second : (a b : Bool) (x y : Answer) (m : Plain) (o : StepResult) → a ≡ false → b ≡ true → unless ((a, x) ∷ (b, y) ∷ []) m o ≡ (m, y)
 second a b x y m o p q = rw (p, q) refl
 
-first : (a b : Bool) (x y : Answer) (m : Plain) (o : Outcome_of) → a ≡ true → unless ((a, x) ∷ (b, y) ∷ []) m o ≡ (m, x)
+first : (a b : Bool) (x y : Answer) (m : Plain) (o : StepResult) → a ≡ true → unless ((a, x) ∷ (b, y) ∷ []) m o ≡ (m, x)
 first a b x y m o p = rw p refl
 
 module _ (l : Limits) (m : Plain) (room : Bool) (seat : ℕ) where
-  abbrev done : Outcome_of
+  abbrev done : StepResult
   done = accepted room m (left l m seat) Left
 
   pub leave_seat : 16 ≤ seat → leave l m room seat ≡ (m, Refused BadSeat)

@@ -6,14 +6,9 @@ use Rattle.std.proofs.Math.Path.{fun_ext}
 use Rattle.std.proofs.lemmas.Bool.{cases_eq, cases_lt}
 use Rattle.std.proofs.lemmas.List.{get_or-set_same}
 use Rattle.std.proofs.lemmas.List.Elements.{All-nil, All-same}
-use Rattle.request_pool.specs.declared.Request.{Request}
-use Rattle.process_queue.specs.Merge.{bios_at}
-use Rattle.change_record.specs.declared.change.Seat.{Seat}
-use Rattle.change_record.specs.Tables.{Tables}
-use Rattle.change_record.specs.Machine.{Plain, meaning, whole_at, outbox_at, put}
-use Rattle.plain_machine.specs.Step.{Limits, with_leaving, owed_fewer, left, without_gone}
-use Rattle.dispatch_core.specs.WellFormed.{at, one, times, WellFormed, IsSlotOf, IsCompleted}
-use Rattle.dispatch_core.specs.Changes.{leaving_entry, left_tables, without_bios}
+use Rattle.dispatch_core.proofs.Words.{Request, bios_at, Seat, Tables, Plain, put, meaning, whole_at, outbox_at, Limits, at, one, times, WellFormed, IsSlotOf, IsCompleted, leaving_entry, left_tables, without_bios}
+use Rattle.plain.specs.Steps.Leave.{with_leaving, left}
+use Rattle.plain.specs.Entities.{owed_fewer, without_gone}
 use Rattle.dispatch_core.proofs.Times.{Apart}
 use Rattle.dispatch_core.proofs.Room.{Distinct}
 use Rattle.dispatch_core.proofs.Keeping.{put-set, put_from, outbox_same, outbox_other, outbox_past, one_seat, waiting_apart, by_request, by_outbox, outboxes_set, outbox_named}
@@ -108,15 +103,7 @@ module _ (l : Limits) (n : ℕ) (t : Tables) (seat : ℕ) (entry : Seat) (w : We
     seated = less-seated l n t seat entry slots w within sits of few have t.overlay t.requests t.tags now.outboxes (outbox_same t.outboxes seat [] outbox_within) (λ k other. outbox_other t.outboxes seat k [] other);
     kept = less-kept l n t seat entry slots w within sits of few have t.overlay t.requests t.tags now.outboxes (λ k r h. (h, asked_apart k r h)) boxed once_less;
     placed = placed_like (n + 1) t t.overlay now.bios now.outboxes now.seats (sessions_less l n t seat entry slots w within sits of few have) later.placed;
-    ruled = record {
-      heads = w.ruled.heads;
-      sized = record { trees = w.ruled.sized.trees; parents = w.ruled.sized.parents; weights = w.ruled.sized.weights; budgets = w.ruled.sized.budgets; groups = w.ruled.sized.groups; seat = w.ruled.sized.seat };
-      bounded = w.ruled.bounded;
-      first_vtime = w.ruled.first_vtime;
-      least_budget = w.ruled.least_budget;
-      first_budget = w.ruled.first_budget;
-      most_budget = w.ruled.most_budget;
-    };
+    ruled = w.ruled;
     young = later.young;
     first = later.first;
     served = w.served;

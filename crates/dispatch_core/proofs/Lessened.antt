@@ -6,17 +6,9 @@ use Rattle.std.proofs.Math.Path.{fun_ext}
 use Rattle.std.proofs.lemmas.Bool.{cases_eq}
 use Rattle.std.proofs.lemmas.List.{get_or-set_same, get_or-set_other}
 use Rattle.arrayvec.specs.ArrayVec.{ArrayVec}
-use Rattle.sector_core.specs.declared.bio.Bio.{Bio}
-use Rattle.overlay.specs.Blocks.{Blocks}
-use Rattle.request_pool.specs.declared.Request.{Request}
+use Rattle.dispatch_core.proofs.Words.{Bio, Blocks, put, Request, Issue, Seat, Tables, outbox_at, Limits, with_unreaped, at, one, times, named, WellFormed, Seated, Kept, Placed, IsSlotOf, IsCompleted, leaving_entry, without_bios}
 use Rattle.request_pool.specs.Slots.{seat_slots}
-use Rattle.tag_set.specs.declared.Issue.{Issue}
-use Rattle.change_record.specs.declared.change.Seat.{Seat}
-use Rattle.change_record.specs.Tables.{Tables}
-use Rattle.change_record.specs.Machine.{outbox_at, put}
-use Rattle.plain_machine.specs.Step.{Limits, with_unreaped}
-use Rattle.dispatch_core.specs.WellFormed.{at, one, taken, times, named, WellFormed, Seated, Kept, Placed, IsSlotOf, IsCompleted}
-use Rattle.dispatch_core.specs.Changes.{leaving_entry, without_bios}
+use Rattle.dispatch_core.specs.WellFormed.{taken}
 use Rattle.dispatch_core.proofs.Times.{Apart, at_within}
 use Rattle.dispatch_core.proofs.Room.{Distinct}
 use Rattle.dispatch_core.proofs.Keeping.{KeepsSessions, sessions_set, owned_by, early_set, apart_set, left_set, waiting_same, completed_same, by_request, by_outbox}
@@ -46,7 +38,7 @@ placed_like n t overlay bios outboxes seats keeps p = record {
   apart = p.apart;
   again = p.again;
   tag = p.tag;
-  requeued = λ k link e. let q = p.requeued k link e in record { early = q.early; number = q.number; here = q.here };
+  requeued = p.requeued;
   once = p.once;
   counted = p.counted;
 }

@@ -4,15 +4,7 @@ use Rattle.std.proofs.Common.{◌≡◌, ℕ, zero, suc, ◌+◌, ◌<◌, ◌�
 use Rattle.std.specs.List.{filter_map, cons_option, AllByRecursion}
 use Rattle.std.specs.Option.{option_map, option_and_then}
 use Rattle.std.proofs.lemmas.List.{drop_more}
-use Rattle.sector_core.specs.declared.bio.Bio.{Bio}
-use Rattle.process_queue.specs.Merge.{bios_at}
-use Rattle.process_queue.specs.declared.Link.{Link}
-use Rattle.process_queue.specs.Queue.{nth_slot, placed}
-use Rattle.change_record.specs.Tables.{Tables}
-use Rattle.change_record.specs.Machine.{WholeRequest, meaning, whole_at}
-use Rattle.plain_machine.specs.Step.{Limits, size_of}
-use Rattle.dispatch_core.specs.WellFormed.{at, Placed, WellFormed}
-use Rattle.dispatch_core.specs.Ranges.{count_of_bio, count_at}
+use Rattle.dispatch_core.proofs.Words.{Bio, bios_at, Link, nth_slot, placed, Tables, WholeRequest, meaning, whole_at, Limits, size_of, at, Placed, WellFormed, count_of_bio, count_at}
 use Rattle.dispatch_core.proofs.Sectors.{size-cons}
 use Rattle.dispatch_core.proofs.QueueFacts.{linked_some, whole_with}
 use Rattle.dispatch_core.proofs.QueueLists.{each_queued, queue_length}

@@ -1,20 +1,12 @@
 -- What the code reads off the tables is what the machine shows.
 use Rattle.std.proofs.Common.{◌≡◌, ℕ, ◌<◌, List, [], length, Some, refl, sym, ap, ◌∙◌, subst, arith, inl, inr}
 use Rattle.std.proofs.lemmas.Bool.{cases_lt}
-use Rattle.change_record.specs.Tables.{Tables}
+use Rattle.dispatch_core.proofs.Words.{Tables, Range, Request, Issue, bios_at, meaning, outbox_at, Limits, range_of, first_start, total_count, at, one, WellFormed}
 use Rattle.std.specs.Option.{option_map}
-use Rattle.sector_core.specs.declared.range.Range.{Range}
-use Rattle.request_pool.specs.declared.Request.{Request}
-use Rattle.tag_set.specs.declared.Issue.{Issue}
-use Rattle.process_queue.specs.Merge.{bios_at}
-use Rattle.change_record.specs.Machine.{meaning, outbox_at}
-use Rattle.plain_machine.specs.declared.answer.Work.{Work}
-use Rattle.plain_machine.specs.Step.{Limits, range_of}
-use Rattle.dispatch_core.specs.Ranges.{first_start, total_count}
-use Rattle.plain_machine.specs.Device.{work_of}
+use Rattle.plain.specs.declared.answer.Work.{Work}
+use Rattle.plain.specs.Device.{work_of}
 use Rattle.dispatch_core.proofs.Queues.{flight_borne}
 use Rattle.dispatch_core.proofs.Sectors.{range_is, request_taken}
-use Rattle.dispatch_core.specs.WellFormed.{at, one, WellFormed}
 use Rattle.dispatch_core.proofs.Keeping.{outbox_past}
 use Rattle.dispatch_core.proofs.Written.{AreTaken, length-bios_at}
 

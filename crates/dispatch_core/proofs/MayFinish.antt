@@ -1,19 +1,11 @@
 -- What follows from the tests of Finish.
 use Rattle.std.proofs.Common.{◌≡◌, ℕ, ◌+◌, ◌≤◌, List, Bool, true, cond, length, Option, Some, refl, subst, sym, ap, ◌∙◌, arith}
 use Rattle.std.specs.Prelude.{IfSome}
-use Rattle.sector_core.specs.declared.bio.Outcome.{Outcome}
-use Rattle.request_pool.specs.declared.Request.{Request}
-use Rattle.change_record.specs.declared.change.Seat.{Seat}
-use Rattle.change_record.specs.Tables.{Tables}
-use Rattle.change_record.specs.Machine.{Flight, meaning, outbox_at}
-use Rattle.process_queue.specs.Merge.{bios_at}
-use Rattle.plain_machine.specs.declared.answer.Answer.TheVariants.{Accepted}
-use Rattle.plain_machine.specs.declared.answer.Reply.TheVariants.{Finished}
-use Rattle.plain_machine.specs.Step.{Limits, finish, fits, size_of, MayGiveWay}
-use Rattle.dispatch_core.specs.WellFormed.{at, WellFormed}
-use Rattle.dispatch_core.specs.Changes.{ended_tables}
+use Rattle.dispatch_core.proofs.Words.{Outcome, Request, Seat, Tables, Flight, meaning, outbox_at, bios_at, Limits, finish, fits, size_of, at, WellFormed, ended_tables, total_count}
+use Rattle.plain.specs.declared.answer.Answer.TheVariants.{Accepted}
+use Rattle.plain.specs.declared.answer.Reply.TheVariants.{Finished}
+use Rattle.plain.specs.Step.{MayGiveWay}
 use Rattle.dispatch_core.specs.Counts.{blocks_put, finish_exchanges, is_of_leaver}
-use Rattle.dispatch_core.specs.Ranges.{total_count}
 use Rattle.dispatch_core.specs.Ready.{IsReady, MayFinish}
 use Rattle.dispatch_core.proofs.Sides.{CanFinish}
 use Rattle.dispatch_core.proofs.FinishLaws as laws

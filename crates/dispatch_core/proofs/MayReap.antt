@@ -2,21 +2,17 @@
 use Rattle.std.proofs.Common.{◌≡◌, ◌≢◌, ℕ, ◌+◌, ◌<◌, Bool, ◌≤◌, false, List, [], ◌∷◌, All, length, arith, drop, Some, refl, subst, sym, ap, ◌∙◌}
 use Rattle.std.specs.Prelude.{unwrap_or, slice_get}
 use Rattle.std.proofs.lemmas.List.Elements.{All-head}
-use Rattle.sector_core.specs.declared.bio.Bio.{Bio}
+use Rattle.dispatch_core.proofs.Words.{Bio, Seat, Tables, Plain, meaning, outbox_at, bios_at, Limits, at, IsCompleted, WellFormed, reaped_tables}
 use Rattle.sector_core.specs.declared.bio.BioResult.{BioResult}
 use Rattle.sector_core.specs.declared.bio.BioResult.TheVariants.{Written}
 use Rattle.change_record.specs.declared.change.Change.{Change}
-use Rattle.change_record.specs.declared.change.Seat.{Seat}
-use Rattle.change_record.specs.Tables.{Tables}
-use Rattle.change_record.specs.Machine.{Plain, meaning, outbox_at}
-use Rattle.process_queue.specs.Merge.{bios_at}
-use Rattle.plain_machine.specs.declared.answer.Answer.{Answer}
-use Rattle.plain_machine.specs.declared.answer.Answer.TheVariants.{Accepted, Refused, NotYet}
-use Rattle.plain_machine.specs.declared.answer.Code.TheVariants.{HistoryFull}
-use Rattle.plain_machine.specs.declared.answer.Reply.TheVariants.{Completed}
-use Rattle.plain_machine.specs.Step.{Limits, Outcome_of, MayGiveWay, reap}
-use Rattle.dispatch_core.specs.WellFormed.{at, IsCompleted, WellFormed}
-use Rattle.dispatch_core.specs.Changes.{reaped_tables}
+use Rattle.plain.specs.declared.answer.Answer.{Answer}
+use Rattle.plain.specs.declared.answer.Answer.TheVariants.{Accepted, Refused, NotYet}
+use Rattle.plain.specs.declared.answer.Code.TheVariants.{HistoryFull}
+use Rattle.plain.specs.declared.answer.Reply.TheVariants.{Completed}
+use Rattle.plain.specs.Tests.{StepResult}
+use Rattle.plain.specs.Step.{MayGiveWay}
+use Rattle.plain.specs.Steps.Reap.{reap}
 use Rattle.dispatch_core.specs.Ready.{MayReap}
 use Rattle.dispatch_core.specs.Relation.{Declines, Leaves}
 use Rattle.dispatch_core.proofs.Sides.{CanReap}
@@ -25,13 +21,13 @@ use Rattle.dispatch_core.proofs.Laws as laws
 use Rattle.dispatch_core.proofs.Decided.{reap_does, reap_late, first_of_list}
 
 -- an answer that declines is the plain step's
-pub declined-answers : (m : Plain) (answer : Answer) (outcome : Outcome_of) → Declines m answer outcome → (m, answer) ≡ outcome
+pub declined-answers : (m : Plain) (answer : Answer) (outcome : StepResult) → Declines m answer outcome → (m, answer) ≡ outcome
 declined-answers m (Accepted reply) outcome e = absurd cc
 declined-answers m (Refused code) outcome e = e
 declined-answers m (NotYet cause) outcome e = e
 
 -- and all is left as it was
-pub declined-leaves : (l : Limits) (n least more : ℕ) (m : Plain) (answer : Answer) (outcome : Outcome_of) (t : Tables) (changes : List Change) (spare : ℕ) → Declines m answer outcome
+pub declined-leaves : (l : Limits) (n least more : ℕ) (m : Plain) (answer : Answer) (outcome : StepResult) (t : Tables) (changes : List Change) (spare : ℕ) → Declines m answer outcome
     → Leaves l n least more answer t changes t changes spare
 declined-leaves l n least more m (Accepted reply) outcome t changes spare e = absurd cc
 declined-leaves l n least more m (Refused code) outcome t changes spare e = (refl, refl)
@@ -52,7 +48,7 @@ module _ (l : Limits) (n : ℕ) (t : Tables) (room : Bool) (seat session : ℕ) 
       ∙ ap (λ m. (m, Accepted (Completed bio.serial (unwrap_or bio.result Written)))) (sym (laws.reaped-meaning l n t seat entry place rest bio w can))
 
   pub may_give_way : MayGiveWay (reap (meaning t) room seat session).1
-  may_give_way = let P : Outcome_of → Type 0 = λ o. MayGiveWay o.1 in subst P (sym does) tt
+  may_give_way = let P : StepResult → Type 0 = λ o. MayGiveWay o.1 in subst P (sym does) tt
 
   module _ (now : Tables) (tables : now ≡ reaped_tables t seat entry place rest) where
     pub reaped-answers : (result : BioResult) → result ≡ unwrap_or bio.result Written → (meaning now, Accepted (Completed bio.serial result)) ≡ reap (meaning t) room seat session

@@ -3,19 +3,10 @@ use Rattle.std.proofs.Common.{◌≡◌, ℕ, ◌<◌, List, length, Option, Som
 use Rattle.std.specs.List.{find}
 use Rattle.std.specs.Option.{option_map, option_map_or, option_or}
 use Rattle.std.proofs.lemmas.Bool.Decides.{nat_tests}
-use Rattle.sector_core.specs.declared.range.Range.{Range}
-use Rattle.sector_core.specs.declared.bio.Op.{Op}
+use Rattle.dispatch_core.proofs.Words.{Range, Op, Request, Link, queue_slots, bios_at, shape_at, merge_place, shape_of, same_op, has_room, may_join, joins, joins_at, Tables, WholeRequest, meaning, whole_at, shape, merge_in, at}
 use Rattle.sector_core.specs.declared.bio.Op.TheVariants.{Fetch, Store}
-use Rattle.request_pool.specs.declared.Request.{Request}
-use Rattle.process_queue.specs.declared.Link.{Link}
-use Rattle.process_queue.specs.declared.merge.Shape.{Shape}
+use Rattle.plain.specs.declared.shape.Shape.{Shape}
 use Rattle.process_queue.specs.declared.merge.Place.{Place}
-use Rattle.process_queue.specs.Queue.{queue_slots}
-use Rattle.process_queue.specs.Merge.{bios_at, shape_of, shape_at, same_op, has_room, may_join, joins, joins_at, merge_place}
-use Rattle.change_record.specs.Tables.{Tables}
-use Rattle.change_record.specs.Machine.{WholeRequest, meaning, whole_at}
-use Rattle.plain_machine.specs.Step.{shape, merge_in}
-use Rattle.dispatch_core.specs.WellFormed.{at}
 use Rattle.dispatch_core.proofs.QueueFacts.{whole_with}
 use Rattle.dispatch_core.proofs.Joins.{Reads, find_read_none, find_read_some, find_true, found_linked, chosen_none, chosen_back, chosen_front}
 

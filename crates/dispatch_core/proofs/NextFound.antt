@@ -4,19 +4,11 @@ use Rattle.std.specs.List.{filter_map, cons_option, find}
 use Rattle.std.specs.Option.{option_map, option_map_or, option_and_then}
 use Rattle.std.proofs.lemmas.Bool.Decides.{nat_tests}
 use Rattle.std.proofs.lemmas.List.Sums.{sum_by-cons}
-use Rattle.sector_core.specs.declared.bio.Bio.{Bio}
-use Rattle.request_pool.specs.declared.Request.{Request}
-use Rattle.process_queue.specs.declared.Link.{Link}
-use Rattle.process_queue.specs.declared.merge.Shape.{Shape}
-use Rattle.process_queue.specs.Queue.{queue_slots, first_in}
-use Rattle.process_queue.specs.Merge.{bios_at, shape_of, shape_at}
-use Rattle.process_queue.specs.Next.{starts, wanted, has_start, next_of, next_slot}
-use Rattle.change_record.specs.Tables.{Tables}
-use Rattle.change_record.specs.Machine.{WholeRequest, meaning, whole_at}
-use Rattle.plain_machine.specs.Step.{shape, range_of, size_of, next_request}
-use Rattle.plain_machine.specs.Step as plain
-use Rattle.dispatch_core.specs.WellFormed.{at}
-use Rattle.dispatch_core.specs.Ranges.{count_at, count_of_bio, total_count}
+use Rattle.dispatch_core.proofs.Words.{Bio, Request, Link, queue_slots, first_in, bios_at, shape_at, shape_of, starts, wanted, has_start, next_of, Tables, WholeRequest, meaning, whole_at, shape, range_of, size_of, at, count_at, count_of_bio, total_count}
+use Rattle.plain.specs.declared.shape.Shape.{Shape}
+use Rattle.process_queue.specs.Next.{next_slot}
+use Rattle.plain.specs.Steps.Dispatch.{next_request}
+use Rattle.plain.specs.Steps.Dispatch as plain
 use Rattle.dispatch_core.proofs.QueueFacts.{whole_with}
 use Rattle.dispatch_core.proofs.Joins.{Reads, find_read, find_true, found_linked}
 

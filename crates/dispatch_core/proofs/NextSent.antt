@@ -6,17 +6,8 @@ use Rattle.std.proofs.lemmas.Bool.{cases_eq, cond-true, cond-false}
 use Rattle.std.proofs.lemmas.List.{get_or-set_same, get_or-set_other}
 use Rattle.std.proofs.lemmas.List.Sums.{sum_by-set}
 use Rattle.std.proofs.lemmas.Option.{same_Some}
-use Rattle.request_pool.specs.declared.Request.{Request}
-use Rattle.tag_set.specs.declared.Issue.{Issue}
-use Rattle.process_queue.specs.declared.Link.{Link}
-use Rattle.process_queue.specs.Queue.{queue_slots}
-use Rattle.process_queue.specs.Merge.{bios_at, shape_at}
-use Rattle.process_queue.specs.Next.{has_start}
-use Rattle.change_record.specs.Tables.{Tables}
-use Rattle.change_record.specs.Machine.{meaning, whole_at, put}
-use Rattle.plain_machine.specs.Step.{Limits, shape, range_of, without_first}
-use Rattle.dispatch_core.specs.WellFormed.{at, one, bears, WellFormed, Placed}
-use Rattle.dispatch_core.specs.Changes.{sent_next_tables}
+use Rattle.dispatch_core.proofs.Words.{Request, Issue, Link, queue_slots, bios_at, shape_at, has_start, Tables, meaning, whole_at, put, Limits, shape, range_of, at, one, bears, WellFormed, Placed, sent_next_tables}
+use Rattle.plain.specs.Steps.Dispatch.{without_first}
 use Rattle.dispatch_core.proofs.QueueLists.{within_of, freed, kept_of, queue-taken_other}
 use Rattle.dispatch_core.proofs.Counts.{taken-set}
 use Rattle.dispatch_core.proofs.QueueFacts.{put_is, is_some_of, set_cases, whole_with, flight_of, borne}
@@ -94,12 +85,7 @@ module _ (l : Limits) (n : ℕ) (t : Tables) (seat slot tag head : ℕ) (request
           small_image = w.sized.small_image;
         };
         seated = record { early = λ k s h. let early = w.seated.early k s h in omega arith; apart = w.seated.apart; counted = w.seated.counted; left = w.seated.left };
-        kept = record {
-          bio = w.kept.bio;
-          request = λ k q e. let o = w.kept.request k q e in record { seat = o.seat; entry = o.entry; within = o.within; sits = o.sits; session = o.session; bios = o.bios; some_bios = o.some_bios };
-          outbox = w.kept.outbox;
-          once = w.kept.once;
-        };
+        kept = w.kept;
         placed = next-placed;
         ruled = ruled_of l t (sent_next_tables t n seat slot tag head) r (length-set t.heads seat head ∙ r.heads)
             (record { trees = r.sized.trees; parents = r.sized.parents; weights = r.sized.weights; budgets = r.sized.budgets; groups = r.sized.groups; seat = r.sized.seat }) r.bounded;

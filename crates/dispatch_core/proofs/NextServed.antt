@@ -1,24 +1,14 @@
 -- Dispatch under bfq: what the plain machine does at each of its ends.
 use Rattle.std.proofs.Common.{◌≡◌, ℕ, ◌+◌, Option, Some, None, true, false, cond, sym, ap, ◌∙◌, subst, arith, rules, List, Result, Ok, Err, IsErr, MatchResult}
 use Rattle.std.specs.Option.{option_map, option_and_then, is_none}
-use Rattle.sector_core.specs.declared.range.Range.{Range}
+use Rattle.dispatch_core.proofs.Words.{Range, Request, queue_slots, is_empty, bios_at, has_start, InService, Tables, WholeRequest, Bfq, Plain, put, meaning, whole_at, bfq_of, charge, expire, select, Limits, shape, range_of, at, WellFormed, sent_next_tables, first_start, total_count}
 use Rattle.sector_core.specs.Table.{IsFirstFree}
-use Rattle.request_pool.specs.declared.Request.{Request}
-use Rattle.process_queue.specs.Queue.{queue_slots, is_empty}
-use Rattle.process_queue.specs.Merge.{bios_at}
-use Rattle.process_queue.specs.Next.{next_slot, has_start}
-use Rattle.change_record.specs.declared.change.InService.{InService}
-use Rattle.change_record.specs.Tables.{Tables}
-use Rattle.change_record.specs.Machine.{WholeRequest, Bfq, Plain, meaning, whole_at, bfq_of, put}
-use Rattle.change_record.specs.declared.change.Expiry.TheVariants.{Emptying}
-use Rattle.change_record.specs.Rules.{charge, expire, select}
+use Rattle.process_queue.specs.Next.{next_slot}
+use Rattle.plain.specs.declared.seat.Expiry.TheVariants.{Emptying}
 use Rattle.bfq_select.specs.Service.{IsSized, IsBounded, OnlyServes}
-use Rattle.plain_machine.specs.declared.answer.Reply.{Reply}
-use Rattle.plain_machine.specs.declared.answer.Reply.TheVariants.{Issued}
-use Rattle.plain_machine.specs.Step.{Limits, shape, range_of, next_request, next_size, with_budget_in, with_slot, without_first, without_empty, sent_next, sent_in, sent_by_bfq}
-use Rattle.dispatch_core.specs.WellFormed.{at, WellFormed}
-use Rattle.dispatch_core.specs.Changes.{sent_next_tables}
-use Rattle.dispatch_core.specs.Ranges.{first_start, total_count}
+use Rattle.plain.specs.declared.answer.Reply.{Reply}
+use Rattle.plain.specs.declared.answer.Reply.TheVariants.{Issued}
+use Rattle.plain.specs.Steps.Dispatch.{next_request, next_size, with_budget_in, with_slot, without_first, without_empty, sent_next, sent_in, sent_by_bfq}
 use Rattle.dispatch_core.proofs.Sectors.{range_is, request_taken}
 use Rattle.dispatch_core.proofs.QueueLists.{queue_empty}
 use Rattle.dispatch_core.proofs.QueueFacts.{whole_with, linked_some}
@@ -40,7 +30,7 @@ sent_with m n tag seat r c = record m {
 abbrev sent_to : Plain → ℕ → ℕ → ℕ → WholeRequest → Bfq → Plain × Reply
 sent_to m n tag seat r c = (sent_with m n tag seat r c, Issued tag n r.op (range_of r.bios))
 
-module _ (l : Limits) (m : Plain) (n tag : ℕ) (b : Bfq) (slot : InService) (serves : b.slot ≡ Some slot) where
+module _ (l : Limits) (m : Plain) (n tag : ℕ) (b : Bfq) (slot : InService) (serves : b.in_service ≡ Some slot) where
   -- a queue in service without a next request sends nothing
   pub next_lacks : next_request m slot.seat ≡ None → sent_in l m n tag b ≡ None
   next_lacks none =
@@ -78,7 +68,7 @@ module _ (l : Limits) (m : Plain) (n tag : ℕ) (b : Bfq) (slot : InService) (se
           ∙ ap (option_map (sent_to m n tag slot.seat r)) expires
 
 -- the request of the queue in service that is next, and a free tag
-module _ (l : Limits) (n tag : ℕ) (t : Tables) (slot : InService) (place : ℕ) (request : Request) (w : WellFormed l n t) (serves : t.slot ≡ Some slot)
+module _ (l : Limits) (n tag : ℕ) (t : Tables) (slot : InService) (place : ℕ) (request : Request) (w : WellFormed l n t) (serves : t.in_service ≡ Some slot)
     (found : next_slot t.requests t.bios (queue_slots slot.seat t.links) ((meaning t).head slot.seat) ≡ Some place) (here : at t.requests place ≡ Some request)
     (free : IsFirstFree t.tags tag) where
   -- as the plain machine has it
@@ -103,7 +93,7 @@ module _ (l : Limits) (n tag : ℕ) (t : Tables) (slot : InService) (place : ℕ
       (out : Tables) (taken : out ≡ sent_next_tables charged n slot.seat place tag head) where
     -- the tables with what the charge has changed
     abbrev known : Tables
-    known = record t { trees = charged.trees; budgets = charged.budgets; slot = charged.slot }
+    known = record t { trees = charged.trees; budgets = charged.budgets; in_service = charged.in_service }
 
     -- they hold together
     known_well : WellFormed l n known
@@ -179,7 +169,7 @@ module _ (l : Limits) (n tag : ℕ) (t : Tables) (slot : InService) (place : ℕ
         -- the machine then holds together
         pub last_well : expire Emptying l.max_budget false (bfq_of out) ≡ Some (bfq_of last) → WellFormed l (n + 1) last
         last_well expires = served-well l (n + 1) out last last_others served_well last_sized last_bounded
-            (no_slot_young (n + 1) last.slot (expire_slot Emptying l.max_budget false (bfq_of out) (bfq_of last) expires))
+            (no_slot_young (n + 1) last.in_service (expire_slot Emptying l.max_budget false (bfq_of out) (bfq_of last) expires))
 
 -- the rules before it
 module _ (l : Limits) (n tag : ℕ) (t : Tables) where
@@ -192,16 +182,16 @@ module _ (l : Limits) (n tag : ℕ) (t : Tables) where
   same_sent u b others = ap (λ m. sent_in l m n tag b) (served-meaning t u others)
 
   -- where no room could be made nothing is sent
-  pub bfq_full : with_budget_in l (meaning t) t.slot ≡ None → sent_by_bfq l (meaning t) n tag ≡ None
+  pub bfq_full : with_budget_in l (meaning t) t.in_service ≡ None → sent_by_bfq l (meaning t) n tag ≡ None
   bfq_full none = ap (option_and_then (λ b. sent_in l (meaning t) n tag (with_slot b))) none
 
-  module _ (b c : Bfq) (made : with_budget_in l (meaning t) t.slot ≡ Some b) (chosen : with_slot b ≡ c) where
+  module _ (b c : Bfq) (made : with_budget_in l (meaning t) t.in_service ≡ Some b) (chosen : with_slot b ≡ c) where
     -- room was made, and a queue chosen
     by_slot : sent_by_bfq l (meaning t) n tag ≡ sent_in l (meaning t) n tag c
     by_slot = ap (option_and_then (λ b. sent_in l (meaning t) n tag (with_slot b))) made ∙ ap (sent_in l (meaning t) n tag) chosen
 
     -- nor where no queue is in service
-    pub bfq_idle : c.slot ≡ None → sent_by_bfq l (meaning t) n tag ≡ None
+    pub bfq_idle : c.in_service ≡ None → sent_by_bfq l (meaning t) n tag ≡ None
     bfq_idle none = by_slot ∙ ap (option_and_then (λ (s : InService). option_and_then (sent_next l (meaning t) n tag c s.seat) (next_request (meaning t) s.seat))) none
 
     -- else the next request of that queue is
@@ -221,9 +211,9 @@ refused_by P Q (Ok a) e q = absurd (search rules)
 refused_by P Q (Err w) e q = q
 
 -- a slot that is there is kept
-pub slot_kept : (b : Bfq) → is_none b.slot ≡ false → with_slot b ≡ b
+pub slot_kept : (b : Bfq) → is_none b.in_service ≡ false → with_slot b ≡ b
 slot_kept b there = ap (λ e. cond e (select b) b) there
 
 -- and else a queue is selected
-pub slot_chosen : (b : Bfq) → is_none b.slot ≡ true → with_slot b ≡ select b
+pub slot_chosen : (b : Bfq) → is_none b.in_service ≡ true → with_slot b ≡ select b
 slot_chosen b none = ap (λ e. cond e (select b) b) none

@@ -5,74 +5,71 @@ use Rattle.std.specs.Option.{option_map_or, option_and_then}
 use Rattle.std.proofs.lemmas.Option.{same_Some}
 use Rattle.std.proofs.lemmas.List.Elements.{All-head, All-tail}
 use Rattle.sector_core.specs.declared.class.Class.{Class}
-use Rattle.service_tree.specs.Members.{least_start}
-use Rattle.group_tree.specs.Groups.{path}
-use Rattle.change_record.specs.declared.change.InService.{InService}
-use Rattle.change_record.specs.Tables.{Tables}
-use Rattle.change_record.specs.Machine.{Bfq, WholeRequest, Plain, meaning, bfq_of}
+use Rattle.plain.specs.Members.{least_start}
+use Rattle.plain.specs.Groups.{path}
+use Rattle.dispatch_core.proofs.Words.{InService, Tables, Bfq, WholeRequest, Plain, meaning, bfq_of, starts, wanted, has_start, top, put_vtime, group_of, along, finish_from, stamped, stamp, picked, jumped, in_service, on_pick, select, risen, charge_one, served_more, charge, ended, is_backlogged, rested, expire_one, out_of_service, expire, chosen_in, class_in, class_of, on_class, service_in, shape, size_of}
+use Rattle.plain.specs.Rules.{select_from}
 use Rattle.bfq_select.specs.Service.{OnlyServes}
 use Rattle.dispatch_core.proofs.Ruling.{IsYoung, served-meaning}
-use Rattle.process_queue.specs.Next.{starts, wanted, has_start}
-use Rattle.change_record.specs.declared.change.Expiry.{Expiry}
-use Rattle.change_record.specs.Rules.{top, put_vtime, group_of, along, finish_from, stamped, stamp, picked, jumped, in_service, on_pick, taken, select_from, select, risen, charge_one, served_more, charge, ended, is_backlogged, rested, expire_one, out_of_service, expire}
-use Rattle.plain_machine.specs.Step.{shape, size_of, next_request, next_size}
-use Rattle.plain_machine.specs.Whole.{IsWhole, AreWhole}
-use Rattle.change_record.specs.Rules.{chosen_in, class_in, class_of, on_class, service_in}
+use Rattle.plain.specs.declared.seat.Expiry.{Expiry}
+use Rattle.plain.specs.Rules.{taken}
+use Rattle.plain.specs.Steps.Dispatch.{next_request, next_size}
+use Rattle.plain_laws.specs.Whole.{IsWhole, AreWhole}
 
 -- a stamp leaves the slot
-stamp_slot : (start entity : ℕ) (b c : Bfq) → stamp start entity b ≡ Some c → c.slot ≡ b.slot
+stamp_slot : (start entity : ℕ) (b c : Bfq) → stamp start entity b ≡ Some c → c.in_service ≡ b.in_service
 stamp_slot start entity b c e =
-    elim (nat_le (finish_from start entity b) top) as (λ t. cond t (Some (stamped start entity b)) None ≡ Some c → c.slot ≡ b.slot) [
-      | true ↦ λ f. ap (λ (x : Bfq). x.slot) (sym (same_Some (stamped start entity b) c f))
+    elim (nat_le (finish_from start entity b) top) as (λ t. cond t (Some (stamped start entity b)) None ≡ Some c → c.in_service ≡ b.in_service) [
+      | true ↦ λ f. ap (λ (x : Bfq). x.in_service) (sym (same_Some (stamped start entity b) c f))
       | false ↦ λ f. cc
     ] e
 
 -- and so does an entity that leaves the service
-expire_one_slot : (service : ℕ) (queued : Bool) (entity : ℕ) (b c : Bfq) → expire_one service queued entity b ≡ Some c → c.slot ≡ b.slot
+expire_one_slot : (service : ℕ) (queued : Bool) (entity : ℕ) (b c : Bfq) → expire_one service queued entity b ≡ Some c → c.in_service ≡ b.in_service
 expire_one_slot service queued entity b c e =
     let finish : ℕ = ended service entity b in
-    elim (nat_le finish top) as (λ t. cond t (cond (is_backlogged queued entity b) (stamp finish entity b) (Some (rested finish entity b))) None ≡ Some c → c.slot ≡ b.slot) [
-      | true ↦ λ f. elim (is_backlogged queued entity b) as (λ t. cond t (stamp finish entity b) (Some (rested finish entity b)) ≡ Some c → c.slot ≡ b.slot) [
+    elim (nat_le finish top) as (λ t. cond t (cond (is_backlogged queued entity b) (stamp finish entity b) (Some (rested finish entity b))) None ≡ Some c → c.in_service ≡ b.in_service) [
+      | true ↦ λ f. elim (is_backlogged queued entity b) as (λ t. cond t (stamp finish entity b) (Some (rested finish entity b)) ≡ Some c → c.in_service ≡ b.in_service) [
         | true ↦ λ g. stamp_slot finish entity b c g
-        | false ↦ λ g. ap (λ (x : Bfq). x.slot) (sym (same_Some (rested finish entity b) c g))
+        | false ↦ λ g. ap (λ (x : Bfq). x.in_service) (sym (same_Some (rested finish entity b) c g))
       ] f
       | false ↦ λ f. cc
     ] e
 
 -- a rule that leaves the slot at each entity leaves it along a path
-along_slot : (rule : ℕ → Bfq → Option Bfq) → ((entity : ℕ) (b c : Bfq) → rule entity b ≡ Some c → c.slot ≡ b.slot) → (entities : List ℕ) (b c : Bfq) → along rule entities b ≡ Some c → c.slot ≡ b.slot
-along_slot rule keeps [] b c e = ap (λ (x : Bfq). x.slot) (sym (same_Some b c e))
+along_slot : (rule : ℕ → Bfq → Option Bfq) → ((entity : ℕ) (b c : Bfq) → rule entity b ≡ Some c → c.in_service ≡ b.in_service) → (entities : List ℕ) (b c : Bfq) → along rule entities b ≡ Some c → c.in_service ≡ b.in_service
+along_slot rule keeps [] b c e = ap (λ (x : Bfq). x.in_service) (sym (same_Some b c e))
 along_slot rule keeps (entity ∷ entities) b c e =
-    elim (rule entity b) as (λ o. rule entity b ≡ o → option_and_then (along rule entities) o ≡ Some c → c.slot ≡ b.slot) [
+    elim (rule entity b) as (λ o. rule entity b ≡ o → option_and_then (along rule entities) o ≡ Some c → c.in_service ≡ b.in_service) [
       | None ↦ λ _ f. cc
       | Some d ↦ λ first f. along_slot rule keeps entities d c f ∙ keeps entity b d first
     ] refl e
 
 -- no queue is in service after one has expired
-pub expire_slot : (cause : Expiry) (most : ℕ) (queued : Bool) (b c : Bfq) → expire cause most queued b ≡ Some c → c.slot ≡ None
+pub expire_slot : (cause : Expiry) (most : ℕ) (queued : Bool) (b c : Bfq) → expire cause most queued b ≡ Some c → c.in_service ≡ None
 expire_slot cause most queued b c e =
-    elim b.slot as (λ o. option_and_then (λ (slot : InService). along (expire_one slot.service queued) (path b.parent slot.seat) (out_of_service cause most slot b)) o ≡ Some c → c.slot ≡ None) [
+    elim b.in_service as (λ o. option_and_then (λ (slot : InService). along (expire_one slot.service queued) (path b.parent slot.seat) (out_of_service cause most slot b)) o ≡ Some c → c.in_service ≡ None) [
       | None ↦ λ f. cc
       | Some slot ↦ λ f. along_slot (expire_one slot.service queued) (expire_one_slot slot.service queued) (path b.parent slot.seat) (out_of_service cause most slot b) c f
     ] e
 
 -- a charge leaves the slot at each entity
-charge_one_slot : (sectors entity : ℕ) (b c : Bfq) → charge_one sectors entity b ≡ Some c → c.slot ≡ b.slot
+charge_one_slot : (sectors entity : ℕ) (b c : Bfq) → charge_one sectors entity b ≡ Some c → c.in_service ≡ b.in_service
 charge_one_slot sectors entity b c e =
     let vtime : ℕ = risen sectors (group_of b entity) (class_of b entity) b in
-    elim (nat_le vtime top) as (λ t. cond t (Some (put_vtime (group_of b entity) (class_of b entity) vtime b)) None ≡ Some c → c.slot ≡ b.slot) [
-      | true ↦ λ f. ap (λ (x : Bfq). x.slot) (sym (same_Some (put_vtime (group_of b entity) (class_of b entity) vtime b) c f))
+    elim (nat_le vtime top) as (λ t. cond t (Some (put_vtime (group_of b entity) (class_of b entity) vtime b)) None ≡ Some c → c.in_service ≡ b.in_service) [
+      | true ↦ λ f. ap (λ (x : Bfq). x.in_service) (sym (same_Some (put_vtime (group_of b entity) (class_of b entity) vtime b) c f))
       | false ↦ λ f. cc
     ] e
 
 -- the queue in service is as old after a charge as before
-pub charge_young : (sectors n : ℕ) (b c : Bfq) → charge sectors b ≡ Some c → IsYoung n b.slot → IsYoung n c.slot
+pub charge_young : (sectors n : ℕ) (b c : Bfq) → charge sectors b ≡ Some c → IsYoung n b.in_service → IsYoung n c.in_service
 charge_young sectors n b c e young =
-    elim b.slot as (λ o. b.slot ≡ o → option_and_then (λ (slot : InService). along (charge_one sectors) (path b.parent slot.seat) (served_more sectors slot b)) o ≡ Some c → IsYoung n c.slot) [
+    elim b.in_service as (λ o. b.in_service ≡ o → option_and_then (λ (slot : InService). along (charge_one sectors) (path b.parent slot.seat) (served_more sectors slot b)) o ≡ Some c → IsYoung n c.in_service) [
       | None ↦ λ _ f. cc
       | Some slot ↦ λ is f s g.
           let more : InService = record slot { service = slot.service + sectors } in
-          let kept : c.slot ≡ Some more = along_slot (charge_one sectors) (charge_one_slot sectors) (path b.parent slot.seat) (served_more sectors slot b) c f in
+          let kept : c.in_service ≡ Some more = along_slot (charge_one sectors) (charge_one_slot sectors) (path b.parent slot.seat) (served_more sectors slot b) c f in
           let age : slot.age ≡ s.age = ap (λ (x : InService). x.age) (same_Some more s (sym kept ∙ g)) in
           let before : slot.age < n = young slot is in
           omega (arith, age, before)
@@ -87,21 +84,21 @@ abbrev IsFresh : Option InService → Type 0
 IsFresh o = (slot : InService) → o ≡ Some slot → (slot.service ≡ 0) × (slot.age ≡ 0)
 
 -- a jump of the virtual time leaves the slot
-jumped_slot : (group : ℕ) (class : Class) (b : Bfq) → (jumped group class b).slot ≡ b.slot
+jumped_slot : (group : ℕ) (class : Class) (b : Bfq) → (jumped group class b).in_service ≡ b.in_service
 jumped_slot group class b =
-    elim (is_some (picked b group class)) as (λ t. (let c : Bfq = cond t b (option_map_or (λ start. put_vtime group class start b) (least_start (service_in b group class).members) b) in c.slot) ≡ b.slot) [
+    elim (is_some (picked b group class)) as (λ t. (let c : Bfq = cond t b (option_map_or (λ start. put_vtime group class start b) (least_start (service_in b group class).members) b) in c.in_service) ≡ b.in_service) [
       | true ↦ refl
-      | false ↦ elim (least_start (service_in b group class).members) as (λ o. (let c : Bfq = option_map_or (λ start. put_vtime group class start b) o b in c.slot) ≡ b.slot) [
+      | false ↦ elim (least_start (service_in b group class).members) as (λ o. (let c : Bfq = option_map_or (λ start. put_vtime group class start b) o b in c.in_service) ≡ b.in_service) [
         | None ↦ refl
         | Some start ↦ refl
       ]
     ]
 
 -- what is taken is fresh, where the levels below leave it so
-taken_fresh : (choose : ℕ → Bfq → Bfq) → ((h : ℕ) (c : Bfq) → IsFresh c.slot → IsFresh (choose h c).slot) → (group : ℕ) (b : Bfq) (entity : ℕ) → IsFresh b.slot
-    → IsFresh (taken choose group b entity).slot
+taken_fresh : (choose : ℕ → Bfq → Bfq) → ((h : ℕ) (c : Bfq) → IsFresh c.in_service → IsFresh (choose h c).in_service) → (group : ℕ) (b : Bfq) (entity : ℕ) → IsFresh b.in_service
+    → IsFresh (taken choose group b entity).in_service
 taken_fresh choose keeps group b entity fresh =
-    elim (nat_lt entity 16) as (λ t. IsFresh (let c : Bfq = cond t (record (in_service group entity b) { slot = Some (record { seat = entity; service = 0; age = 0 }) }) (choose (entity - 16) (in_service group entity b)) in c.slot)) [
+    elim (nat_lt entity 16) as (λ t. IsFresh (let c : Bfq = cond t (record (in_service group entity b) { in_service = Some (record { seat = entity; service = 0; age = 0 }) }) (choose (entity - 16) (in_service group entity b)) in c.in_service)) [
       | true ↦ λ slot e.
           let new : InService = record { seat = entity; service = 0; age = 0 } in
           let same : new ≡ slot = same_Some new slot e in
@@ -110,31 +107,31 @@ taken_fresh choose keeps group b entity fresh =
     ]
 
 -- so is what follows a pick
-on_pick_fresh : (found : Option ℕ) (b : Bfq) (next : ℕ → Bfq) → IsFresh b.slot → ((entity : ℕ) → IsFresh (next entity).slot) → IsFresh (on_pick found b next).slot
+on_pick_fresh : (found : Option ℕ) (b : Bfq) (next : ℕ → Bfq) → IsFresh b.in_service → ((entity : ℕ) → IsFresh (next entity).in_service) → IsFresh (on_pick found b next).in_service
 on_pick_fresh None b next fresh each = fresh
 on_pick_fresh (Some entity) b next fresh each = each entity
 
-on_class_fresh : (found : Option Class) (b : Bfq) (next : Class → Bfq) → IsFresh b.slot → ((class : Class) → IsFresh (next class).slot) → IsFresh (on_class found b next).slot
+on_class_fresh : (found : Option Class) (b : Bfq) (next : Class → Bfq) → IsFresh b.in_service → ((class : Class) → IsFresh (next class).in_service) → IsFresh (on_class found b next).in_service
 on_class_fresh None b next fresh each = fresh
 on_class_fresh (Some class) b next fresh each = each class
 
 -- and what so many levels choose
-select_from_fresh : (levels group : ℕ) (b : Bfq) → IsFresh b.slot → IsFresh (select_from levels group b).slot
+select_from_fresh : (levels group : ℕ) (b : Bfq) → IsFresh b.in_service → IsFresh (select_from levels group b).in_service
 unfolding select_from
 select_from_fresh zero group b fresh = fresh
 select_from_fresh (suc levels) group b fresh =
     let choose : ℕ → Bfq → Bfq = λ h d. select_from levels h d in
     on_class_fresh (class_in b group) b (chosen_in choose group b) fresh (λ class.
     let c : Bfq = jumped group class b in
-    let still : IsFresh c.slot = λ slot e. fresh slot (sym (jumped_slot group class b) ∙ e) in
+    let still : IsFresh c.in_service = λ slot e. fresh slot (sym (jumped_slot group class b) ∙ e) in
     on_pick_fresh (picked c group class) c (taken choose group c) still (λ entity. taken_fresh choose (λ h d. select_from_fresh levels h d) group c entity still))
 
 -- a queue that was selected has been served nothing yet
-pub select_fresh : (b : Bfq) (slot : InService) → b.slot ≡ None → (select b).slot ≡ Some slot → slot.service ≡ 0
+pub select_fresh : (b : Bfq) (slot : InService) → b.in_service ≡ None → (select b).in_service ≡ Some slot → slot.service ≡ 0
 select_fresh b slot none e = (select_from_fresh 5 0 b (λ s f. cc) slot e).0
 
 -- and is young
-pub select_young : (n : ℕ) (b : Bfq) → 1 ≤ n → b.slot ≡ None → IsYoung n (select b).slot
+pub select_young : (n : ℕ) (b : Bfq) → 1 ≤ n → b.in_service ≡ None → IsYoung n (select b).in_service
 select_young n b first none slot e =
     let age : slot.age ≡ 0 = (select_from_fresh 5 0 b (λ s f. cc) slot e).1 in
     omega (arith, age, first)

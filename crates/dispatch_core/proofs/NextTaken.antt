@@ -2,10 +2,8 @@
 use Rattle.std.proofs.Common.{◌≡◌, ◌≢◌, ℕ, List, [], ◌∷◌, map, Option, Some, None, Bool, true, false, cond, nat_lt, set, get_or, refl, sym, ap, ◌∙◌, arith, length-set}
 use Rattle.std.specs.List.{filter_map, cons_option, find, AllByRecursion}
 use Rattle.std.specs.Option.{option_map_or}
-use Rattle.process_queue.specs.declared.Link.{Link}
-use Rattle.process_queue.specs.Queue.{insert_in, placed, queue_slots}
-use Rattle.plain_machine.specs.Step.{without_first}
-use Rattle.dispatch_core.specs.WellFormed.{at}
+use Rattle.dispatch_core.proofs.Words.{Link, insert_in, placed, queue_slots, at}
+use Rattle.plain.specs.Steps.Dispatch.{without_first}
 use Rattle.dispatch_core.proofs.Joins.{Reads, find_true, found_linked}
 use Rattle.dispatch_core.proofs.QueueLists.{Unlike, within_of, put_back, freed, kept_of, placed-put_here, each_queued}
 

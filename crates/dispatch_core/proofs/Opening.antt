@@ -12,23 +12,12 @@ use Rattle.dispatch_core.proofs.Queues.{no_flight}
 use Rattle.std.proofs.Math.Path.{fun_ext}
 use Rattle.std.specs.FinMap as map
 use Rattle.arrayvec.specs.ArrayVec.{ArrayVec}
-use Rattle.sector_core.specs.declared.bio.Bio.{Bio}
+use Rattle.dispatch_core.proofs.Words.{Bio, Request, Issue, Link, placed, Seat, empty_tables, empty_service, Limits, opening, opening_bfq, Member, bios_at, Bfq, bfq_of, meaning, outbox_at, whole_at, at, one, times, named, bears, IsCompleted, WellFormed, Ruled, Classes, same_times, time_of}
 use Rattle.sector_core.specs.declared.class.Class.{Class}
-use Rattle.request_pool.specs.declared.Request.{Request}
-use Rattle.tag_set.specs.declared.Issue.{Issue}
-use Rattle.process_queue.specs.declared.Link.{Link}
-use Rattle.process_queue.specs.Queue.{placed}
-use Rattle.change_record.specs.declared.change.Seat.{Seat}
-use Rattle.change_record.specs.Tables.{empty_tables, empty_service}
 use Rattle.change_record.specs.declared.change.Making.{Making}
-use Rattle.service_tree.specs.declared.member.Member.{Member}
 use Rattle.bfq_select.specs.Service.{IsBounded}
-use Rattle.plain_machine.specs.Step.{Limits, opening, opening_bfq}
-use Rattle.process_queue.specs.Merge.{bios_at}
-use Rattle.change_record.specs.Machine.{Bfq, bfq_of, meaning, outbox_at, whole_at}
-use Rattle.dispatch_core.specs.WellFormed.{at, one, taken, times, named, bears, IsCompleted, WellFormed, Ruled}
-use Rattle.class_trees.specs.Classes.{Classes, same_times, time_of}
-use Rattle.class_trees.proofs.Times.{same_most}
+use Rattle.dispatch_core.specs.WellFormed.{taken}
+use Rattle.class_laws.proofs.Times.{same_most}
 
 at-replicate : {A : Type 0} (n k : ℕ) → at (replicate {A = Option A} n None) k ≡ None
 at-replicate zero k = refl
@@ -129,7 +118,7 @@ bfq_opening l i = record {
   service = fun_ext {f = (bfq_of (empty_tables (for_limits l))).service} {g = (opening_bfq l).service} (λ k. get-replicate 32 (empty_service l.first_vtime) (record { vtimes = same_times 0; members = [] }) k) i;
   pending = fun_ext {f = (bfq_of (empty_tables (for_limits l))).pending} {g = λ _. 1} weights_one i;
   budget = fun_ext {f = (bfq_of (empty_tables (for_limits l))).budget} {g = (opening_bfq l).budget} (λ k. get-replicate_two 16 32 l.first_budget l.max_budget 256 k) i;
-  slot = None;
+  in_service = None;
 }
 
 pub opening_is : (l : Limits) → meaning (empty_tables (for_limits l)) ≡ opening l

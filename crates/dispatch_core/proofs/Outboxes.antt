@@ -1,10 +1,7 @@
 -- An outbox has no more bios than its seat has slots.
 use Rattle.std.proofs.Common.{◌≡◌, inl, inr, ℕ, ◌+◌, ◌*◌, ◌<◌, ◌≤◌, [], length, sum_by, ap, arith}
 use Rattle.std.proofs.lemmas.Bool.{cases_lt}
-use Rattle.change_record.specs.Tables.{Tables}
-use Rattle.change_record.specs.Machine.{meaning, outbox_at}
-use Rattle.plain_machine.specs.Step.{Limits}
-use Rattle.dispatch_core.specs.WellFormed.{at, one, times, WellFormed, IsSlotOf}
+use Rattle.dispatch_core.proofs.Words.{Tables, meaning, outbox_at, Limits, at, one, times, WellFormed, IsSlotOf}
 use Rattle.dispatch_core.proofs.Counts.{one-le}
 use Rattle.dispatch_core.proofs.Keeping.{by_request, by_outbox, outbox_named, outbox_past}
 use Rattle.dispatch_core.proofs.Looks.{length-outbox}

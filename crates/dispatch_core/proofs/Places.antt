@@ -3,20 +3,10 @@ use Rattle.std.specs.Prelude.{slice_get}
 use Rattle.std.proofs.Common.{◌≡◌, ℕ, zero, suc, ◌+◌, ◌<◌, ◌≤◌, ◌^◌, List, [], ◌∷◌, length, map, Option, Some, None, true, false, cond, IsSome, ◌==◌, nat_lt, refl, sym, ap, ◌∙◌, arith}
 use Rattle.std.specs.List.{filter_map, cons_option, AllByRecursion}
 use Rattle.std.specs.Option.{option_map}
-use Rattle.sector_core.specs.declared.range.Range.{Range}
-use Rattle.request_pool.specs.declared.Request.{Request}
-use Rattle.process_queue.specs.declared.Link.{Link}
-use Rattle.process_queue.specs.Queue.{insert_in, nth_slot, placed}
-use Rattle.change_record.specs.Tables.{Tables}
-use Rattle.process_queue.specs.Merge.{bios_at}
-use Rattle.change_record.specs.Machine.{WholeRequest, meaning, whole_at}
-use Rattle.change_record.specs.declared.change.Seat.{Seat}
-use Rattle.plain_machine.specs.Step.{Limits, range_of}
-use Rattle.plain_machine.specs.Queued.{view_in, view_at, request_view}
-use Rattle.plain_machine.specs.declared.view.RequestView.{RequestView}
-use Rattle.plain_machine.specs.declared.view.RequestView.TheVariants.{Past, Queued}
-use Rattle.dispatch_core.specs.WellFormed.{at, WellFormed}
-use Rattle.dispatch_core.specs.Ranges.{first_start, total_count}
+use Rattle.dispatch_core.proofs.Words.{Range, Request, Link, insert_in, nth_slot, placed, Tables, bios_at, WholeRequest, meaning, whole_at, Seat, Limits, range_of, at, WellFormed, first_start, total_count}
+use Rattle.plain.specs.Looks.{view_in, view_at, request_view}
+use Rattle.plain.specs.declared.view.RequestView.{RequestView}
+use Rattle.plain.specs.declared.view.RequestView.TheVariants.{Past, Queued}
 use Rattle.dispatch_core.proofs.QueueFacts.{linked_some, whole_with}
 use Rattle.dispatch_core.proofs.QueueLists.{each_queued, queue_length}
 use Rattle.dispatch_core.proofs.Sectors.{range_is, request_taken}

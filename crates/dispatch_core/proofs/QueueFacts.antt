@@ -7,18 +7,8 @@ use Rattle.std.proofs.lemmas.Bool.{cases_eq, cond-true, cond-false}
 use Rattle.std.proofs.lemmas.List.{get_or-set_same, get_or-set_other, length-set}
 use Rattle.std.proofs.lemmas.List.Sums.{sum_by-cons, sum_by-set, get_or-le-sum_by, sum-map}
 use Rattle.arrayvec.specs.ArrayVec.{ArrayVec}
-use Rattle.sector_core.specs.declared.bio.Bio.{Bio}
-use Rattle.request_pool.specs.declared.Request.{Request}
-use Rattle.tag_set.specs.declared.Issue.{Issue}
-use Rattle.process_queue.specs.declared.Link.{Link}
-use Rattle.process_queue.specs.Queue.{placed, queue_slots}
-use Rattle.soft_queue.specs.Turn.{numbers}
-use Rattle.change_record.specs.Tables.{Tables}
-use Rattle.process_queue.specs.Merge.{bios_at}
-use Rattle.change_record.specs.Machine.{WholeRequest, Flight, meaning, whole_at, outbox_at, put}
-use Rattle.plain_machine.specs.Step.{Limits, queued, in_flight}
-use Rattle.dispatch_core.specs.WellFormed.{at, one, taken, times, bears, Kept, Placed}
-use Rattle.dispatch_core.specs.Changes.{with_bios}
+use Rattle.dispatch_core.proofs.Words.{Bio, Request, Issue, Link, placed, queue_slots, numbers, Tables, bios_at, WholeRequest, Flight, put, meaning, whole_at, outbox_at, Limits, queued, in_flight, at, one, times, bears, Kept, Placed, with_bios}
+use Rattle.dispatch_core.specs.WellFormed.{taken}
 use Rattle.dispatch_core.proofs.QueueLists.{within_of, queue_length}
 use Rattle.dispatch_core.proofs.Counts.{one-le, sum_agree, lengths_from, count_numbers}
 

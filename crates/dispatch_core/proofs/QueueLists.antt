@@ -4,9 +4,7 @@ use Rattle.std.specs.List.{filter_map, cons_option, find, AllByRecursion}
 use Rattle.std.proofs.lemmas.Bool.{cases_lt, cases_eq, cond-true, cond-false}
 use Rattle.std.proofs.lemmas.List.{map-append, length-map, set-set, set-get_or, get_or-set_same, get_or-set_other, length-set, get_or_past}
 use Rattle.std.proofs.lemmas.List.Elements.{filter_map-append}
-use Rattle.process_queue.specs.declared.Link.{Link}
-use Rattle.soft_queue.specs.Turn.{numbers}
-use Rattle.process_queue.specs.Queue.{insert_in, placed, queue_slots, first_in, first_slot, is_empty}
+use Rattle.dispatch_core.proofs.Words.{Link, numbers, first_in, is_empty, insert_in, placed, queue_slots, first_slot}
 
 -- an entry is put behind an earlier one
 insert_past : (e x : ℕ × ℕ) (xs : List (ℕ × ℕ)) → x.0 < e.0 → insert_in e (x ∷ xs) ≡ x ∷ insert_in e xs

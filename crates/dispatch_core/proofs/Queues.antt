@@ -8,24 +8,12 @@ use Rattle.std.proofs.lemmas.Option.{same_Some}
 use Rattle.std.proofs.lemmas.List.Elements.{All-from_recursion, recursion_from_All, All-append, All-drop, All-take}
 use Rattle.std.proofs.lemmas.List.Sums.{sum_by-set}
 use Rattle.std.specs.Option.{option_map, is_none}
-use Rattle.sector_core.specs.declared.range.Range.{Range}
-use Rattle.sector_core.specs.declared.bio.Op.{Op}
-use Rattle.sector_core.specs.declared.bio.Bio.{Bio}
-use Rattle.sector_core.specs.declared.bio.Outcome.{Outcome}
+use Rattle.dispatch_core.proofs.Words.{Range, Op, Bio, Outcome, Request, Issue, Link, queue_slots, first_slot, first_in, is_empty, numbers, seats, Seat, Tables, bios_at, WholeRequest, Flight, put, meaning, whole_at, Limits, requests_of, with_unreaped, at, one, bears, WellFormed, Placed, IsQueued, attached_tables, submitted_tables, reaped_tables, sent_tables, finished_tables}
 use Rattle.sector_core.specs.Table.{AllTaken, IsFirstFree}
 use Rattle.sector_core.specs.declared.class.Class.{Class}
-use Rattle.request_pool.specs.declared.Request.{Request}
-use Rattle.tag_set.specs.declared.Issue.{Issue}
-use Rattle.process_queue.specs.declared.Link.{Link}
-use Rattle.process_queue.specs.Queue.{queue_slots, first_in, first_slot, is_empty}
-use Rattle.soft_queue.specs.Turn.{numbers, seats, is_waiting, next_seat}
-use Rattle.change_record.specs.declared.change.Seat.{Seat}
-use Rattle.change_record.specs.Tables.{Tables}
-use Rattle.process_queue.specs.Merge.{bios_at}
-use Rattle.change_record.specs.Machine.{WholeRequest, Flight, meaning, whole_at, put}
-use Rattle.plain_machine.specs.Step.{Limits, requests_of, next_queue, lowest_free, with_unreaped}
-use Rattle.dispatch_core.specs.WellFormed.{at, one, taken, bears, WellFormed, Placed, IsQueued}
-use Rattle.dispatch_core.specs.Changes.{attached_tables, submitted_tables, reaped_tables, sent_tables, finished_tables}
+use Rattle.soft_queue.specs.Turn.{is_waiting, next_seat}
+use Rattle.plain.specs.Steps.Dispatch.{next_queue, lowest_free}
+use Rattle.dispatch_core.specs.WellFormed.{taken}
 use Rattle.dispatch_core.proofs.Sides.{CanAttach, CanSubmit, CanReap, CanSend, CanFinish}
 use Rattle.dispatch_core.proofs.QueueLists.{within_of, freed, kept_of, same_queue, queue-put_last, queue-put_other, queue-taken_first, queue-taken_other, first_linked, queue_empty, find_agree, find_first, find_none, find_passes}
 use Rattle.dispatch_core.proofs.Counts.{taken_all, taken_less, taken-set}

@@ -4,16 +4,9 @@ use Rattle.std.specs.Prelude.{All, sum_by}
 use Rattle.std.specs.Option.{option_map, option_map_or}
 use Rattle.std.proofs.lemmas.Bool.{cases_eq, cases_lt}
 use Rattle.std.proofs.lemmas.List.Elements.{All-head, All-tail, All-same}
-use Rattle.sector_core.specs.declared.bio.Bio.{Bio}
-use Rattle.request_pool.specs.declared.Request.{Request}
-use Rattle.change_record.specs.declared.change.Seat.{Seat}
-use Rattle.change_record.specs.Tables.{Tables}
-use Rattle.process_queue.specs.Merge.{bios_at}
-use Rattle.change_record.specs.Machine.{meaning, outbox_at, put}
-use Rattle.plain_machine.specs.Step.{Limits, with_unreaped, unreaped}
-use Rattle.dispatch_core.specs.WellFormed.{at, one, taken, times, named, WellFormed, Seated, Kept, IsSlotOf, IsCompleted, IsOwned}
+use Rattle.dispatch_core.proofs.Words.{Bio, Request, Seat, Tables, bios_at, meaning, outbox_at, put, Limits, with_unreaped, unreaped, at, one, times, named, WellFormed, Seated, Kept, IsSlotOf, IsCompleted, IsOwned, reaped_tables}
+use Rattle.dispatch_core.specs.WellFormed.{taken}
 use Rattle.request_pool.specs.Slots.{seat_slots}
-use Rattle.dispatch_core.specs.Changes.{reaped_tables}
 use Rattle.dispatch_core.proofs.Sides.{CanReap}
 use Rattle.dispatch_core.proofs.Times.{Apart, Apart_from_times, set_cases, at_within, same, same_is, same_not, times-cons, bios_at-set}
 use Rattle.dispatch_core.proofs.SlotCounts.{counted_set, one_taken}

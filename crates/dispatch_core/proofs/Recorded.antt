@@ -1,12 +1,10 @@
 -- How many exchanges stand on the tape.
 use Rattle.std.proofs.Common.{◌≡◌, ℕ, ◌+◌, ◌≤◌, Bool, true, false, cond, ◌&&◌, List, [], ◌∷◌, ◌++◌, length, refl, sym, ap, ◌∙◌, subst, arith}
 use Rattle.std.proofs.lemmas.List.{length-append}
-use Rattle.sector_core.specs.declared.bio.Outcome.{Outcome}
+use Rattle.dispatch_core.proofs.Words.{Outcome, Tables, rest_of_outcome}
 use Rattle.sector_core.specs.declared.bio.Outcome.TheVariants.{Fetched, Stored, Failed}
 use Rattle.change_record.specs.declared.change.Change.{Change}
-use Rattle.change_record.specs.Tables.{Tables}
 use Rattle.change_record.specs.Trail.{IsTrail}
-use Rattle.plain_machine.specs.Step.{rest_of_outcome}
 use Rattle.dispatch_core.specs.Counts.{blocks_put}
 
 -- an exchange counts one

@@ -4,13 +4,8 @@ use Rattle.std.specs.List.{filter_map}
 use Rattle.std.specs.Option.{option_map}
 use Rattle.std.proofs.lemmas.Bool.{cond-true}
 use Rattle.std.proofs.lemmas.List.Sums.{sum_by-cons, get_or-le-sum_by}
-use Rattle.tag_set.specs.declared.Issue.{Issue}
-use Rattle.request_pool.specs.declared.Request.{Request}
-use Rattle.process_queue.specs.declared.Link.{Link}
-use Rattle.process_queue.specs.Queue.{placed, insert_in, queue_slots}
-use Rattle.change_record.specs.Tables.{Tables}
-use Rattle.change_record.specs.Machine.{meaning, whole_at}
-use Rattle.dispatch_core.specs.WellFormed.{at, one, taken, bears, Placed, IsRequeued}
+use Rattle.dispatch_core.proofs.Words.{Issue, Request, Link, placed, insert_in, queue_slots, Tables, meaning, whole_at, at, one, bears, Placed, IsRequeued}
+use Rattle.dispatch_core.specs.WellFormed.{taken}
 use Rattle.dispatch_core.proofs.QueueLists.{within_of, same_queue, queue_length}
 use Rattle.dispatch_core.proofs.Counts.{one-le, length-insert_in}
 use Rattle.dispatch_core.proofs.QueueFacts.{whole_with, some_of, none_of, borne}

@@ -6,16 +6,10 @@ use Rattle.std.proofs.lemmas.Bool.Decides.{nat_tests}
 use Rattle.std.proofs.lemmas.List.{get_or-set_same, get_or-set_other}
 use Rattle.std.proofs.lemmas.List.Sums.{sum_by-set}
 use Rattle.std.proofs.lemmas.Option.{same_Some}
-use Rattle.request_pool.specs.declared.Request.{Request}
-use Rattle.tag_set.specs.declared.Issue.{Issue}
-use Rattle.process_queue.specs.declared.Link.{Link}
-use Rattle.change_record.specs.Tables.{Tables}
-use Rattle.change_record.specs.Machine.{Flight, Plain, meaning, whole_at, put}
-use Rattle.plain_machine.specs.declared.answer.Answer.TheVariants.{Accepted}
-use Rattle.plain_machine.specs.declared.answer.Reply.TheVariants.{Requeued}
-use Rattle.plain_machine.specs.Step.{Limits, requeue}
-use Rattle.dispatch_core.specs.WellFormed.{at, one, bears, WellFormed, Placed, IsRequeued}
-use Rattle.dispatch_core.specs.Changes.{requeued_tables}
+use Rattle.dispatch_core.proofs.Words.{Request, Issue, Link, Tables, Flight, Plain, put, meaning, whole_at, Limits, at, one, bears, WellFormed, Placed, IsRequeued, requeued_tables}
+use Rattle.plain.specs.declared.answer.Answer.TheVariants.{Accepted}
+use Rattle.plain.specs.declared.answer.Reply.TheVariants.{Requeued}
+use Rattle.plain.specs.Steps.Requeue.{requeue}
 use Rattle.dispatch_core.proofs.QueueLists.{within_of, freed, kept_of, queue-put_last}
 use Rattle.dispatch_core.proofs.Counts.{taken-set}
 use Rattle.dispatch_core.proofs.QueueFacts.{put_is, is_some_of, set_cases, flight_of, borne}
@@ -127,12 +121,7 @@ module _ (l : Limits) (n : ℕ) (t : Tables) (tag issue slot : ℕ) (request : R
       small_image = w.sized.small_image;
     };
     seated = record { early = λ k s h. let early = w.seated.early k s h in omega arith; apart = w.seated.apart; counted = w.seated.counted; left = w.seated.left };
-    kept = record {
-      bio = w.kept.bio;
-      request = λ k q e. let o = w.kept.request k q e in record { seat = o.seat; entry = o.entry; within = o.within; sits = o.sits; session = o.session; bios = o.bios; some_bios = o.some_bios };
-      outbox = w.kept.outbox;
-      once = w.kept.once;
-    };
+    kept = w.kept;
     placed = requeue-placed;
     ruled = ruled_like l t now w.ruled;
     young = λ s e. let h = w.young s e in omega arith;

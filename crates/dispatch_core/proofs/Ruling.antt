@@ -5,30 +5,22 @@ use Rattle.std.proofs.lemmas.Bool.{cases_eq, eq-eqb, ne_eqb}
 use Rattle.std.proofs.lemmas.List.{get_or-set_same, get_or-set_other}
 use Rattle.std.proofs.lemmas.Option.{same_Some}
 use Rattle.sector_core.specs.declared.class.Class.{Class}
-use Rattle.service_tree.specs.declared.member.Member.{Member}
-use Rattle.service_tree.specs.declared.member.State.TheVariants.{Idle}
-use Rattle.change_record.specs.declared.change.InService.{InService}
-use Rattle.change_record.specs.Tables.{Tables}
-use Rattle.change_record.specs.Exchange.{with_member, with_vtimes, tree_at}
-use Rattle.change_record.specs.Machine.{Bfq, Plain, bfq_of, meaning, put}
-use Rattle.change_record.specs.Rules.{put_vtime, group_of}
+use Rattle.dispatch_core.proofs.Words.{Member, InService, Tables, with_member, with_vtimes, Classes, same_times, time_of, tree_at, Bfq, Plain, put, bfq_of, meaning, put_vtime, group_of, put_vtimes, Limits, WellFormed, Ruled, entered, attached_tables}
+use Rattle.plain.specs.declared.member.State.TheVariants.{Idle}
 use Rattle.bfq_select.specs.Service.{IsSized, IsBounded, OnlyServes}
-use Rattle.plain_machine.specs.Step.{Limits, with_entity, without_entity, prio_weight}
-use Rattle.dispatch_core.specs.WellFormed.{WellFormed, Ruled}
-use Rattle.dispatch_core.specs.Changes.{entered, attached_tables}
-use Rattle.class_trees.specs.declared.Vtimes.{Vtimes}
-use Rattle.class_trees.specs.Classes.{Classes, same_times, time_of}
-use Rattle.change_record.specs.Rules.{put_vtimes}
+use Rattle.plain.specs.Entities.{with_entity, without_entity}
+use Rattle.plain.specs.Steps.Attach.{prio_weight}
+use Rattle.plain.specs.declared.member.Vtimes.{Vtimes}
 
 -- tables with what bfq has in others
 abbrev pub like : Tables → Tables → Tables
-like t u = record u { heads = t.heads; trees = t.trees; parents = t.parents; weights = t.weights; budgets = t.budgets; slot = t.slot }
+like t u = record u { heads = t.heads; trees = t.trees; parents = t.parents; weights = t.weights; budgets = t.budgets; in_service = t.in_service }
 
 -- a step that touches nothing of bfq leaves it as it is
 pub ruled_like : (l : Limits) (t u : Tables) → Ruled l t → Ruled l (like t u)
 ruled_like l t u r = record {
   heads = r.heads;
-  sized = record { trees = r.sized.trees; parents = r.sized.parents; weights = r.sized.weights; budgets = r.sized.budgets; groups = r.sized.groups; seat = r.sized.seat };
+  sized = r.sized;
   bounded = r.bounded;
   first_vtime = r.first_vtime;
   least_budget = r.least_budget;
@@ -66,7 +58,7 @@ placed b g e v group entity m h =
 -- tables with other values of bfq
 abbrev pub with_bfq : Tables → List ℕ → List Classes → List (Option ℕ) → List ℕ → List ℕ → Option InService → Tables
 with_bfq t heads trees parents weights budgets slot =
-    record t { heads = heads; trees = trees; parents = parents; weights = weights; budgets = budgets; slot = slot }
+    record t { heads = heads; trees = trees; parents = parents; weights = weights; budgets = budgets; in_service = slot }
 
 -- a queue in service is no older than this
 abbrev pub IsYoung : ℕ → Option InService → Type 0
@@ -76,34 +68,10 @@ IsYoung n o = (slot : InService) → o ≡ Some slot → slot.age < n
 pub well_with : (l : Limits) (n : ℕ) (t : Tables) (heads : List ℕ) (trees : List Classes) (parents : List (Option ℕ)) (weights budgets : List ℕ) (slot : Option InService)
     → WellFormed l n t → Ruled l (with_bfq t heads trees parents weights budgets slot) → IsYoung n slot → WellFormed l n (with_bfq t heads trees parents weights budgets slot)
 well_with l n t heads trees parents weights budgets slot w ruled young = record {
-  sized = record {
-    requests = w.sized.requests;
-    bios = w.sized.bios;
-    tags = w.sized.tags;
-    links = w.sized.links;
-    requeued = w.sized.requeued;
-    outboxes = w.sized.outboxes;
-    seats = w.sized.seats;
-    few_tags = w.sized.few_tags;
-    few_requests = w.sized.few_requests;
-    small_image = w.sized.small_image;
-  };
-  seated = record { early = w.seated.early; apart = w.seated.apart; counted = w.seated.counted; left = w.seated.left };
-  kept = record {
-    bio = w.kept.bio;
-    request = λ k r e. let o = w.kept.request k r e in record { seat = o.seat; entry = o.entry; within = o.within; sits = o.sits; session = o.session; bios = o.bios; some_bios = o.some_bios };
-    outbox = w.kept.outbox;
-    once = w.kept.once;
-  };
-  placed = record {
-    link = λ k link e. let q = w.placed.link k link e in record { early = q.early; within = q.within; request = q.request; here = q.here; entry = q.entry; sits = q.sits; session = q.session };
-    apart = w.placed.apart;
-    again = w.placed.again;
-    tag = w.placed.tag;
-    requeued = λ k link e. let q = w.placed.requeued k link e in record { early = q.early; number = q.number; here = q.here };
-    once = w.placed.once;
-    counted = w.placed.counted;
-  };
+  sized = w.sized;
+  seated = w.seated;
+  kept = w.kept;
+  placed = w.placed;
   ruled = ruled;
   young = young;
   first = w.first;
@@ -116,9 +84,9 @@ served-meaning t u others =
     ap meaning others ∙ ap (λ b. let m : Plain = record (meaning t) { bfq = b } in m) (sym (ap bfq_of others))
 
 -- and they hold together as before
-pub served-well : (l : Limits) (n : ℕ) (t u : Tables) → OnlyServes t u → WellFormed l n t → IsSized u → IsBounded (bfq_of u) → IsYoung n u.slot → WellFormed l n u
+pub served-well : (l : Limits) (n : ℕ) (t u : Tables) → OnlyServes t u → WellFormed l n t → IsSized u → IsBounded (bfq_of u) → IsYoung n u.in_service → WellFormed l n u
 served-well l n t u others w sized bounded young =
-    let v : Tables = with_bfq t t.heads u.trees t.parents t.weights u.budgets u.slot in
+    let v : Tables = with_bfq t t.heads u.trees t.parents t.weights u.budgets u.in_service in
     let ruled : Ruled l v = record {
       heads = w.ruled.heads;
       sized = subst IsSized others sized;
@@ -128,12 +96,12 @@ served-well l n t u others w sized bounded young =
       first_budget = w.ruled.first_budget;
       most_budget = w.ruled.most_budget;
     } in
-    subst (WellFormed l n) (sym others) (well_with l n t t.heads u.trees t.parents t.weights u.budgets u.slot w ruled young)
+    subst (WellFormed l n) (sym others) (well_with l n t t.heads u.trees t.parents t.weights u.budgets u.in_service w ruled young)
 
 -- one step of the rules after another
 pub serves_then : (t u v : Tables) → OnlyServes t u → OnlyServes u v → OnlyServes t v
 serves_then t u v first second =
-    second ∙ ap (λ (x : Tables). let y : Tables = record x { trees = v.trees; budgets = v.budgets; slot = v.slot } in y) first
+    second ∙ ap (λ (x : Tables). let y : Tables = record x { trees = v.trees; budgets = v.budgets; in_service = v.in_service } in y) first
 
 -- a new entity in a group
 module _ (l : Limits) (t : Tables) (entity group : ℕ) (class : Class) (weight : ℕ) (e_within : entity < 48) (g_within : group < 32) (r : Ruled l t) where
@@ -147,7 +115,7 @@ module _ (l : Limits) (t : Tables) (entity group : ℕ) (class : Class) (weight 
     service = put_set t.trees group (with_member (tree_at t group) entity (Some member)) (record { vtimes = same_times 0; members = [] }) (omega (arith, g_within, r.sized.trees)) i;
     pending = put_set t.weights entity weight 1 (omega (arith, e_within, r.sized.weights)) i;
     budget = (bfq_of t).budget;
-    slot = t.slot;
+    in_service = t.in_service;
   }
 
 -- the members of a tree where one was put

@@ -1,13 +1,7 @@
 -- The sectors of a request, by its slots and by its bios.
 use Rattle.std.proofs.Common.{◌≡◌, ℕ, ◌+◌, ◌*◌, ◌≤◌, List, [], ◌∷◌, length, map, min, Option, Some, None, refl, sym, ap, ◌∙◌, arith}
 use Rattle.std.proofs.lemmas.List.Sums.{sum_by-cons}
-use Rattle.sector_core.specs.declared.bio.Bio.{Bio}
-use Rattle.request_pool.specs.declared.Request.{Request}
-use Rattle.change_record.specs.Tables.{Tables}
-use Rattle.process_queue.specs.Merge.{bios_at}
-use Rattle.plain_machine.specs.Step.{Limits, size_of, range_of}
-use Rattle.dispatch_core.specs.WellFormed.{at, one, WellFormed}
-use Rattle.dispatch_core.specs.Ranges.{count_at, first_start, total_count, HasFewSectors, count_of_bio, start_of_bio}
+use Rattle.dispatch_core.proofs.Words.{Bio, Request, Tables, bios_at, Limits, size_of, range_of, at, one, WellFormed, count_at, first_start, total_count, HasFewSectors, count_of_bio, start_of_bio}
 use Rattle.std.specs.List.{cons_option}
 use Rattle.std.proofs.lemmas.List.Elements.{All-head, All-tail}
 use Rattle.dispatch_core.proofs.Written.{AreTaken, some_of}

@@ -7,23 +7,18 @@ use Rattle.std.proofs.lemmas.Bool.{cases_eq, cond-true, cond-false}
 use Rattle.std.proofs.lemmas.List.{get_or-set_same, get_or-set_other}
 use Rattle.std.proofs.lemmas.List.Sums.{sum_by-set}
 use Rattle.std.proofs.lemmas.Option.{same_Some}
-use Rattle.sector_core.specs.declared.range.Range.{Range}
+use Rattle.dispatch_core.proofs.Words.{Range, Request, Issue, Link, queue_slots, first_slot, first_in, is_empty, Tables, WholeRequest, Plain, put, meaning, whole_at, Limits, range_of, at, one, bears, WellFormed, Placed, sent_again_tables}
 use Rattle.sector_core.specs.declared.memory.OutOfMemory.{OutOfMemory as WantOfMemory}
-use Rattle.request_pool.specs.declared.Request.{Request}
-use Rattle.tag_set.specs.declared.Issue.{Issue}
-use Rattle.process_queue.specs.declared.Link.{Link}
-use Rattle.process_queue.specs.Queue.{queue_slots, first_in, first_slot, is_empty}
 use Rattle.change_record.specs.declared.change.Change.{Change}
-use Rattle.change_record.specs.Tables.{Tables}
-use Rattle.change_record.specs.Machine.{WholeRequest, Plain, meaning, whole_at, put}
-use Rattle.plain_machine.specs.declared.answer.Answer.{Answer}
-use Rattle.plain_machine.specs.declared.answer.Answer.TheVariants.{Accepted, Refused}
-use Rattle.plain_machine.specs.declared.answer.Code.TheVariants.{NoTag, HistoryFull}
-use Rattle.plain_machine.specs.declared.answer.Reply.TheVariants.{Issued}
-use Rattle.plain_machine.specs.declared.step.Step.TheVariants.{Dispatch}
-use Rattle.plain_machine.specs.Step.{Limits, MayGiveWay, is_bfq, range_of, lowest_free, dispatch, dispatch_of, accepted, sent_again}
-use Rattle.dispatch_core.specs.WellFormed.{at, one, bears, WellFormed, Placed}
-use Rattle.dispatch_core.specs.Changes.{sent_again_tables}
+use Rattle.plain.specs.declared.answer.Answer.{Answer}
+use Rattle.plain.specs.declared.answer.Answer.TheVariants.{Accepted, Refused}
+use Rattle.plain.specs.declared.answer.Code.TheVariants.{NoTag, HistoryFull}
+use Rattle.plain.specs.declared.answer.Reply.TheVariants.{Issued}
+use Rattle.plain.specs.declared.step.Step.TheVariants.{Dispatch}
+use Rattle.plain.specs.Step.{MayGiveWay}
+use Rattle.plain.specs.Entities.{is_bfq}
+use Rattle.plain.specs.Steps.Dispatch.{lowest_free, dispatch, dispatch_of, sent_again}
+use Rattle.plain.specs.Tests.{accepted}
 use Rattle.dispatch_core.specs.Counts.{dispatch_exchanges, rule_exchanges}
 use Rattle.dispatch_core.specs.Relation.{Leaves}
 use Rattle.dispatch_core.proofs.QueueLists.{within_of, freed, kept_of, first_linked, queue-taken_first}
@@ -133,12 +128,7 @@ module _ (l : Limits) (n : ℕ) (t : Tables) (slot tag : ℕ) (request : Request
       small_image = w.sized.small_image;
     };
     seated = record { early = λ k s h. let early = w.seated.early k s h in omega arith; apart = w.seated.apart; counted = w.seated.counted; left = w.seated.left };
-    kept = record {
-      bio = w.kept.bio;
-      request = λ k q e. let o = w.kept.request k q e in record { seat = o.seat; entry = o.entry; within = o.within; sits = o.sits; session = o.session; bios = o.bios; some_bios = o.some_bios };
-      outbox = w.kept.outbox;
-      once = w.kept.once;
-    };
+    kept = w.kept;
     placed = again-placed;
     ruled = ruled_like l t now w.ruled;
     young = λ s e. let h = w.young s e in omega arith;

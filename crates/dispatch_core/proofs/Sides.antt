@@ -1,16 +1,6 @@
 -- What has been found before a step's exchanges are made.
 use Rattle.std.proofs.Common.{◌≡◌, ℕ, ◌+◌, ◌<◌, ◌≤◌, List, ◌∷◌, length, Some, None}
-use Rattle.sector_core.specs.declared.range.Range.{Range}
-use Rattle.sector_core.specs.declared.bio.Op.{Op}
-use Rattle.sector_core.specs.declared.bio.Bio.{Bio}
-use Rattle.request_pool.specs.declared.Request.{Request}
-use Rattle.process_queue.specs.declared.Link.{Link}
-use Rattle.process_queue.specs.Queue.{first_slot}
-use Rattle.change_record.specs.declared.change.Seat.{Seat}
-use Rattle.change_record.specs.Tables.{Tables}
-use Rattle.change_record.specs.Machine.{outbox_at}
-use Rattle.plain_machine.specs.Step.{Limits, payload_length}
-use Rattle.dispatch_core.specs.WellFormed.{at, IsSlotOf}
+use Rattle.dispatch_core.proofs.Words.{Range, Op, Bio, Request, Link, first_slot, Seat, Tables, outbox_at, Limits, payload_length, at, IsSlotOf}
 use Rattle.dispatch_core.specs.Ready.{MaySubmit}
 
 pub record CanAttach (t : Tables) (seat : ℕ) : Type 0 where

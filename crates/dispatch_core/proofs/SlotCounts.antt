@@ -4,11 +4,10 @@ use Rattle.std.specs.Option.{option_map_or}
 use Rattle.std.proofs.lemmas.Bool.{cases_lt}
 use Rattle.std.proofs.lemmas.List.{drop-set-add, drop-set-lt, take-set-le, get_or-take, get_or-drop}
 use Rattle.std.proofs.lemmas.List.Sums.{sum_by-set, sum_by-cons}
-use Rattle.sector_core.specs.declared.bio.Bio.{Bio}
+use Rattle.dispatch_core.proofs.Words.{Bio, Seat, at, one, IsSlotOf}
 use Rattle.sector_core.specs.Table.{AllTaken}
 use Rattle.request_pool.specs.Slots.{seat_slots}
-use Rattle.change_record.specs.declared.change.Seat.{Seat}
-use Rattle.dispatch_core.specs.WellFormed.{at, one, taken, IsSlotOf}
+use Rattle.dispatch_core.specs.WellFormed.{taken}
 use Rattle.dispatch_core.proofs.Times.{set_cases}
 
 -- the first places of a table after one of them was written

@@ -6,17 +6,7 @@ use Rattle.std.proofs.Math.Path.{fun_ext}
 use Rattle.std.proofs.lemmas.Bool.{cases_lt}
 use Rattle.std.proofs.lemmas.List.{get_or-set_same}
 use Rattle.std.proofs.lemmas.List.Elements.{All-nil, All-cons}
-use Rattle.sector_core.specs.declared.range.Range.{Range}
-use Rattle.sector_core.specs.declared.bio.Op.{Op}
-use Rattle.sector_core.specs.declared.bio.Bio.{Bio}
-use Rattle.request_pool.specs.declared.Request.{Request}
-use Rattle.change_record.specs.declared.change.Seat.{Seat}
-use Rattle.change_record.specs.Tables.{Tables}
-use Rattle.process_queue.specs.Merge.{bios_at}
-use Rattle.change_record.specs.Machine.{meaning, outbox_at, put}
-use Rattle.plain_machine.specs.Step.{Limits, with_unreaped, unreaped}
-use Rattle.dispatch_core.specs.WellFormed.{at, one, times, named, WellFormed, Seated, Kept, IsBio, IsWaiting, IsCompleted, IsOwned}
-use Rattle.dispatch_core.specs.Changes.{submitted_tables}
+use Rattle.dispatch_core.proofs.Words.{Range, Op, Bio, Request, Seat, Tables, bios_at, meaning, outbox_at, put, Limits, with_unreaped, unreaped, at, one, times, named, WellFormed, Seated, Kept, IsBio, IsWaiting, IsCompleted, IsOwned, submitted_tables}
 use Rattle.dispatch_core.proofs.Sides.{CanSubmit}
 use Rattle.dispatch_core.proofs.Times.{set_cases, at_within, same, same_is, same_not, times-cons, bios_at-set}
 use Rattle.dispatch_core.proofs.SlotCounts.{counted_set}

@@ -4,20 +4,20 @@ use Rattle.std.proofs.Math.Path.{fun_ext}
 use Rattle.std.proofs.lemmas.Bool.Decides.{nat_tests}
 use Rattle.std.proofs.lemmas.List.Sums.{sum_by-cons}
 use Rattle.sector_core.specs.declared.config.Scheduler.{Scheduler}
-use Rattle.change_record.specs.Tables.{Tables}
-use Rattle.change_record.specs.Machine.{Bfq, Plain, bfq_of, meaning}
+use Rattle.dispatch_core.proofs.Words.{Tables, Bfq, Plain, bfq_of, meaning, Limits, requests_of, at, one, WellFormed, Ruled, Classes}
 use Rattle.bfq_select.specs.Service.{IsSized, IsBounded}
-use Rattle.plain_machine.specs.declared.answer.Code.TheVariants.{NotFrozen, NotDrained, SameScheduler, HistoryFull}
-use Rattle.plain_machine.specs.declared.answer.Reply.TheVariants.{Done}
-use Rattle.plain_machine.specs.declared.answer.Answer.{Answer}
-use Rattle.plain_machine.specs.declared.answer.Answer.TheVariants.{Accepted, Refused}
-use Rattle.plain_machine.specs.Step.{Limits, accepted, requests_of, is_same, begun_again, switched, switch, MayGiveWay}
-use Rattle.dispatch_core.specs.WellFormed.{at, one, taken, WellFormed, Ruled}
+use Rattle.plain.specs.declared.answer.Code.TheVariants.{NotFrozen, NotDrained, SameScheduler, HistoryFull}
+use Rattle.plain.specs.declared.answer.Reply.TheVariants.{Done}
+use Rattle.plain.specs.declared.answer.Answer.{Answer}
+use Rattle.plain.specs.declared.answer.Answer.TheVariants.{Accepted, Refused}
+use Rattle.plain.specs.Tests.{accepted}
+use Rattle.plain.specs.Steps.Switch.{is_same, begun_again, switched, switch}
+use Rattle.plain.specs.Step.{MayGiveWay}
+use Rattle.dispatch_core.specs.WellFormed.{taken}
 use Rattle.dispatch_core.proofs.QueueFacts.{queued_is, in_flight_is}
 use Rattle.dispatch_core.proofs.Requeued.{requeued_is}
 use Rattle.dispatch_core.proofs.Ruling.{with_bfq, well_with}
 use Rattle.dispatch_core.proofs.Laws.{WellFormed-later}
-use Rattle.class_trees.specs.Classes.{Classes}
 
 -- a table with a place that is taken has one at least
 some_counted : {A : Type 0} (xs : List (Option A)) (k : ℕ) → is_some (at xs k) ≡ true → 1 ≤ taken xs
@@ -26,9 +26,6 @@ some_counted (x ∷ xs) zero h =
     let here : one x ≡ 1 = ap (λ b. cond b 1 0) h in
     omega (arith, sum_by-cons (λ v. cond (is_some v) 1 0) x xs, here)
 some_counted (x ∷ xs) (suc k) h = omega (arith, sum_by-cons (λ v. cond (is_some v) 1 0) x xs, some_counted xs k h)
-
-pub some_taken : {A : Type 0} (xs : List (Option A)) (k : ℕ) → is_some (at xs k) ≡ true → nat_lt 0 (taken xs) ≡ true
-some_taken xs k h = let some : 1 ≤ taken xs = some_counted xs k h in grind (arith, nat_tests)
 
 -- and one without such a place has none
 none_counted : {A : Type 0} (xs : List (Option A)) → ((j : ℕ) → j < length xs → at xs j ≡ None) → taken xs ≡ 0
@@ -109,43 +106,11 @@ begun-meaning l t scheduler heads trees budgets frozen each again =
 -- with another mode they hold together
 moded-well : (l : Limits) (n : ℕ) (t : Tables) (scheduler : Scheduler) → WellFormed l n t → WellFormed l n (record t { scheduler = scheduler; frozen = true; served = 15 })
 moded-well l n t scheduler w = record {
-  sized = record {
-    requests = w.sized.requests;
-    bios = w.sized.bios;
-    tags = w.sized.tags;
-    links = w.sized.links;
-    requeued = w.sized.requeued;
-    outboxes = w.sized.outboxes;
-    seats = w.sized.seats;
-    few_tags = w.sized.few_tags;
-    few_requests = w.sized.few_requests;
-    small_image = w.sized.small_image;
-  };
-  seated = record { early = w.seated.early; apart = w.seated.apart; counted = w.seated.counted; left = w.seated.left };
-  kept = record {
-    bio = w.kept.bio;
-    request = λ k r e. let o = w.kept.request k r e in record { seat = o.seat; entry = o.entry; within = o.within; sits = o.sits; session = o.session; bios = o.bios; some_bios = o.some_bios };
-    outbox = w.kept.outbox;
-    once = w.kept.once;
-  };
-  placed = record {
-    link = λ k link e. let q = w.placed.link k link e in record { early = q.early; within = q.within; request = q.request; here = q.here; entry = q.entry; sits = q.sits; session = q.session };
-    apart = w.placed.apart;
-    again = w.placed.again;
-    tag = w.placed.tag;
-    requeued = λ k link e. let q = w.placed.requeued k link e in record { early = q.early; number = q.number; here = q.here };
-    once = w.placed.once;
-    counted = w.placed.counted;
-  };
-  ruled = record {
-    heads = w.ruled.heads;
-    sized = record { trees = w.ruled.sized.trees; parents = w.ruled.sized.parents; weights = w.ruled.sized.weights; budgets = w.ruled.sized.budgets; groups = w.ruled.sized.groups; seat = w.ruled.sized.seat };
-    bounded = w.ruled.bounded;
-    first_vtime = w.ruled.first_vtime;
-    least_budget = w.ruled.least_budget;
-    first_budget = w.ruled.first_budget;
-    most_budget = w.ruled.most_budget;
-  };
+  sized = w.sized;
+  seated = w.seated;
+  kept = w.kept;
+  placed = w.placed;
+  ruled = w.ruled;
   young = w.young;
   first = w.first;
   served = omega arith;
@@ -156,7 +121,7 @@ pub begun-well : (l : Limits) (n : ℕ) (t : Tables) (scheduler : Scheduler) (he
     → length heads ≡ 16 → IsSized (begun t scheduler heads trees budgets) → IsBounded (bfq_of (begun t scheduler heads trees budgets))
     → WellFormed l (n + 1) (begun t scheduler heads trees budgets)
 begun-well l n t scheduler heads trees budgets w long s bounded =
-    let u : Tables = with_bfq t heads trees t.parents t.weights budgets t.slot in
+    let u : Tables = with_bfq t heads trees t.parents t.weights budgets t.in_service in
     let ruled : Ruled l u = record {
       heads = long;
       sized = record { trees = s.trees; parents = s.parents; weights = s.weights; budgets = s.budgets; groups = s.groups; seat = s.seat };
@@ -166,7 +131,7 @@ begun-well l n t scheduler heads trees budgets w long s bounded =
       first_budget = w.ruled.first_budget;
       most_budget = w.ruled.most_budget;
     } in
-    let well : WellFormed l n u = well_with l n t heads trees t.parents t.weights budgets t.slot w ruled w.young in
+    let well : WellFormed l n u = well_with l n t heads trees t.parents t.weights budgets t.in_service w ruled w.young in
     WellFormed-later l n (begun t scheduler heads trees budgets) (moded-well l n u scheduler well)
 
 -- how many exchanges there are, where so many entities are in groups

@@ -6,9 +6,7 @@ use Rattle.std.proofs.lemmas.Bool.{cases_eq, cases_lt, eq-eqb, ne_eqb}
 use Rattle.std.proofs.lemmas.List.{get_or-set_same, get_or-set_other, get_or_past}
 use Rattle.std.proofs.lemmas.List.Sums.{sum_by-cons, sum_by-append, get_or-le-sum_by}
 use Rattle.std.proofs.lemmas.List.Elements.{All-nil, All-cons, All-head, All-tail}
-use Rattle.sector_core.specs.declared.bio.Bio.{Bio}
-use Rattle.process_queue.specs.Merge.{bios_at}
-use Rattle.dispatch_core.specs.WellFormed.{at, times}
+use Rattle.dispatch_core.proofs.Words.{Bio, bios_at, at, times}
 
 -- one where two slots are the same
 abbrev pub same : ℕ → ℕ → ℕ

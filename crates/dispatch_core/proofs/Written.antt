@@ -4,14 +4,9 @@ use Rattle.std.specs.Prelude.{All, IsSome}
 use Rattle.std.proofs.lemmas.Bool.{cases_eq}
 use Rattle.std.proofs.lemmas.List.{get_or-set_same, get_or-set_other}
 use Rattle.std.proofs.lemmas.List.Elements.{All-nil, All-cons, All-head, All-tail}
-use Rattle.sector_core.specs.declared.bio.Bio.{Bio}
-use Rattle.sector_core.specs.declared.bio.Outcome.{Outcome}
-use Rattle.overlay.specs.Blocks.{Blocks}
+use Rattle.dispatch_core.proofs.Words.{Bio, Outcome, Blocks, bios_at, Limits, completed, result_of, rest_of_outcome, at, one, IsSlotOf, IsBio, IsCompleted, with_bios}
 use Rattle.request_pool.specs.Slots.{seat_slots}
-use Rattle.process_queue.specs.Merge.{bios_at}
-use Rattle.plain_machine.specs.Step.{Limits, completed, result_of, rest_of_outcome}
-use Rattle.dispatch_core.specs.WellFormed.{at, one, taken, IsSlotOf, IsBio, IsCompleted}
-use Rattle.dispatch_core.specs.Changes.{with_bios}
+use Rattle.dispatch_core.specs.WellFormed.{taken}
 use Rattle.dispatch_core.proofs.Times.{Apart, set_cases, at_within}
 use Rattle.dispatch_core.proofs.SlotCounts.{taken_in, taken_out}
 use Rattle.dispatch_core.proofs.Room.{Distinct, Distinct-head, Distinct-tail}

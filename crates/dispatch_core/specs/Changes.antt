@@ -7,19 +7,24 @@ use Rattle.sector_core.specs.declared.bio.Bio.{Bio}
 use Rattle.sector_core.specs.declared.bio.Outcome.{Outcome}
 use Rattle.sector_core.specs.declared.class.Class.{Class}
 use Rattle.request_pool.specs.declared.Request.{Request}
-use Rattle.change_record.specs.declared.change.Seat.{Seat}
+use Rattle.plain.specs.declared.seat.Seat.{Seat}
 use Rattle.change_record.specs.Tables.{Tables}
-use Rattle.change_record.specs.Exchange.{tree_at, with_member}
-use Rattle.service_tree.specs.declared.member.State.TheVariants.{Idle}
+use Rattle.change_record.specs.Exchange.{tree_at}
+use Rattle.plain.specs.Classes.{with_member}
+use Rattle.plain.specs.declared.member.State.TheVariants.{Idle}
 use Rattle.process_queue.specs.Merge.{bios_at}
 use Rattle.change_record.specs.Machine.{outbox_at}
-use Rattle.plain_machine.specs.Step.{Limits, prio_weight, with_unreaped, new_bio, after_outcome, completed}
+use Rattle.plain.specs.Opening.{Limits}
+use Rattle.plain.specs.Steps.Attach.{prio_weight}
+use Rattle.plain.specs.Sessions.{with_unreaped}
+use Rattle.plain.specs.Steps.Submit.{new_bio}
+use Rattle.plain.specs.Steps.Finish.{after_outcome, completed}
 use Rattle.dispatch_core.specs.WellFormed.{at}
 
 abbrev pub unreaped_at : Tables → ℕ → ℕ
 unreaped_at t seat = option_map_or (λ s. s.unreaped) (at t.seats seat) 0
 
--- an entity of this weight in a group, with its times at the first virtual time
+-- an entity of this class and weight in a group, with its times at the first virtual time
 abbrev pub entered : Limits → Tables → ℕ → ℕ → Class → ℕ → Tables
 entered l t entity group class weight = record t {
   parents = slice_set t.parents entity (Some group);

@@ -4,14 +4,17 @@ use Rattle.std.specs.List.{count_by}
 use Rattle.std.specs.Option.{option_map_or}
 use Rattle.sector_core.specs.declared.config.Scheduler.{Scheduler}
 use Rattle.sector_core.specs.declared.config.Scheduler.TheVariants.{Plain as PlainScheduler, Bfq as BfqScheduler}
-use Rattle.soft_queue.specs.Turn.{numbers}
-use Rattle.process_queue.specs.Queue.{is_empty}
+use Rattle.plain.specs.Lists.{numbers, is_empty}
 use Rattle.sector_core.specs.declared.bio.Outcome.{Outcome}
 use Rattle.sector_core.specs.declared.bio.Outcome.TheVariants.{Fetched, Stored, Failed}
-use Rattle.change_record.specs.Machine.{WholeRequest, Plain, Flight}
-use Rattle.plain_machine.specs.declared.step.Step.{Step}
-use Rattle.plain_machine.specs.declared.step.Step.TheVariants.{Attach, Submit, Reap, Leave, Dispatch, Finish, Requeue, GroupMake, GroupDrop, SetWeight, Freeze, Thaw, Switch, Tick}
-use Rattle.plain_machine.specs.Step.{size_of, merge_in, is_bfq, is_leaving, seat_of}
+use Rattle.plain.specs.Machine.{WholeRequest, Plain, Flight}
+use Rattle.plain.specs.declared.step.Step.{Step}
+use Rattle.plain.specs.declared.step.Step.TheVariants.{Attach, Submit, Reap, Leave, Dispatch, Finish, Requeue, GroupMake, GroupDrop, SetWeight, Freeze, Thaw, Switch, Tick}
+use Rattle.plain.specs.Requests.{size_of}
+use Rattle.plain.specs.Steps.Submit.{merge_in}
+use Rattle.plain.specs.Entities.{is_bfq}
+use Rattle.plain.specs.Sessions.{is_leaving}
+use Rattle.plain.specs.Steps.Finish.{seat_of}
 
 -- a store puts one block at each of its sectors, another outcome none
 abbrev pub blocks_put : Outcome → ℕ → ℕ
@@ -34,7 +37,7 @@ abbrev pub dispatch_exchanges : List WholeRequest → ℕ
 dispatch_exchanges [] = 3
 dispatch_exchanges (request ∷ requests) = 2
 
--- of a Switch: the mode and 16 heads; and to bfq 32 virtual times, 16 budgets, and the times of each entity that is in a group
+-- of a Switch: the mode and 16 heads; and to bfq the virtual times of 32 groups, 16 budgets, and the times of each entity that is in a group
 abbrev pub switch_exchanges : Plain → Scheduler → ℕ
 switch_exchanges m PlainScheduler = 17
 switch_exchanges m BfqScheduler = 65 + count_by (λ entity. is_some (m.bfq.parent entity)) (numbers 0 48)
@@ -43,7 +46,7 @@ switch_exchanges m BfqScheduler = 65 + count_by (λ entity. is_some (m.bfq.paren
 -- Submit: the bio, the request, the seat's entry, and for a new request its link. Reap: the outbox, the bio, the seat's entry.
 -- Leave: the bios of the outbox, the outbox, the seat's entry. Dispatch: the link, the tag, and the seat last served, or under bfq the
 -- queue's head. Requeue: the tag and the link. GroupMake: of its entity the group, the tree's member and the pending weight, and the
--- group's virtual time. GroupDrop: the tree's member and the group. SetWeight: the pending weight. Freeze, Thaw: the mode. Tick: the slot.
+-- group's virtual times. GroupDrop: the tree's member and the group. SetWeight: the pending weight. Freeze, Thaw: the mode. Tick: the queue in service.
 abbrev pub exchanges_of : Plain → Step → ℕ
 exchanges_of m (Attach seat group prio class) = 6
 exchanges_of m (Submit seat session op range payload) = submit_exchanges (merge_in m seat session op range)

@@ -11,9 +11,8 @@ pub use Rattle.change_record.specs.Exchange
 pub use Rattle.change_record.specs.Trail
 pub use Rattle.change_record.specs.Tape
 pub use Rattle.change_record.specs.Machine
-pub use Rattle.plain_machine.specs.Step
-pub use Rattle.plain_machine.specs.Entities
-pub use Rattle.change_record.specs.Rules
+pub use Rattle.plain.specs.Step
+pub use Rattle.plain.specs.Entities
 pub use Rattle.bfq_select.specs.Service
-pub use Rattle.plain_machine.specs.Numbers
-pub use Rattle.plain_machine.specs.Keeper
+pub use Rattle.plain.specs.Numbers
+pub use Rattle.plain.specs.Keeper

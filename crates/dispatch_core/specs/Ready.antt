@@ -6,10 +6,12 @@ use Rattle.sector_core.specs.declared.bio.Bio.{Bio}
 use Rattle.sector_core.specs.declared.bio.Outcome.{Outcome}
 use Rattle.sector_core.specs.declared.bio.Outcome.TheVariants.{Fetched, Stored, Failed}
 use Rattle.request_pool.specs.declared.Request.{Request}
-use Rattle.change_record.specs.declared.change.Seat.{Seat}
+use Rattle.plain.specs.declared.seat.Seat.{Seat}
 use Rattle.change_record.specs.Tables.{Tables}
 use Rattle.change_record.specs.Machine.{outbox_at}
-use Rattle.plain_machine.specs.Step.{Limits, payload_length, fits}
+use Rattle.plain.specs.Opening.{Limits}
+use Rattle.plain.specs.Steps.Submit.{payload_length}
+use Rattle.plain.specs.Steps.Finish.{fits}
 use Rattle.dispatch_core.specs.WellFormed.{at, one, times, IsSlotOf}
 use Rattle.dispatch_core.specs.Ranges.{total_count}
 

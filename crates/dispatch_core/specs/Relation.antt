@@ -3,15 +3,18 @@ use Rattle.std.specs.Prelude.{◌≡◌, true, false, ℕ, ◌+◌, ◌≤◌, R
 use Rattle.sector_core.specs.declared.memory.OutOfMemory.{OutOfMemory as WantOfMemory}
 use Rattle.change_record.specs.declared.change.Change.{Change}
 use Rattle.change_record.specs.Tables.{Tables}
-use Rattle.change_record.specs.Machine.{Plain, meaning}
-use Rattle.plain_machine.specs.declared.answer.Answer.{Answer}
-use Rattle.plain_machine.specs.declared.answer.Answer.TheVariants.{Accepted, Refused, NotYet}
-use Rattle.plain_machine.specs.Step.{Limits, Outcome_of, MayGiveWay}
+use Rattle.plain.specs.Machine.{Plain}
+use Rattle.change_record.specs.Machine.{meaning}
+use Rattle.plain.specs.declared.answer.Answer.{Answer}
+use Rattle.plain.specs.declared.answer.Answer.TheVariants.{Accepted, Refused, NotYet}
+use Rattle.plain.specs.Opening.{Limits}
+use Rattle.plain.specs.Tests.{StepResult}
+use Rattle.plain.specs.Step.{MayGiveWay}
 use Rattle.dispatch_core.specs.WellFormed.{WellFormed}
 
 -- the answer and the machine are those of the plain step; memory was wanting only where the plain step accepts, or finds a time
 -- too great
-abbrev pub Answers : (Plain → Outcome_of) → Tables → Result Answer WantOfMemory → Tables → Type 0
+abbrev pub Answers : (Plain → StepResult) → Tables → Result Answer WantOfMemory → Tables → Type 0
 Answers plain before result now = MatchResult result (λ answer. (meaning now, answer) ≡ plain (meaning before)) (λ _. MayGiveWay (plain (meaning before)).1)
 
 -- an accepted step leaves a machine for the next serial, at least so many changes on the tape and so many more at most, and room for its
@@ -23,7 +26,7 @@ Leaves l n least more (Refused code) before changes now left spare = (now ≡ be
 Leaves l n least more (NotYet cause) before changes now left spare = (now ≡ before) × (left ≡ changes)
 
 -- the plain step does not accept: this is its answer, and the machine stays as it is
-abbrev pub Declines : Plain → Answer → Outcome_of → Type 0
+abbrev pub Declines : Plain → Answer → StepResult → Type 0
 Declines m (Accepted reply) outcome = true ≡ false
 Declines m (Refused code) outcome = (m, Refused code) ≡ outcome
 Declines m (NotYet cause) outcome = (m, NotYet cause) ≡ outcome

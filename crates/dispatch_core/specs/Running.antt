@@ -5,11 +5,12 @@ use Rattle.sector_core.specs.declared.config.Config.{Config}
 use Rattle.change_record.specs.declared.change.Making.{Making}
 use Rattle.change_record.specs.Tables.{Tables}
 use Rattle.change_record.specs.Trail.{IsTrail}
-use Rattle.change_record.specs.Machine.{Plain, meaning}
-use Rattle.plain_machine.specs.declared.sizes.Sizes.{Sizes}
-use Rattle.plain_machine.specs.declared.answer.Answer.{Answer}
-use Rattle.plain_machine.specs.declared.answer.Answer.TheVariants.{Accepted, Refused, NotYet}
-use Rattle.plain_machine.specs.Step.{of_sizes}
+use Rattle.plain.specs.Machine.{Plain}
+use Rattle.change_record.specs.Machine.{meaning}
+use Rattle.plain.specs.declared.sizes.Sizes.{Sizes}
+use Rattle.plain.specs.declared.answer.Answer.{Answer}
+use Rattle.plain.specs.declared.answer.Answer.TheVariants.{Accepted, Refused, NotYet}
+use Rattle.plain.specs.Step.{of_sizes}
 use Rattle.dispatch_core.specs.WellFormed.{IsSound}
 
 pub record Running : Type 0 where

@@ -1,8 +1,8 @@
 -- What a look at a machine shows.
 use Rattle.std.specs.Prelude.{◌≡◌, ℕ, ◌<◌, ◌≤◌, Some, None}
 use Rattle.std.specs.FinMap as map
-use Rattle.dispatch_core.specs.declared.machine.SectorView.{SectorView}
-use Rattle.dispatch_core.specs.declared.machine.SectorView.TheVariants.{Outside, Base, Stored}
+use Rattle.plain.specs.declared.view.SectorView.{SectorView}
+use Rattle.plain.specs.declared.view.SectorView.TheVariants.{Outside, Base, Stored}
 use Rattle.dispatch_core.specs.Running.{Running, plain_of}
 
 -- the content of a sector: none past the image, the overlay's block where it has one, else the image's

@@ -1,13 +1,15 @@
 // Attach: a session begins at a seat.
 ghost use Rattle.std.specs.Prelude.{◌≡◌, ◌+◌, ◌<◌, ◌≤◌, ◌^◌, [], IfOk, false, Some, length, slice_set};
 ghost use Rattle.change_record.specs.Trail.{KeepsTrail};
-ghost use Rattle.plain_machine.specs.Step.{attach, prio_weight, of_sizes};
+ghost use Rattle.plain.specs.Steps.Attach.{attach, prio_weight};
+ghost use Rattle.plain.specs.Step.{of_sizes};
 ghost use Rattle.dispatch_core.specs.Relation.{Answers, Leaves};
 ghost use Rattle.dispatch_core.specs.WellFormed.{WellFormed};
 
 use crate::entering::{enter, stands};
 use crate::{Answer, Code, Reply, Sizes};
-use change_record::{Change, Parts, Seat, Tape};
+use change_record::{Change, Parts, Tape};
+use plain::{SEATS, Seat};
 use sector_core::{Class, OutOfMemory};
 
 /// The session is named by the step's serial; its entity is new in its group, of the class that is asked for, with a weight by its priority.
@@ -28,7 +30,7 @@ pub fn run_attach(
     ensures trail { KeepsTrail tape.old.current parts.old.tables tape.new.current parts.new.tables }
     ensures steps { tape.new.steps ≡ tape.old.steps }
 {
-    if seat >= 16 {
+    if seat >= SEATS {
         return Ok(Answer::Refused(Code::BadSeat));
     }
     if parts.seat(seat).is_some() {

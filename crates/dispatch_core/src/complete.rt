@@ -3,7 +3,7 @@ ghost use Rattle.std.specs.Prelude.{◌≡◌, ◌+◌, ◌*◌, ◌≤◌, ◌<
 ghost use Rattle.std.specs.FinMap as blocks;
 ghost use Rattle.change_record.specs.Trail.{KeepsTrail};
 ghost use Rattle.process_queue.specs.Merge.{bios_at};
-ghost use Rattle.plain_machine.specs.Step.{content, with_blocks, after_outcome, completed, result_of, rest_of_outcome};
+ghost use Rattle.plain.specs.Steps.Finish.{content, with_blocks, after_outcome, completed, result_of, rest_of_outcome};
 ghost use Rattle.dispatch_core.specs.Changes.{with_bios, without_bios};
 ghost use Rattle.dispatch_core.specs.Counts.{blocks_put};
 ghost use Rattle.dispatch_core.specs.Ranges.{total_count};
@@ -13,6 +13,7 @@ ghost use Rattle.dispatch_core.specs.WellFormed.{at};
 use bytes::Bytes;
 use change_record::{Change, Parts, Tape};
 use overlay::Overlay;
+use plain::SECTOR_BYTES;
 use sector_core::{Bio, BioResult, Block, OutOfMemory, Outcome, Range, Slot};
 use std::alloc::Global;
 
@@ -180,10 +181,10 @@ fn content_of(
     requires { range.start + range.count < 2 ^ 64 }
     ensures { IfOk result (λ found. found ≡ content overlay.now range.start range.count bytes.now) }
 {
-    let mut found = Vec::with_capacity(alloc, 512 * range.count as usize)?;
+    let mut found = Vec::with_capacity(alloc, SECTOR_BYTES * range.count as usize)?;
     let mut rest = bytes;
     for sector in range.start..range.end() {
-        let (first, others) = rest.split_at(rest.len().min(512));
+        let (first, others) = rest.split_at(rest.len().min(SECTOR_BYTES));
         found.extend_from_slice(block_or(overlay, sector, first))?;
         rest = others;
     }
@@ -219,7 +220,7 @@ fn store(
 {
     let mut rest = payload;
     for sector in range.start..range.end() {
-        let block = Block::new(rest.split_to(512)?);
+        let block = Block::new(rest.split_to(SECTOR_BYTES)?);
         tape.try_exchange(
             parts,
             Change::Sector {
@@ -239,7 +240,7 @@ fn without_first(outcome: Outcome, count: u32) -> Outcome
     match outcome {
         Outcome::Fetched(bytes) => {
             let mut bytes = bytes;
-            bytes.advance(512 * count as usize);
+            bytes.advance(SECTOR_BYTES * count as usize);
             return Outcome::Fetched(bytes);
         }
         Outcome::Stored => return Outcome::Stored,

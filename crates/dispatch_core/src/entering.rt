@@ -2,15 +2,15 @@
 ghost use Rattle.std.specs.Prelude.{◌≡◌, ◌+◌, ◌≤◌, length};
 ghost use Rattle.change_record.specs.Trail.{KeepsTrail};
 ghost use Rattle.change_record.specs.Machine.{bfq_of};
-ghost use Rattle.change_record.specs.Rules.{stands};
-ghost use Rattle.plain_machine.specs.Step.{of_sizes};
-ghost use Rattle.plain_machine.specs.Entities.{service_of};
+ghost use Rattle.plain.specs.Rules.{stands};
+ghost use Rattle.plain.specs.Step.{of_sizes};
+ghost use Rattle.plain.specs.Looks.{service_of};
 ghost use Rattle.dispatch_core.specs.Changes.{entered};
 
 use crate::Sizes;
 use change_record::{Change, Parts, Tape};
+use plain::{GROUPS, Member, SEATS, State};
 use sector_core::{Class, Entity};
-use service_tree::{Member, State};
 
 /// Whether a group stands: the root does always.
 pub fn stands(parts: &Parts, group: u8) -> bool
@@ -19,13 +19,13 @@ pub fn stands(parts: &Parts, group: u8) -> bool
     if group == 0 {
         return true;
     }
-    if group >= 32 {
+    if group >= GROUPS {
         return false;
     }
-    parts.groups().parent(16 + group).is_some()
+    parts.groups().parent(SEATS + group).is_some()
 }
 
-/// Puts a new entity of a weight into a group: idle, with its times at the first virtual time.
+/// Puts a new entity of a class and a weight into a group: idle, with its times at the first virtual time.
 pub fn enter(
     sizes: Sizes,
     parts: &mut Parts,

@@ -1,14 +1,14 @@
 // What stands in a machine, field by field.
 ghost use Rattle.std.specs.Prelude.{◌≡◌, ℕ, ◌<◌, ◌≤◌, ◌^◌, length, slice_get};
 ghost use Rattle.std.specs.Option.{option_copied};
-ghost use Rattle.overlay.specs.Runs.{IsNextRun};
+ghost use Rattle.plain.specs.Runs.{IsNextRun};
 ghost use Rattle.dispatch_core.specs.Running.{plain_of, IsFor};
 ghost use Rattle.change_record.specs.Machine.{whole_at};
 
 use crate::listed::{Flying, Listed, nth_bio};
 use crate::machine::View;
 use crate::slots::outbox_slots;
-use change_record::{InService, Seat};
+use plain::{InService, Seat};
 use sector_core::{Bio, Entity, Range, Slot};
 
 // No longer run is told at once.
@@ -65,7 +65,7 @@ impl<'a> View<'a> {
 
     /// The queue in service, if one is.
     pub fn in_service(&self) -> Option<InService>
-        ensures { result ≡ (plain_of self.now).bfq.slot }
+        ensures { result ≡ (plain_of self.now).bfq.in_service }
     {
         let machine = self.machine;
         machine.parts.slot()

@@ -1,10 +1,11 @@
 // Finish: every bio of the request gets its result and goes to its session's outbox.
 ghost use Rattle.std.specs.Prelude.{◌≡◌, ◌+◌, ◌≤◌, ◌<◌, ◌++◌, ◌≢◌, ℕ, IfOk, MatchOption, MatchResult, OnOk, IfSome, IsSome, None, Some, length, slice_set, slice_index_or, if◌then◌else◌};
 ghost use Rattle.change_record.specs.Machine.{meaning, outbox_at};
-ghost use Rattle.change_record.specs.declared.change.Seat.{Seat};
+ghost use Rattle.plain.specs.declared.seat.Seat.{Seat};
 ghost use Rattle.change_record.specs.Trail.{KeepsTrail};
-ghost use Rattle.plain_machine.specs.declared.answer.Answer.TheVariants.{Refused};
-ghost use Rattle.plain_machine.specs.Step.{finish, fits, of_sizes};
+ghost use Rattle.plain.specs.declared.answer.Answer.TheVariants.{Refused};
+ghost use Rattle.plain.specs.Steps.Finish.{finish, fits};
+ghost use Rattle.plain.specs.Step.{of_sizes};
 ghost use Rattle.dispatch_core.specs.Changes.{ended_tables};
 ghost use Rattle.dispatch_core.specs.Counts.{finish_exchanges, blocks_put, is_of_leaver};
 ghost use Rattle.dispatch_core.specs.Ranges.{total_count};
@@ -13,8 +14,8 @@ ghost use Rattle.dispatch_core.specs.Relation.{Answers, Leaves};
 ghost use Rattle.dispatch_core.specs.WellFormed.{at, WellFormed};
 
 use crate::complete::{complete, drop_all};
+use crate::dispatch::range_of_request;
 use crate::leave::owe_fewer;
-use crate::send::range_of_request;
 use crate::slots::{list_from, list_joined, outbox_slots};
 use crate::{Answer, Code, Reply, Sizes};
 use change_record::{Change, Parts, Tape};

@@ -2,15 +2,19 @@
 ghost use Rattle.std.specs.Prelude.{◌≡◌, ◌+◌, ◌≤◌, ◌<◌, IfOk, IfSome, length};
 ghost use Rattle.change_record.specs.Trail.{KeepsTrail};
 ghost use Rattle.change_record.specs.Machine.{bfq_of};
-ghost use Rattle.plain_machine.specs.Step.{group_make, group_drop, set_weight, free_group, is_used, is_weight, of_sizes};
+ghost use Rattle.plain.specs.Steps.GroupMake.{group_make, free_group};
+ghost use Rattle.plain.specs.Steps.GroupDrop.{group_drop, is_used};
+ghost use Rattle.plain.specs.Steps.SetWeight.{set_weight};
+ghost use Rattle.plain.specs.Entities.{is_weight};
+ghost use Rattle.plain.specs.Step.{of_sizes};
 ghost use Rattle.dispatch_core.specs.Relation.{Answers, Leaves};
 ghost use Rattle.dispatch_core.specs.WellFormed.{WellFormed};
 
 use crate::entering::{enter, stands};
 use crate::{Answer, Code, Reply, Sizes};
 use change_record::{Change, Parts, Tape};
-use class_trees::Vtimes;
 use group_tree::MOST_LEVELS;
+use plain::{SEATS, Vtimes};
 use sector_core::{Class, OutOfMemory};
 
 /// The group gets the lowest number that is free.
@@ -49,7 +53,7 @@ pub fn run_group_make(
         sizes,
         parts,
         tape,
-        16 + group,
+        SEATS + group,
         parent,
         Class::BestEffort,
         u32::from(weight),
@@ -93,7 +97,7 @@ pub fn run_group_drop(
         return Ok(Answer::Refused(Code::HistoryFull));
     }
     tape.reserve(2)?;
-    let entity = 16 + group;
+    let entity = SEATS + group;
     let parent = match parts.groups().parent(entity) {
         Some(parent) => parent,
         None => 0,
@@ -148,7 +152,7 @@ pub fn run_set_weight(
     tape.exchange(
         parts,
         Change::Pending {
-            entity: 16 + group,
+            entity: SEATS + group,
             weight: u32::from(weight),
         },
     );

@@ -2,16 +2,17 @@
 ghost use Rattle.std.specs.Prelude.{◌≡◌, ◌+◌, ◌≤◌, [], IfOk, Some, length, slice_set};
 ghost use Rattle.change_record.specs.Machine.{meaning};
 ghost use Rattle.change_record.specs.Trail.{KeepsTrail};
-ghost use Rattle.plain_machine.specs.Step.{leave, of_sizes};
+ghost use Rattle.plain.specs.Steps.Leave.{leave};
+ghost use Rattle.plain.specs.Step.{of_sizes};
 ghost use Rattle.dispatch_core.specs.Changes.{fewer_tables, gone_tables, without_bios};
-ghost use Rattle.dispatch_core.specs.WellFormed.{at};
+ghost use Rattle.dispatch_core.specs.WellFormed.{at, WellFormed};
 ghost use Rattle.dispatch_core.specs.Relation.{Answers, Leaves};
-ghost use Rattle.dispatch_core.specs.WellFormed.{WellFormed};
 
 use crate::slots::{list_from, outbox_slots};
 use crate::{Answer, Code, Reply, Sizes};
 use arrayvec::ArrayVec;
-use change_record::{Change, Parts, Seat, Tape};
+use change_record::{Change, Parts, Tape};
+use plain::{SEATS, Seat};
 use sector_core::{OutOfMemory, Slot};
 
 /// The outbox is dropped; queued requests still run, and their completions are dropped.
@@ -29,7 +30,7 @@ pub fn run_leave(
     ensures trail { KeepsTrail tape.old.current parts.old.tables tape.new.current parts.new.tables }
     ensures steps { tape.new.steps ≡ tape.old.steps }
 {
-    if seat >= 16 {
+    if seat >= SEATS {
         return Ok(Answer::Refused(Code::BadSeat));
     }
     let Some(entry) = parts.seat(seat) else {

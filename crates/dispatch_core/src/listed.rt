@@ -2,9 +2,9 @@
 ghost use Rattle.std.specs.Prelude.{◌≡◌, ◌≤◌, length, slice_get};
 ghost use Rattle.std.specs.Option.{option_copied};
 ghost use Rattle.process_queue.specs.Merge.{bios_at};
-ghost use Rattle.plain_machine.specs.Step.{size_of};
+ghost use Rattle.plain.specs.Requests.{size_of};
 
-use crate::send::count_of;
+use crate::dispatch::count_of;
 use request_pool::{Request, RequestPool};
 use sector_core::{Bio, Op, Slot};
 use std::marker::Model;
@@ -18,7 +18,7 @@ pub struct Listed<'a> {
 
 impl<'a> Model for Listed<'a> {
     ghost use Rattle.process_queue.specs.Merge.{bios_at};
-    ghost use Rattle.change_record.specs.Machine.{WholeRequest};
+    ghost use Rattle.plain.specs.Machine.{WholeRequest};
 
     ghost Value = { WholeRequest };
 
@@ -72,7 +72,7 @@ pub struct Flying<'a> {
 }
 
 impl<'a> Model for Flying<'a> {
-    ghost use Rattle.change_record.specs.Machine.{Flight};
+    ghost use Rattle.plain.specs.Machine.{Flight};
 
     ghost Value = { Flight };
 

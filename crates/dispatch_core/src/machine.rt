@@ -5,17 +5,18 @@ ghost use Rattle.change_record.specs.Exchange.{FitBack, FitForth, ArePuts, back_
 ghost use Rattle.change_record.specs.Trail.{KeepsTrail};
 ghost use Rattle.change_record.specs.Machine.{meaning};
 ghost use Rattle.change_record.specs.Tape.{step_at};
-ghost use Rattle.plain_machine.specs.Step.{step as plain_step, opening, Applies, of_sizes};
-ghost use Rattle.plain_machine.specs.Entities.{vtime_view, entity_view};
-ghost use Rattle.plain_machine.specs.Whole.{AreWhole};
-ghost use Rattle.plain_machine.specs.Queued.{request_view};
+ghost use Rattle.plain.specs.Step.{step as plain_step, Applies, of_sizes};
+ghost use Rattle.plain.specs.Opening.{opening};
+ghost use Rattle.plain.specs.Looks.{vtime_view, entity_view, request_view};
+ghost use Rattle.plain_laws.specs.Whole.{AreWhole};
 ghost use Rattle.dispatch_core.specs.WellFormed.{WellFormed};
 ghost use Rattle.dispatch_core.specs.Counts.{exchanges_of, rule_exchanges, IsCount};
 ghost use Rattle.dispatch_core.specs.Relation.{Answers, Leaves};
 ghost use Rattle.dispatch_core.specs.Running.{plain_of, sizes_of, making_of, IsFor, Records};
-ghost use Rattle.plain_machine.specs.Device.{work_of};
+ghost use Rattle.plain.specs.Device.{work_of};
 
 use crate::attach::run_attach;
+use crate::dispatch::{range_of_request, run_dispatch};
 use crate::entering::{service_of, stands};
 use crate::finish::run_finish;
 use crate::groups::{run_group_drop, run_group_make, run_set_weight};
@@ -23,15 +24,14 @@ use crate::leave::run_leave;
 use crate::mode::{run_freeze, run_thaw, run_tick};
 use crate::reap::run_reap;
 use crate::requeue::run_requeue;
-use crate::send::{range_of_request, run_dispatch};
 use crate::slots::outbox_slots;
 use crate::submit::run_submit;
 use crate::switch::run_switch;
-use crate::{Answer, Code, EntityView, RequestView, Sizes, Step, Work};
+use crate::{Answer, Code, EntityView, RequestView, SectorView, Sizes, Step, Work};
 use bfq_select::{member_in, vtime_of};
 use change_record::{Making, Parts, Tape};
-use plain_machine::requests_stay_whole;
-use sector_core::{Block, Class, Config, OutOfMemory, Scheduler};
+use plain_laws::requests_stay_whole;
+use sector_core::{Class, Config, OutOfMemory, Scheduler};
 use std::alloc::Global;
 use std::marker::Model;
 
@@ -262,16 +262,6 @@ impl<'a> Model for View<'a> {
     ghost view = { λ v. v.machine.now };
 }
 
-/// The content of a sector.
-pub enum SectorView<'a> {
-    /// There is no such sector.
-    Outside,
-    /// Nothing has been stored there: it is the image's.
-    Base,
-    /// The overlay's block.
-    Stored(&'a Block),
-}
-
 impl<'a> View<'a> {
     ghost use Rattle.dispatch_core.specs.Shown.{ShowsSector};
 
@@ -353,7 +343,7 @@ impl<'a> View<'a> {
         machine.parts.frozen()
     }
 
-    /// The virtual time of a class of a group; none where there is no such group.
+    /// The virtual time of a class of a group; none if there is no such group.
     pub fn vtime(&self, group: u8, class: Class) -> Option<u64>
         ensures { result ≡ vtime_view (plain_of self.now) group class }
     {

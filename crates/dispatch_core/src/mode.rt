@@ -1,12 +1,16 @@
 // The steps of the operator that touch one place: freeze, thaw and tick.
 ghost use Rattle.std.specs.Prelude.{◌≡◌, ◌+◌, ◌≤◌, IfOk, length};
 ghost use Rattle.change_record.specs.Trail.{KeepsTrail};
-ghost use Rattle.plain_machine.specs.Step.{freeze, thaw, tick, of_sizes};
+ghost use Rattle.plain.specs.Steps.Freeze.{freeze};
+ghost use Rattle.plain.specs.Steps.Thaw.{thaw};
+ghost use Rattle.plain.specs.Steps.Tick.{tick};
+ghost use Rattle.plain.specs.Step.{of_sizes};
 ghost use Rattle.dispatch_core.specs.Relation.{Answers, Leaves};
 ghost use Rattle.dispatch_core.specs.WellFormed.{WellFormed};
 
 use crate::{Answer, Code, Reply, Sizes};
-use change_record::{Change, InService, Parts, Tape};
+use change_record::{Change, Parts, Tape};
+use plain::InService;
 use sector_core::OutOfMemory;
 
 /// From now on submits wait.

@@ -3,14 +3,17 @@ ghost use Rattle.std.specs.Prelude.{◌≡◌, ◌+◌, ◌-◌, ◌≤◌, IfOk
 ghost use Rattle.change_record.specs.Trail.{KeepsTrail};
 ghost use Rattle.change_record.specs.Machine.{meaning, outbox_at};
 ghost use Rattle.sector_core.specs.declared.bio.BioResult.TheVariants.{Written};
-ghost use Rattle.plain_machine.specs.Step.{reap, with_unreaped, of_sizes};
+ghost use Rattle.plain.specs.Steps.Reap.{reap};
+ghost use Rattle.plain.specs.Sessions.{with_unreaped};
+ghost use Rattle.plain.specs.Step.{of_sizes};
 ghost use Rattle.dispatch_core.specs.Ready.{MayReap};
 ghost use Rattle.dispatch_core.specs.Relation.{Answers, Declines, Leaves};
 ghost use Rattle.dispatch_core.specs.WellFormed.{WellFormed};
 
 use crate::slots::{list_from, outbox_slots};
 use crate::{Answer, Cause, Code, Reply, Sizes};
-use change_record::{Change, Parts, Seat, Tape};
+use change_record::{Change, Parts, Tape};
+use plain::{SEATS, Seat};
 use sector_core::{Bio, BioResult, OutOfMemory, Slot};
 
 /// The session's bios come in the order in which they were completed.
@@ -59,7 +62,7 @@ fn found_bio(
     ensures { MatchResult result (λ found. MayReap parts.now.tables room seat session found.0 found.1)
         (λ answer. Declines (meaning parts.now.tables) answer (reap (meaning parts.now.tables) room seat session)) }
 {
-    if seat >= 16 {
+    if seat >= SEATS {
         return Err(Answer::Refused(Code::BadSeat));
     }
     let Some(entry) = parts.seat(seat) else {

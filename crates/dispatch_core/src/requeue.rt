@@ -1,7 +1,8 @@
 // Requeue: the device gives a request back.
 ghost use Rattle.std.specs.Prelude.{◌≡◌, IfOk};
 ghost use Rattle.change_record.specs.Trail.{KeepsTrail};
-ghost use Rattle.plain_machine.specs.Step.{requeue, of_sizes};
+ghost use Rattle.plain.specs.Steps.Requeue.{requeue};
+ghost use Rattle.plain.specs.Step.{of_sizes};
 ghost use Rattle.dispatch_core.specs.Relation.{Answers, Leaves};
 ghost use Rattle.dispatch_core.specs.WellFormed.{WellFormed};
 

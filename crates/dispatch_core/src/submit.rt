@@ -2,16 +2,19 @@
 ghost use Rattle.std.specs.Prelude.{length, ◌≡◌, ◌+◌, ◌≤◌, ◌↔◌, [], IfOk, IsTrue, if◌then◌else◌};
 ghost use Rattle.change_record.specs.Trail.{KeepsTrail};
 ghost use Rattle.change_record.specs.Machine.{meaning};
-ghost use Rattle.plain_machine.specs.Step.{submit, payload_length, merge_in, is_bfq, of_sizes};
+ghost use Rattle.plain.specs.Steps.Submit.{submit, payload_length, merge_in};
+ghost use Rattle.plain.specs.Entities.{is_bfq};
+ghost use Rattle.plain.specs.Step.{of_sizes};
 ghost use Rattle.dispatch_core.specs.Counts.{submit_exchanges};
 ghost use Rattle.dispatch_core.specs.Relation.{Answers, Leaves};
 ghost use Rattle.dispatch_core.specs.WellFormed.{WellFormed};
 
-use crate::join::submit_joined;
-use crate::start::submit_new;
+use crate::submit_alone::submit_new;
+use crate::submit_joining::submit_joined;
 use crate::{Answer, Cause, Code, Sizes};
 use bytes::Bytes;
 use change_record::{Parts, Tape};
+use plain::{BIO_SECTORS, SEATS, SECTOR_BYTES, SESSION_BIOS};
 use sector_core::{Op, OutOfMemory, Range};
 
 /// The bio is named by the step's serial; a store has 512 bytes for each sector, a fetch none.
@@ -34,7 +37,7 @@ pub fn run_submit(
     ensures trail { KeepsTrail tape.old.current parts.old.tables tape.new.current parts.new.tables }
     ensures steps { tape.new.steps ≡ tape.old.steps }
 {
-    if seat >= 16 {
+    if seat >= SEATS {
         return Ok(Answer::Refused(Code::BadSeat));
     }
     let Some(entry) = parts.seat(seat) else {
@@ -46,7 +49,7 @@ pub fn run_submit(
     if entry.session != session {
         return Ok(Answer::Refused(Code::StaleSession));
     }
-    if range.count == 0 || range.count > 64 {
+    if range.count == 0 || range.count > BIO_SECTORS {
         return Ok(Answer::Refused(Code::BadCount));
     }
     if payload.len() != payload_len(op, range.count) {
@@ -58,7 +61,7 @@ pub fn run_submit(
     if parts.frozen() {
         return Ok(Answer::NotYet(Cause::Frozen));
     }
-    if entry.unreaped >= 32 {
+    if entry.unreaped >= SESSION_BIOS {
         return Ok(Answer::Refused(Code::TooManyBios));
     }
     let Some(place) = parts.pool().free_bio(seat) else {
@@ -85,7 +88,7 @@ fn payload_len(op: Op, count: u32) -> usize
 {
     match op {
         Op::Fetch => 0,
-        Op::Store => 512 * count as usize,
+        Op::Store => SECTOR_BYTES * count as usize,
     }
 }
 

@@ -1,11 +1,13 @@
 // Switch: a frozen host without any request gets another scheduler.
 ghost use Rattle.std.specs.Prelude.{◌≡◌, ℕ, ◌+◌, ◌≤◌, ◌<◌, ◌^◌, nat_lt, IfOk, length, is_some, count_by, slice_index_or, if◌then◌else◌};
-ghost use Rattle.change_record.specs.Machine.{meaning, bfq_of, put};
+ghost use Rattle.change_record.specs.Machine.{meaning, bfq_of};
+ghost use Rattle.plain.specs.Machine.{put};
 ghost use Rattle.change_record.specs.Trail.{KeepsTrail};
 ghost use Rattle.bfq_select.specs.Service.{IsSized, IsBounded};
 ghost use Rattle.sector_core.specs.declared.config.Scheduler.TheVariants.{Bfq as BfqScheduler};
-ghost use Rattle.soft_queue.specs.Turn.{numbers};
-ghost use Rattle.plain_machine.specs.Step.{switch, is_same, begun_again, with_first_budgets, with_first_times, with_first_vtime, for_each, of_sizes};
+ghost use Rattle.plain.specs.Lists.{numbers};
+ghost use Rattle.plain.specs.Steps.Switch.{switch, is_same, begun_again, with_first_budgets, with_first_times, with_first_vtime, for_each};
+ghost use Rattle.plain.specs.Step.{of_sizes};
 ghost use Rattle.dispatch_core.specs.Counts.{switch_exchanges};
 ghost use Rattle.dispatch_core.specs.Relation.{Answers, Leaves};
 ghost use Rattle.dispatch_core.specs.WellFormed.{WellFormed, taken};
@@ -13,9 +15,11 @@ ghost use Rattle.dispatch_core.specs.WellFormed.{WellFormed, taken};
 use crate::{Answer, Code, Reply, Sizes};
 use bfq_select::member_in;
 use change_record::{Change, Parts, Tape};
-use class_trees::Vtimes;
+use plain::{Member, Vtimes};
 use sector_core::{Entity, OutOfMemory, Scheduler};
-use service_tree::Member;
+
+// The exchanges of a Switch at most: the mode, 16 heads, and under bfq the times of 32 groups and 48 entities and 16 budgets.
+const MOST_EXCHANGES: usize = 113;
 
 /// The round robin and the heads begin again, and under bfq the times and the budgets of sessions.
 pub fn run_switch(
@@ -44,7 +48,7 @@ pub fn run_switch(
     if !room {
         return Ok(Answer::Refused(Code::HistoryFull));
     }
-    tape.reserve(113)?;
+    tape.reserve(MOST_EXCHANGES)?;
     let mode = Change::Mode {
         scheduler,
         frozen: true,
@@ -148,7 +152,7 @@ fn begin_vtimes(sizes: Sizes, parts: &mut Parts, tape: &mut Tape)
     }
 }
 
-// The virtual time of a group is the first one.
+// The virtual times of a group are the first one.
 fn begin_vtime(sizes: Sizes, parts: &mut Parts, tape: &mut Tape, group: u8)
     requires room { 1 ≤ tape.old.room }
     requires group { group < 32 }

@@ -6,7 +6,7 @@ use Rattle.linked_rows.specs.declared.Sides.{Sides}
 use Rattle.linked_rows.specs.declared.Ends.{Ends}
 use Rattle.linked_rows.specs.Chains.{side_at, ends_at, alone, nobody, row_behind, cut_sides, cut_ends, spliced_sides, spliced_ends, first_or, IsChain, IsList, one_if, times, IsOnce}
 use Rattle.linked_rows.proofs.Chains.{one_self, times-append, chain-same, list-cut, list-splice, behind_front, cut-other, splice-other, cut-length, splice-length, cut-ends-other, splice-ends-other, cut-ends-length, splice-ends-length}
-use Rattle.group_tree.specs.Groups.{parent}
+use Rattle.plain.specs.Groups.{parent}
 use Rattle.group_tree.specs.Children.{linked, left_sides, left_ends, entered_sides, entered_ends, here, Children, IsGroups}
 
 here-self : (g : ℕ) → here g (Some g) ≡ 1

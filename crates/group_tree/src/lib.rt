@@ -15,7 +15,7 @@
 //! group are linked both ways, so no call walks over all entities.
 
 ghost use Rattle.std.specs.Prelude.{◌≡◌, ◌≢◌, ◌+◌, ◌++◌, ◌<◌, ◌≤◌, ℕ, MatchOption, None, Some, length, replicate, slice_index_or, slice_set};
-ghost use Rattle.group_tree.specs.Groups.{climb, depth, entity_of, has_entity, parent, path};
+ghost use Rattle.plain.specs.Groups.{climb, depth, entity_of, has_entity, parent, path};
 
 mod children;
 

@@ -1,19 +1,21 @@
 -- What a call does to the state, and the journal that it is the replay of.
 use Rattle.std.proofs.Common.{true, false, Bool, ◌≡◌, ℕ, ◌+◌, ◌-◌, ◌<◌, ◌≤◌, ◌==◌, nat_lt, List, [], ◌∷◌, ◌++◌, length, refl, sym, ap, ◌∙◌, subst, arith, rules, inl, inr, if◌then◌else◌}
 use Rattle.std.proofs.lemmas.List.{length-append}
-use Rattle.plain_machine.specs.declared.step.Step.{Step}
-use Rattle.plain_machine.specs.declared.call.Call.{Call}
-use Rattle.plain_machine.specs.declared.call.Call.TheVariants.{Do, Hold, Release, Undo, Redo}
-use Rattle.plain_machine.specs.declared.answer.Answer.{Answer}
-use Rattle.plain_machine.specs.declared.answer.Answer.TheVariants.{Accepted, Refused, NotYet}
-use Rattle.plain_machine.specs.declared.answer.Reply.{Reply}
-use Rattle.plain_machine.specs.declared.answer.Reply.TheVariants.{Moved, Done}
-use Rattle.plain_machine.specs.declared.answer.Code.{Code}
-use Rattle.plain_machine.specs.declared.answer.Code.TheVariants.{OutOfMemory}
-use Rattle.plain_machine.specs.declared.answer.Cause.{Cause}
-use Rattle.plain_machine.specs.declared.answer.Cause.TheVariants.{Held}
-use Rattle.plain_machine.specs.Step.{Limits, of_sizes, step, IsAccepted, MayGiveWay}
-use Rattle.plain_machine.specs.Keeper.{State, opened, machine_of, has_room, did, called, MayCall, replayed, replay}
+use Rattle.plain.specs.declared.step.Step.{Step}
+use Rattle.plain.specs.declared.call.Call.{Call}
+use Rattle.plain.specs.declared.call.Call.TheVariants.{Do, Hold, Release, Undo, Redo}
+use Rattle.plain.specs.declared.answer.Answer.{Answer}
+use Rattle.plain.specs.declared.answer.Answer.TheVariants.{Accepted, Refused, NotYet}
+use Rattle.plain.specs.declared.answer.Reply.{Reply}
+use Rattle.plain.specs.declared.answer.Reply.TheVariants.{Moved, Done}
+use Rattle.plain.specs.declared.answer.Code.{Code}
+use Rattle.plain.specs.declared.answer.Code.TheVariants.{OutOfMemory}
+use Rattle.plain.specs.declared.answer.Cause.{Cause}
+use Rattle.plain.specs.declared.answer.Cause.TheVariants.{Held}
+use Rattle.plain.specs.Opening.{Limits}
+use Rattle.plain.specs.Step.{of_sizes, step, IsAccepted, MayGiveWay}
+use Rattle.plain.specs.Keeper.{State, opened, machine_of, has_room, did, called}
+use Rattle.plain.specs.Headline.{MayCall, replayed, replay}
 use Rattle.history.specs.Roll.{Line, plain_at, SameLine, AddsStep, MayStep}
 use Rattle.history.proofs.Room.{no_room}
 use Rattle.history.specs.Keeping.{state_of, IsKeeper}

@@ -4,11 +4,13 @@ use Rattle.std.proofs.Math.Seq.{take-suc}
 use Rattle.change_record.specs.declared.change.Change.{Change}
 use Rattle.change_record.specs.Tables.{Tables}
 use Rattle.change_record.specs.Exchange.{back_tables, back_left, forth_tables, forth_left, ArePuts}
-use Rattle.change_record.specs.Machine.{Plain, meaning}
+use Rattle.plain.specs.Machine.{Plain}
+use Rattle.change_record.specs.Machine.{meaning}
 use Rattle.change_record.proofs.Exchanges.{back_tables-forth, back_left-forth, forth_tables-back, FitBack-forth}
-use Rattle.plain_machine.specs.declared.call.Stamped.{Stamped}
-use Rattle.plain_machine.specs.Step.{Limits, opening, step}
-use Rattle.plain_machine.specs.Keeper.{fold_from, fold}
+use Rattle.plain.specs.declared.call.Stamped.{Stamped}
+use Rattle.plain.specs.Opening.{Limits, opening}
+use Rattle.plain.specs.Step.{step}
+use Rattle.plain.specs.Keeper.{fold_from, fold}
 use Rattle.dispatch_core.specs.WellFormed.{IsSound}
 use Rattle.dispatch_core.proofs.Laws.{IsSound-later}
 use Rattle.history.specs.Line.{stamped_at, Stands, Waits, IsPast, IsFuture}

@@ -1,25 +1,39 @@
 -- Without room in the history no step is accepted.
 use Rattle.std.proofs.Common.{ℕ, List, [], ◌∷◌, ◌++◌, Option, Some, None, Bool, true, false, cond}
-use Rattle.sector_core.specs.First.{first_of}
+use Rattle.plain.specs.Lists.{first_of}
 use Rattle.sector_core.specs.declared.bio.Outcome.{Outcome}
 use Rattle.sector_core.specs.declared.bio.Bio.{Bio}
-use Rattle.change_record.specs.Machine.{Plain, Flight, WholeRequest}
-use Rattle.change_record.specs.declared.change.InService.{InService}
-use Rattle.plain_machine.specs.declared.answer.Answer.{Answer}
-use Rattle.plain_machine.specs.declared.step.Step.{Step}
-use Rattle.plain_machine.specs.declared.step.Step.TheVariants.{Attach, Submit, Reap, Leave, Dispatch, Finish, Requeue, GroupMake, GroupDrop, SetWeight, Freeze, Thaw, Switch, Tick}
-use Rattle.plain_machine.specs.declared.answer.Code.TheVariants.{BadSeat, SeatTaken, NoGroup, BadPrio, BadCount, BadLength, OutOfRange, TooManyBios, NothingOwed, BadTag, NotInFlight, BadOutcome, BadWeight, TooDeep, GroupInUse, AlreadyFrozen, NotFrozen, NotDrained, SameScheduler, HistoryFull}
-use Rattle.plain_machine.specs.declared.answer.Cause.TheVariants.{Frozen, RequestsFull}
-use Rattle.plain_machine.specs.declared.answer.Answer.TheVariants.{Refused, NotYet}
+use Rattle.plain.specs.Machine.{Plain, Flight, WholeRequest}
+use Rattle.plain.specs.declared.seat.InService.{InService}
+use Rattle.plain.specs.declared.answer.Answer.{Answer}
+use Rattle.plain.specs.declared.step.Step.{Step}
+use Rattle.plain.specs.declared.step.Step.TheVariants.{Attach, Submit, Reap, Leave, Dispatch, Finish, Requeue, GroupMake, GroupDrop, SetWeight, Freeze, Thaw, Switch, Tick}
+use Rattle.plain.specs.declared.answer.Code.TheVariants.{BadSeat, SeatTaken, NoGroup, BadPrio, BadCount, BadLength, OutOfRange, TooManyBios, NothingOwed, BadTag, NotInFlight, BadOutcome, BadWeight, TooDeep, GroupInUse, AlreadyFrozen, NotFrozen, NotDrained, SameScheduler, HistoryFull}
+use Rattle.plain.specs.declared.answer.Cause.TheVariants.{Frozen, RequestsFull}
+use Rattle.plain.specs.declared.answer.Answer.TheVariants.{Refused, NotYet}
 use Rattle.std.specs.Prelude.{◌+◌, ◌==◌, nat_le, nat_lt, not, ◌||◌, ◌&&◌, is_some, length}
-use Rattle.plain_machine.specs.Step.{Limits, Outcome_of, unless, seat_tests, payload_length, unreaped, requests_of, session_tests, is_same, requeue_of, requeued, dispatch_of, sent_again, ticked, fits, size_of, finished, needs_request, reaped, sent, sent_by, sent_by_bfq, accepted_if, woken, submitted, dispatch_to, next_queue, lowest_free, finish_of, made_group, free_group, group_tests, is_used, is_weight, step, IsAccepted}
+use Rattle.plain.specs.Opening.{Limits}
+use Rattle.plain.specs.Tests.{StepResult, unless, accepted_if}
+use Rattle.plain.specs.Sessions.{seat_tests, unreaped, session_tests}
+use Rattle.plain.specs.Steps.Submit.{payload_length, needs_request, woken, submitted}
+use Rattle.plain.specs.Requests.{requests_of, size_of}
+use Rattle.plain.specs.Steps.Switch.{is_same}
+use Rattle.plain.specs.Steps.Requeue.{requeue_of, requeued}
+use Rattle.plain.specs.Steps.Dispatch.{dispatch_of, sent_again, sent, sent_by, sent_by_bfq, dispatch_to, next_queue, lowest_free}
+use Rattle.plain.specs.Steps.Tick.{ticked}
+use Rattle.plain.specs.Steps.Finish.{fits, finished, finish_of}
+use Rattle.plain.specs.Steps.Reap.{reaped}
+use Rattle.plain.specs.Steps.GroupMake.{made_group, free_group}
+use Rattle.plain.specs.Entities.{group_tests, is_weight}
+use Rattle.plain.specs.Steps.GroupDrop.{is_used}
+use Rattle.plain.specs.Step.{step, IsAccepted}
 use Rattle.std.specs.Option.{option_map}
 use Rattle.sector_core.specs.declared.config.Scheduler.{Scheduler}
 use Rattle.sector_core.specs.declared.config.Scheduler.TheVariants.{Plain as PlainScheduler, Bfq as BfqScheduler}
-use Rattle.group_tree.specs.Groups.{depth, most_levels}
-use Rattle.change_record.specs.Rules.{stands}
-use Rattle.plain_machine.specs.declared.answer.Reply.{Reply}
-use Rattle.plain_machine.specs.declared.answer.Reply.TheVariants.{Queued}
+use Rattle.plain.specs.Groups.{depth, most_levels}
+use Rattle.plain.specs.Rules.{stands}
+use Rattle.plain.specs.declared.answer.Reply.{Reply}
+use Rattle.plain.specs.declared.answer.Reply.TheVariants.{Queued}
 
 -- no test of the list accepts
 abbrev AllRefuse : List (Bool × Answer) → Type 0
@@ -27,10 +41,10 @@ AllRefuse [] = Unit {0}
 AllRefuse (x ∷ xs) = (IsAccepted x.1 → ⊥) × AllRefuse xs
 
 -- where every test refuses, what follows them does not accept either
-refuses : (tests : List (Bool × Answer)) (m : Plain) (o : Outcome_of) → AllRefuse tests → (IsAccepted o.1 → ⊥) → IsAccepted (unless tests m o).1 → ⊥
+refuses : (tests : List (Bool × Answer)) (m : Plain) (o : StepResult) → AllRefuse tests → (IsAccepted o.1 → ⊥) → IsAccepted (unless tests m o).1 → ⊥
 refuses [] m o h none = none
 refuses (x ∷ xs) m o h none =
-    elim x.0 as (λ b. IsAccepted (elim (cond b (Some x.1) (first_of xs)) as (λ _. Outcome_of) [ None ↦ o | Some answer ↦ (m, answer) ]).1 → ⊥) [
+    elim x.0 as (λ b. IsAccepted (elim (cond b (Some x.1) (first_of xs)) as (λ _. StepResult) [ None ↦ o | Some answer ↦ (m, answer) ]).1 → ⊥) [
       | true ↦ h.0
       | false ↦ refuses xs m o h.1 none
     ]
@@ -125,4 +139,4 @@ no_room l m n (Switch scheduler) h = refuses (
     ∷ (nat_lt 0 (requests_of l m), Refused NotDrained)
     ∷ (is_same scheduler m.scheduler, Refused SameScheduler)
     ∷ []) m (m, Refused HistoryFull) ((λ h. h), ((λ h. h), ((λ h. h), tt))) (λ h. h) h
-no_room l m n Tick h = no_tick m m.bfq.slot h
+no_room l m n Tick h = no_tick m m.bfq.in_service h

@@ -1,8 +1,9 @@
 -- A run of calls, one more at its end.
 use Rattle.std.proofs.Common.{List, [], ◌∷◌, ◌++◌, refl, subst}
-use Rattle.plain_machine.specs.declared.call.Call.{Call}
-use Rattle.plain_machine.specs.declared.answer.Answer.{Answer}
-use Rattle.plain_machine.specs.Keeper.{State, MayCall, MayRun}
+use Rattle.plain.specs.declared.call.Call.{Call}
+use Rattle.plain.specs.declared.answer.Answer.{Answer}
+use Rattle.plain.specs.Keeper.{State}
+use Rattle.plain.specs.Headline.{MayCall, MayRun}
 use Rattle.history.specs.Kept.{Kept}
 use Rattle.history.specs.Turns.{Turns, KeptRun}
 

@@ -1,5 +1,5 @@
 -- An undo, a redo and a new step leave a line.
-use Rattle.std.proofs.Common.{true, ◌≡◌, ℕ, zero, suc, ◌+◌, ◌-◌, ◌<◌, ◌≤◌, List, [], ◌∷◌, ◌++◌, take, length, set, get_or, refl, sym, ap, ◌∙◌, subst, arith, length-set, length-append, inl, inr}
+use Rattle.std.proofs.Common.{true, ◌≡◌, ℕ, zero, suc, ◌+◌, ◌-◌, ◌<◌, ◌≤◌, List, [], ◌∷◌, ◌++◌, take, length, set, get_or, refl, sym, ap, ◌∙◌, subst, arith, length-set, length-append, inl, inr, Bool, false}
 use Rattle.std.proofs.Math.ListN.{get_or-append}
 use Rattle.std.proofs.lemmas.List.{get_or-set_same, get_or-set_other, get_or-take, get_or-append_right, length-take-le}
 use Rattle.change_record.specs.declared.change.Change.{Change}
@@ -7,17 +7,18 @@ use Rattle.change_record.specs.Tables.{Tables}
 use Rattle.change_record.specs.Exchange.{back_tables, back_left, forth_tables, forth_left}
 use Rattle.change_record.specs.Trail.{IsTrail}
 use Rattle.change_record.specs.Tape.{step_at}
-use Rattle.change_record.specs.Machine.{Plain, meaning}
+use Rattle.plain.specs.Machine.{Plain}
+use Rattle.change_record.specs.Machine.{meaning}
 use Rattle.change_record.proofs.Exchanges.{back_tables-forth, forth_tables-back}
-use Rattle.plain_machine.specs.declared.sizes.Sizes.{Sizes}
-use Rattle.plain_machine.specs.declared.step.Step.{Step}
-use Rattle.plain_machine.specs.declared.call.Stamped.{Stamped}
-use Rattle.std.proofs.Common.{Bool, false}
-use Rattle.plain_machine.specs.declared.answer.Answer.{Answer}
-use Rattle.plain_machine.specs.declared.answer.Answer.TheVariants.{Accepted, Refused, NotYet}
-use Rattle.plain_machine.specs.declared.answer.Reply.{Reply}
-use Rattle.plain_machine.specs.declared.answer.Code.TheVariants.{OutOfMemory}
-use Rattle.plain_machine.specs.Step.{Limits, of_sizes, step, IsAccepted, MayGiveWay, Applies}
+use Rattle.plain.specs.declared.sizes.Sizes.{Sizes}
+use Rattle.plain.specs.declared.step.Step.{Step}
+use Rattle.plain.specs.declared.call.Stamped.{Stamped}
+use Rattle.plain.specs.declared.answer.Answer.{Answer}
+use Rattle.plain.specs.declared.answer.Answer.TheVariants.{Accepted, Refused, NotYet}
+use Rattle.plain.specs.declared.answer.Reply.{Reply}
+use Rattle.plain.specs.declared.answer.Code.TheVariants.{OutOfMemory}
+use Rattle.plain.specs.Opening.{Limits}
+use Rattle.plain.specs.Step.{of_sizes, step, IsAccepted, MayGiveWay, Applies}
 use Rattle.history.specs.Roll.{Line, plain_at, SameLine, AddsStep, LineAfter, MayStep}
 use Rattle.history.proofs.Room.{no_room}
 use Rattle.dispatch_core.specs.WellFormed.{IsSound}

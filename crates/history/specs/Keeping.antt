@@ -1,8 +1,9 @@
 -- What a keeper is at any time.
 use Rattle.std.specs.Prelude.{◌≡◌, ℕ, ◌+◌, ◌≤◌, ◌<◌, ◌^◌, Bool, List, length}
-use Rattle.plain_machine.specs.declared.call.Call.{Call}
-use Rattle.plain_machine.specs.Step.{of_sizes}
-use Rattle.plain_machine.specs.Keeper.{State, replay}
+use Rattle.plain.specs.declared.call.Call.{Call}
+use Rattle.plain.specs.Step.{of_sizes}
+use Rattle.plain.specs.Keeper.{State}
+use Rattle.plain.specs.Headline.{replay}
 use Rattle.history.specs.Roll.{Line}
 
 -- the state that a line, a hold and a journal make

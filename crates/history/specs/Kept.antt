@@ -1,6 +1,6 @@
 -- A keeper as its callers see it: its state, and the exchanges behind it.
 use Rattle.std.specs.Prelude.{ℕ, List}
-use Rattle.plain_machine.specs.Keeper.{State}
+use Rattle.plain.specs.Keeper.{State}
 
 pub record Kept : Type 0 where
   pub state : State

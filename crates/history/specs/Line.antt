@@ -5,10 +5,11 @@ use Rattle.change_record.specs.Tables.{Tables}
 use Rattle.change_record.specs.Exchange.{back_tables, back_left, forth_tables, FitBack, ArePuts}
 use Rattle.change_record.specs.Tape.{step_at}
 use Rattle.change_record.specs.Machine.{meaning}
-use Rattle.plain_machine.specs.declared.sizes.Sizes.{Sizes}
-use Rattle.plain_machine.specs.declared.step.Step.TheVariants.{Dispatch}
-use Rattle.plain_machine.specs.declared.call.Stamped.{Stamped}
-use Rattle.plain_machine.specs.Step.{Limits, opening, of_sizes, step}
+use Rattle.plain.specs.declared.sizes.Sizes.{Sizes}
+use Rattle.plain.specs.declared.step.Step.TheVariants.{Dispatch}
+use Rattle.plain.specs.declared.call.Stamped.{Stamped}
+use Rattle.plain.specs.Opening.{Limits, opening}
+use Rattle.plain.specs.Step.{of_sizes, step}
 use Rattle.dispatch_core.specs.WellFormed.{IsSound}
 
 -- the step at a number

@@ -1,14 +1,14 @@
 -- The line of steps and the machine of those before the cursor, as a keeper sees them.
 use Rattle.std.specs.Prelude.{◌≡◌, ℕ, ◌+◌, Bool, List, [], ◌∷◌, ◌++◌, take, ◌⊎◌}
-use Rattle.change_record.specs.Machine.{Plain}
-use Rattle.plain_machine.specs.declared.sizes.Sizes.{Sizes}
-use Rattle.plain_machine.specs.declared.step.Step.{Step}
-use Rattle.plain_machine.specs.declared.call.Stamped.{Stamped}
-use Rattle.plain_machine.specs.declared.answer.Answer.{Answer}
-use Rattle.plain_machine.specs.declared.answer.Answer.TheVariants.{Accepted, Refused, NotYet}
-use Rattle.plain_machine.specs.declared.answer.Code.TheVariants.{OutOfMemory}
-use Rattle.plain_machine.specs.Step.{of_sizes, step, MayGiveWay}
-use Rattle.plain_machine.specs.Keeper.{fold}
+use Rattle.plain.specs.Machine.{Plain}
+use Rattle.plain.specs.declared.sizes.Sizes.{Sizes}
+use Rattle.plain.specs.declared.step.Step.{Step}
+use Rattle.plain.specs.declared.call.Stamped.{Stamped}
+use Rattle.plain.specs.declared.answer.Answer.{Answer}
+use Rattle.plain.specs.declared.answer.Answer.TheVariants.{Accepted, Refused, NotYet}
+use Rattle.plain.specs.declared.answer.Code.TheVariants.{OutOfMemory}
+use Rattle.plain.specs.Step.{of_sizes, step, MayGiveWay}
+use Rattle.plain.specs.Keeper.{fold}
 use Rattle.dispatch_core.specs.Counts.{IsCount}
 
 pub record Line : Type 0 where

@@ -1,11 +1,12 @@
 // The keeper.
 ghost use Rattle.std.specs.Prelude.{◌≡◌, ◌+◌, ◌-◌, ◌≤◌, ◌<◌, ◌^◌, nat_lt, [], ◌∷◌, ◌++◌, IfOk, IfErr, IfSome, IsTrue, length, take, drop, map, slice_get, vec_len, vec_capacity};
 ghost use Rattle.std.specs.Option.{option_copied};
-ghost use Rattle.plain_machine.specs.Step.{of_sizes};
-ghost use Rattle.plain_machine.specs.Keeper.{State, opened, machine_of, called, MayCall, MayRun, replay};
-ghost use Rattle.plain_machine.specs.declared.call.Call.TheVariants.{Do as DoStep, Hold as HoldAll, Release as ReleaseAll, Undo as UndoSteps, Redo as RedoSteps};
-ghost use Rattle.plain_machine.specs.declared.answer.Answer.TheVariants.{Accepted};
-ghost use Rattle.plain_machine.specs.declared.answer.Reply.TheVariants.{Moved};
+ghost use Rattle.plain.specs.Step.{of_sizes};
+ghost use Rattle.plain.specs.Keeper.{State, opened, machine_of, called};
+ghost use Rattle.plain.specs.Headline.{MayCall, MayRun, replay};
+ghost use Rattle.plain.specs.declared.call.Call.TheVariants.{Do as DoStep, Hold as HoldAll, Release as ReleaseAll, Undo as UndoSteps, Redo as RedoSteps};
+ghost use Rattle.plain.specs.declared.answer.Answer.TheVariants.{Accepted};
+ghost use Rattle.plain.specs.declared.answer.Reply.TheVariants.{Moved};
 ghost use Rattle.dispatch_core.specs.Running.{plain_of, sizes_of, IsFor};
 ghost use Rattle.history.specs.Turns.{Turns};
 
@@ -13,7 +14,7 @@ use crate::moves::{redo_steps, undo_steps};
 use crate::roll::Roll;
 use change_record::push_within;
 use dispatch_core::{Answer, Cause, Code, Reply, Step, View};
-use plain_machine::{Call, Stamped};
+use plain::{Call, Stamped};
 use sector_core::{Config, OutOfMemory};
 use std::alloc::Global;
 use std::marker::Model;

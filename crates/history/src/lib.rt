@@ -22,5 +22,5 @@ mod run;
 
 pub use host_calls::{ClientCall, Closed, OperatorCall, RingReply, SeatName};
 pub use keeper::{Keeper, KeeperView};
-pub use plain_machine::{Call, DeviceCall, Stamped};
+pub use plain::{Call, DeviceCall, Stamped};
 pub use run::RunStop;

@@ -1,14 +1,14 @@
 // The line of steps, and the machine of those before the cursor.
 ghost use Rattle.std.specs.Prelude.{◌≡◌, ◌+◌, ◌-◌, ◌<◌, ◌≤◌, ◌^◌, ◌%◌, slice_get, slice_index_or, [], ◌∷◌, ◌++◌, IfOk, OnOk, OnErr, IfSome, length, take, IsTrue, vec_len, vec_capacity};
 ghost use Rattle.std.specs.Option.{option_copied};
-ghost use Rattle.plain_machine.specs.Step.{of_sizes, IsAccepted};
-ghost use Rattle.plain_machine.specs.Keeper.{fold};
+ghost use Rattle.plain.specs.Step.{of_sizes, IsAccepted};
+ghost use Rattle.plain.specs.Keeper.{fold};
 ghost use Rattle.dispatch_core.specs.Running.{plain_of, sizes_of, IsFor};
 ghost use Rattle.history.specs.Roll.{plain_at, SameLine, LengthsAfter, MayStep};
 
 use change_record::{Tape, push_within};
 use dispatch_core::{Answer, Code, Machine, Step};
-use plain_machine::Stamped;
+use plain::Stamped;
 use sector_core::{Config, OutOfMemory};
 use std::alloc::Global;
 use std::marker::Model;

@@ -1,12 +1,13 @@
 // Calls one after the other, and the laws of Undo and Redo.
 ghost use Rattle.std.specs.Prelude.{◌≡◌, ◌+◌, ◌-◌, ◌≤◌, ◌<◌, IfOk, IfErr, length, take};
-ghost use Rattle.plain_machine.specs.Keeper.{State, machine_of, called, MayRun};
+ghost use Rattle.plain.specs.Keeper.{State, machine_of, called};
+ghost use Rattle.plain.specs.Headline.{MayRun};
 ghost use Rattle.history.specs.Turns.{KeptRun};
 
 use crate::keeper::Keeper;
 use change_record::push_within;
 use dispatch_core::Answer;
-use plain_machine::Call;
+use plain::Call;
 use std::alloc::Global;
 
 /// A run that stopped for want of memory, before the answer list could grow.

@@ -6,18 +6,21 @@ use Rattle.sector_core.specs.declared.bio.Bio.{Bio}
 use Rattle.sector_core.specs.declared.bio.Op.{Op}
 use Rattle.sector_core.specs.declared.bio.Op.TheVariants.{Fetch, Store}
 use Rattle.sector_core.specs.declared.range.Range.{Range}
-use Rattle.process_queue.specs.Merge.{same_op}
-use Rattle.change_record.specs.Machine.{Plain}
-use Rattle.plain_machine.specs.declared.call.Call.{Call}
-use Rattle.plain_machine.specs.Keeper.{machine_of, replay}
-use Rattle.plain_machine.specs.Step.{Limits, opening, new_bio, queue_with, merge_in, completed}
-use Rattle.plain_machine.proofs.Joins.{All-queue_with, joined_is}
-use Rattle.plain_machine.specs.Requests.{EachRequest}
+use Rattle.plain.specs.Merge.{same_op}
+use Rattle.plain.specs.Machine.{Plain}
+use Rattle.plain.specs.declared.call.Call.{Call}
+use Rattle.plain.specs.Keeper.{machine_of}
+use Rattle.plain.specs.Headline.{replay}
+use Rattle.plain.specs.Opening.{Limits, opening}
+use Rattle.plain.specs.Steps.Submit.{new_bio, queue_with, merge_in}
+use Rattle.plain.specs.Steps.Finish.{completed}
+use Rattle.plain_laws.proofs.Joins.{All-queue_with, joined_is}
+use Rattle.plain_laws.specs.Requests.{EachRequest}
 use Rattle.host_calls.specs.Lengths.{BlocksAreFull, HasPayload, HasPayloads, HasFittingResult, ResultsFit, EachBlockIsFull, EachPayloadFits, EachResultFits}
-use Rattle.plain_machine.proofs.Leads.{IsSized}
-use Rattle.plain_machine.proofs.Moves.{Moves}
-use Rattle.plain_machine.proofs.Stamps.{machine-moves}
-use Rattle.plain_machine.proofs.Each.{put-all, with_bio-all, each-queued, each-sent, each-resent, each-given_back, each-landed}
+use Rattle.plain_laws.proofs.Leads.{IsSized}
+use Rattle.plain_laws.proofs.Moves.{Moves}
+use Rattle.plain_laws.proofs.Stamps.{machine-moves}
+use Rattle.plain_laws.proofs.Each.{put-all, with_bio-all, each-queued, each-sent, each-resent, each-given_back, each-landed}
 use Rattle.host_calls.proofs.Full.{blocks-stay, results-fit}
 
 -- what has been stored, what waits and what is completed has the bytes of its sectors

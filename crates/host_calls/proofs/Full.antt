@@ -1,9 +1,8 @@
 -- Blocks have 512 bytes, and what is read has the bytes of its sectors.
 use Rattle.std.proofs.Common.{true, false, Bool, ◌≡◌, ℕ, zero, suc, ◌+◌, ◌*◌, ◌≤◌, List, [], ◌∷◌, length, take, drop, Option, None, Some, All, cond, unwrap_or, refl, sym, ap, ◌∙◌, subst, arith, eqb-true}
-use Rattle.std.specs.Ordering.{nat_cmp}
+use Rattle.std.specs.Ordering.{nat_cmp, eq_by_cmp}
 use Rattle.std.specs.FinMap as blocks
 use Rattle.std.specs.Cmp.{nat_cmp_total}
-use Rattle.std.specs.Ordering.{eq_by_cmp}
 use Rattle.std.proofs.lemmas.List.{length-append, length-drop, length-take}
 use Rattle.std.proofs.lemmas.List.Elements.{All-nil, All-cons, All-head, All-tail}
 use Rattle.sector_core.specs.declared.bio.Bio.{Bio}
@@ -11,10 +10,11 @@ use Rattle.sector_core.specs.declared.bio.Op.{Op}
 use Rattle.sector_core.specs.declared.bio.Op.TheVariants.{Fetch, Store}
 use Rattle.sector_core.specs.declared.bio.Outcome.{Outcome}
 use Rattle.sector_core.specs.declared.bio.Outcome.TheVariants.{Fetched, Stored, Failed}
-use Rattle.overlay.specs.Blocks.{Blocks}
-use Rattle.plain_machine.specs.Step.{fits, size_of, with_blocks, with_stored, after_outcome, content, result_of, rest_of_outcome, completed}
-use Rattle.plain_machine.proofs.Puts.{some_is}
-use Rattle.plain_machine.proofs.Wholes.{size_of-cons}
+use Rattle.plain.specs.Machine.{Blocks}
+use Rattle.plain.specs.Steps.Finish.{fits, with_blocks, with_stored, after_outcome, content, result_of, rest_of_outcome, completed}
+use Rattle.plain.specs.Requests.{size_of}
+use Rattle.plain_laws.proofs.Puts.{some_is}
+use Rattle.plain_laws.proofs.Wholes.{size_of-cons}
 use Rattle.host_calls.specs.Lengths.{BlocksAreFull, HasPayload, FitsSectors, HasFittingResult}
 
 -- a block more of 512 bytes

@@ -5,15 +5,16 @@ use Rattle.sector_core.specs.declared.bio.Bio.{Bio}
 use Rattle.sector_core.specs.declared.bio.Op.{Op}
 use Rattle.sector_core.specs.declared.bio.Outcome.{Outcome}
 use Rattle.sector_core.specs.declared.range.Range.{Range}
-use Rattle.overlay.specs.Blocks.{Blocks}
-use Rattle.change_record.specs.Machine.{Plain}
-use Rattle.plain_machine.specs.declared.call.Call.{Call}
-use Rattle.plain_machine.specs.Step.{Limits, new_bio, queue_with, merge_in, completed, result_of, rest_of_outcome}
-use Rattle.plain_machine.proofs.Joins.{All-queue_with}
+use Rattle.plain.specs.Machine.{Blocks, Plain}
+use Rattle.plain.specs.declared.call.Call.{Call}
+use Rattle.plain.specs.Opening.{Limits}
+use Rattle.plain.specs.Steps.Submit.{new_bio, queue_with, merge_in}
+use Rattle.plain.specs.Steps.Finish.{completed, result_of, rest_of_outcome}
+use Rattle.plain_laws.proofs.Joins.{All-queue_with}
 use Rattle.host_calls.specs.Results.{HasResult, Waits, ResultsAreOut, OutboxesHaveResults}
-use Rattle.plain_machine.proofs.Moves.{Moves}
-use Rattle.plain_machine.proofs.Stamps.{machine-moves}
-use Rattle.plain_machine.proofs.Each.{put-all, with_bio-all, each-queued, each-sent, each-resent, each-given_back, each-landed}
+use Rattle.plain_laws.proofs.Moves.{Moves}
+use Rattle.plain_laws.proofs.Stamps.{machine-moves}
+use Rattle.plain_laws.proofs.Each.{put-all, with_bio-all, each-queued, each-sent, each-resent, each-given_back, each-landed}
 
 -- each bio that is completed has a result
 completed-all : (outcome : Outcome) (overlay : Blocks) (bios : List Bio) → All HasResult (completed outcome overlay bios)

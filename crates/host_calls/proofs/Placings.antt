@@ -2,23 +2,25 @@
 use Rattle.std.proofs.Common.{true, false, Bool, ◌≡◌, inl, inr, ℕ, ◌+◌, ◌<◌, ◌≤◌, ◌==◌, nat_le, List, [], ◌∷◌, ◌++◌, Some, None, cond, sum_by, refl, sym, ap, ◌∙◌, arith, eq-eqb, ne_eqb}
 use Rattle.std.proofs.lemmas.Bool.{cases_eq, cond-true, cond-false, leb-true, leb-false}
 use Rattle.std.proofs.lemmas.List.Sums.{sum_by-cons, sum_by_push, sum_by-append}
-use Rattle.soft_queue.specs.Turn.{numbers, seats}
+use Rattle.plain.specs.Lists.{numbers, seats}
 use Rattle.sector_core.specs.declared.bio.Bio.{Bio}
 use Rattle.sector_core.specs.declared.bio.Op.{Op}
 use Rattle.sector_core.specs.declared.bio.Outcome.{Outcome}
 use Rattle.sector_core.specs.declared.range.Range.{Range}
-use Rattle.overlay.specs.Blocks.{Blocks}
-use Rattle.change_record.specs.Machine.{WholeRequest, Flight, Plain, put}
-use Rattle.plain_machine.specs.declared.call.Call.{Call}
-use Rattle.plain_machine.specs.Step.{Limits, opening, new_bio, with_bio, queue_with, merge_in, completed, result_of, rest_of_outcome}
-use Rattle.plain_machine.specs.Keeper.{machine_of, replay}
-use Rattle.plain_machine.proofs.Puts.{put_here, put_other}
-use Rattle.plain_machine.proofs.Joins.{sum_by-queue_with}
-use Rattle.plain_machine.proofs.Sendings.{IsTaken, IsTaken-first, resent, given_back}
+use Rattle.plain.specs.Machine.{Blocks, WholeRequest, Flight, Plain, put}
+use Rattle.plain.specs.declared.call.Call.{Call}
+use Rattle.plain.specs.Opening.{Limits, opening}
+use Rattle.plain.specs.Steps.Submit.{new_bio, with_bio, queue_with, merge_in}
+use Rattle.plain.specs.Steps.Finish.{completed, result_of, rest_of_outcome}
+use Rattle.plain.specs.Keeper.{machine_of}
+use Rattle.plain.specs.Headline.{replay}
+use Rattle.plain_laws.proofs.Puts.{put_here, put_other}
+use Rattle.plain_laws.proofs.Joins.{sum_by-queue_with}
+use Rattle.plain_laws.proofs.Sendings.{IsTaken, IsTaken-first, resent, given_back}
 use Rattle.host_calls.specs.Places.{bios_named, named_in, places, NothingElse, EachBioHasOnePlace}
-use Rattle.plain_machine.proofs.Moves.{Moves, queued_in, sent_from, landed, landed_at}
-use Rattle.plain_machine.proofs.Stamps.{machine-moves}
-use Rattle.plain_machine.proofs.Flights.{of_flight, flown-sum, flown-put, sum_none}
+use Rattle.plain_laws.proofs.Moves.{Moves, queued_in, sent_from, landed, landed_at}
+use Rattle.plain_laws.proofs.Stamps.{machine-moves}
+use Rattle.plain_laws.proofs.Flights.{of_flight, flown-sum, flown-put, sum_none}
 use Rattle.host_calls.proofs.Totals.{seats-put, seats-less}
 
 -- how many bios of a request have this serial

@@ -4,20 +4,24 @@ use Rattle.std.proofs.lemmas.List.Elements.{All-head}
 use Rattle.sector_core.specs.declared.bio.Bio.{Bio}
 use Rattle.sector_core.specs.declared.bio.BioResult.{BioResult}
 use Rattle.sector_core.specs.declared.bio.BioResult.TheVariants.{Written}
-use Rattle.change_record.specs.Machine.{Plain}
-use Rattle.plain_machine.specs.declared.answer.Reply.{Reply}
-use Rattle.plain_machine.specs.declared.answer.Reply.TheVariants.{Attached, Queued, Completed, Left, Issued, Finished, Requeued, Group, Done, Moved, Taken}
-use Rattle.plain_machine.specs.declared.answer.Answer.{Answer}
-use Rattle.plain_machine.specs.declared.answer.Answer.TheVariants.{Refused, NotYet}
-use Rattle.plain_machine.specs.declared.answer.Code.TheVariants.{NothingOwed}
-use Rattle.plain_machine.specs.declared.answer.Cause.{Cause}
-use Rattle.plain_machine.specs.declared.answer.Cause.TheVariants.{Held}
-use Rattle.plain_machine.specs.declared.step.Step.{Step}
-use Rattle.plain_machine.specs.declared.step.Step.TheVariants.{Reap}
-use Rattle.plain_machine.specs.declared.call.Call.{Call}
-use Rattle.plain_machine.specs.declared.call.Call.TheVariants.{Do}
-use Rattle.plain_machine.specs.Step.{Limits, seat_tests, unreaped, reaped, reap, step}
-use Rattle.plain_machine.specs.Keeper.{State, machine_of, has_room, did, called, replay}
+use Rattle.plain.specs.Machine.{Plain}
+use Rattle.plain.specs.declared.answer.Reply.{Reply}
+use Rattle.plain.specs.declared.answer.Reply.TheVariants.{Attached, Queued, Completed, Left, Issued, Finished, Requeued, Group, Done, Moved, Taken}
+use Rattle.plain.specs.declared.answer.Answer.{Answer}
+use Rattle.plain.specs.declared.answer.Answer.TheVariants.{Refused, NotYet}
+use Rattle.plain.specs.declared.answer.Code.TheVariants.{NothingOwed}
+use Rattle.plain.specs.declared.answer.Cause.{Cause}
+use Rattle.plain.specs.declared.answer.Cause.TheVariants.{Held}
+use Rattle.plain.specs.declared.step.Step.{Step}
+use Rattle.plain.specs.declared.step.Step.TheVariants.{Reap}
+use Rattle.plain.specs.declared.call.Call.{Call}
+use Rattle.plain.specs.declared.call.Call.TheVariants.{Do}
+use Rattle.plain.specs.Opening.{Limits}
+use Rattle.plain.specs.Sessions.{seat_tests, unreaped}
+use Rattle.plain.specs.Steps.Reap.{reaped, reap}
+use Rattle.plain.specs.Step.{step}
+use Rattle.plain.specs.Keeper.{State, machine_of, has_room, did, called}
+use Rattle.plain.specs.Headline.{replay}
 use Rattle.host_calls.specs.Lengths.{FitsSectors, HasFittingResult}
 use Rattle.host_calls.specs.Answered.{IsAnswer}
 use Rattle.host_calls.specs.Results.{IsFirst, ReapsTellResults}

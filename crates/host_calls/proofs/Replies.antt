@@ -2,32 +2,49 @@
 use Rattle.std.proofs.Common.{true, false, Bool, ◌≡◌, inl, inr, ℕ, ◌+◌, ◌-◌, ◌≤◌, ◌==◌, ◌||◌, ◌&&◌, nat_le, nat_lt, not, length, is_some, List, [], ◌∷◌, ◌++◌, All, Option, Some, None, cond, unwrap_or, refl, sym, subst, ap}
 use Rattle.std.specs.Option.{option_map}
 use Rattle.std.proofs.lemmas.List.Elements.{All-head}
-use Rattle.sector_core.specs.First.{first_of}
+use Rattle.plain.specs.Lists.{first_of}
 use Rattle.sector_core.specs.declared.bio.Bio.{Bio}
 use Rattle.sector_core.specs.declared.bio.BioResult.{BioResult}
 use Rattle.sector_core.specs.declared.bio.BioResult.TheVariants.{Read, Written, IoError}
 use Rattle.sector_core.specs.declared.bio.Outcome.{Outcome}
 use Rattle.sector_core.specs.declared.config.Scheduler.{Scheduler}
 use Rattle.sector_core.specs.declared.config.Scheduler.TheVariants.{Plain as PlainScheduler, Bfq as BfqScheduler}
-use Rattle.group_tree.specs.Groups.{depth, most_levels}
-use Rattle.change_record.specs.Rules.{stands}
-use Rattle.change_record.specs.declared.change.InService.{InService}
-use Rattle.change_record.specs.Machine.{WholeRequest, Flight, Plain}
-use Rattle.plain_machine.specs.declared.answer.Reply.{Reply}
-use Rattle.plain_machine.specs.declared.answer.Reply.TheVariants.{Attached, Queued, Completed, Left, Issued, Finished, Requeued, Group, Done, Moved}
-use Rattle.plain_machine.specs.declared.answer.Answer.{Answer}
-use Rattle.plain_machine.specs.declared.answer.Answer.TheVariants.{Accepted, Refused, NotYet}
-use Rattle.plain_machine.specs.declared.answer.Code.TheVariants.{BadSeat, SeatTaken, NoGroup, BadPrio, BadCount, BadLength, OutOfRange, TooManyBios, NothingOwed, BadTag, NotInFlight, BadOutcome, BadWeight, TooDeep, GroupInUse, AlreadyFrozen, NotFrozen, NotDrained, SameScheduler, NotHeld, AlreadyHeld, ZeroCount, NothingToUndo, NothingToRedo, HistoryFull}
-use Rattle.plain_machine.specs.declared.answer.Cause.TheVariants.{Held, Frozen, RequestsFull}
-use Rattle.plain_machine.specs.declared.answer.Cause.{Cause}
-use Rattle.plain_machine.specs.declared.step.Step.{Step}
-use Rattle.plain_machine.specs.declared.step.Step.TheVariants.{Attach, Submit, Reap, Leave, Dispatch, Finish, Requeue, GroupMake, GroupDrop, SetWeight, Freeze, Thaw, Switch, Tick}
-use Rattle.plain_machine.specs.declared.call.Call.{Call}
-use Rattle.plain_machine.specs.declared.call.Call.TheVariants.{Do, Hold, Release, Undo, Redo}
-use Rattle.plain_machine.specs.Step.{Limits, unless, accepted, accepted_if, attached, submitted, woken, session_tests, seat_tests, unreaped, payload_length, needs_request, requests_of, reaped, left, next_queue, lowest_free, range_of, size_of, sent, sent_by_bfq, sent_by, dispatch_to, sent_again, dispatch_of, fits, after_finish, finished, finish_of, requeued, requeue_of, free_group, is_weight, is_used, made_group, group_tests, switched, is_same, ticked, step}
-use Rattle.plain_machine.specs.Keeper.{State, machine_of, has_room, entered, did, called, replay}
-use Rattle.plain_machine.proofs.Puts.{map_is}
-use Rattle.plain_machine.proofs.Sent.{sent-is as bfq-sent}
+use Rattle.plain.specs.Groups.{depth, most_levels}
+use Rattle.plain.specs.Rules.{stands}
+use Rattle.plain.specs.declared.seat.InService.{InService}
+use Rattle.plain.specs.Machine.{WholeRequest, Flight, Plain}
+use Rattle.plain.specs.declared.answer.Reply.{Reply}
+use Rattle.plain.specs.declared.answer.Reply.TheVariants.{Attached, Queued, Completed, Left, Issued, Finished, Requeued, Group, Done, Moved}
+use Rattle.plain.specs.declared.answer.Answer.{Answer}
+use Rattle.plain.specs.declared.answer.Answer.TheVariants.{Accepted, Refused, NotYet}
+use Rattle.plain.specs.declared.answer.Code.TheVariants.{BadSeat, SeatTaken, NoGroup, BadPrio, BadCount, BadLength, OutOfRange, TooManyBios, NothingOwed, BadTag, NotInFlight, BadOutcome, BadWeight, TooDeep, GroupInUse, AlreadyFrozen, NotFrozen, NotDrained, SameScheduler, NotHeld, AlreadyHeld, ZeroCount, NothingToUndo, NothingToRedo, HistoryFull}
+use Rattle.plain.specs.declared.answer.Cause.TheVariants.{Held, Frozen, RequestsFull}
+use Rattle.plain.specs.declared.answer.Cause.{Cause}
+use Rattle.plain.specs.declared.step.Step.{Step}
+use Rattle.plain.specs.declared.step.Step.TheVariants.{Attach, Submit, Reap, Leave, Dispatch, Finish, Requeue, GroupMake, GroupDrop, SetWeight, Freeze, Thaw, Switch, Tick}
+use Rattle.plain.specs.declared.call.Call.{Call}
+use Rattle.plain.specs.declared.call.Call.TheVariants.{Do, Hold, Release, Undo, Redo}
+use Rattle.plain.specs.Opening.{Limits}
+use Rattle.plain.specs.Tests.{unless, accepted, accepted_if}
+use Rattle.plain.specs.Steps.Attach.{attached}
+use Rattle.plain.specs.Steps.Submit.{submitted, woken, payload_length, needs_request}
+use Rattle.plain.specs.Sessions.{session_tests, seat_tests, unreaped}
+use Rattle.plain.specs.Requests.{requests_of, range_of, size_of}
+use Rattle.plain.specs.Steps.Reap.{reaped}
+use Rattle.plain.specs.Steps.Leave.{left}
+use Rattle.plain.specs.Steps.Dispatch.{next_queue, lowest_free, sent, sent_by_bfq, sent_by, dispatch_to, sent_again, dispatch_of}
+use Rattle.plain.specs.Steps.Finish.{fits, after_finish, finished, finish_of}
+use Rattle.plain.specs.Steps.Requeue.{requeued, requeue_of}
+use Rattle.plain.specs.Steps.GroupMake.{free_group, made_group}
+use Rattle.plain.specs.Entities.{is_weight, group_tests}
+use Rattle.plain.specs.Steps.GroupDrop.{is_used}
+use Rattle.plain.specs.Steps.Switch.{switched, is_same}
+use Rattle.plain.specs.Steps.Tick.{ticked}
+use Rattle.plain.specs.Step.{step}
+use Rattle.plain.specs.Keeper.{State, machine_of, has_room, entered, did, called}
+use Rattle.plain.specs.Headline.{replay}
+use Rattle.plain_laws.proofs.Puts.{map_is}
+use Rattle.plain_laws.proofs.Sent.{sent-is as bfq-sent}
 use Rattle.host_calls.specs.Frames.{ResultHasFrame}
 use Rattle.host_calls.specs.Lengths.{FitsSectors, HasFittingResult}
 use Rattle.host_calls.specs.Answered.{IsReplyOf, IsReplyTo, StepWaits, CallWaits, IsAnswer, CallsAreAnswered}
@@ -202,7 +219,7 @@ step-is l m n room (Switch scheduler) h =
     let tests : List (Bool × Answer) =
     (not m.frozen, Refused NotFrozen) ∷ (nat_lt 0 (requests_of l m), Refused NotDrained) ∷ (is_same scheduler m.scheduler, Refused SameScheduler) ∷ [] in
     done-is tests m (switched l m scheduler) room (tt, (tt, (tt, tt)))
-step-is l m n room Tick h = ticked-is m room m.bfq.slot
+step-is l m n room Tick h = ticked-is m room m.bfq.in_service
 
 pub did-is : (R : Reply → Type 0) (W : Cause → Type 0) (k : State) (s : Step) (answer : Answer) → IsAnswer R W answer → IsAnswer R W (did k s answer).1
 did-is R W k s (Accepted reply) h = h

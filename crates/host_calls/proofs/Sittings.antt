@@ -4,23 +4,26 @@ use Rattle.std.specs.List.{filter, filter_map, cons_option}
 use Rattle.std.specs.Option.{option_map}
 use Rattle.std.proofs.lemmas.Bool.{cases_eq}
 use Rattle.std.proofs.lemmas.List.Elements.{All-nil, All-cons, All-same, All-head, All-tail, All-push, All-weaker}
-use Rattle.soft_queue.specs.Turn.{numbers}
-use Rattle.process_queue.specs.Queue.{is_empty}
-use Rattle.change_record.specs.declared.change.Seat.{Seat}
-use Rattle.change_record.specs.Machine.{WholeRequest, Flight, Plain, put}
-use Rattle.plain_machine.specs.declared.call.Call.{Call}
-use Rattle.plain_machine.specs.Step.{Limits, opening, is_session, new_bio, merge_in, request_at, flying, is_of, is_gone}
-use Rattle.plain_machine.specs.Keeper.{machine_of, replay}
-use Rattle.plain_machine.proofs.Puts.{put_here, put_other, some_is}
-use Rattle.plain_machine.proofs.Joins.{All-queue_with}
-use Rattle.plain_machine.proofs.Debts.{Seated, Seated-later, Seated-attached, SitsAt}
-use Rattle.plain_machine.proofs.Leavings.{Seated-freed, gone_is}
-use Rattle.plain_machine.proofs.Counters.{Seated-changed, SitsAt-changed, is_session-changed}
-use Rattle.plain_machine.proofs.Sendings.{IsTaken-first}
+use Rattle.plain.specs.Lists.{numbers, is_empty}
+use Rattle.plain.specs.declared.seat.Seat.{Seat}
+use Rattle.plain.specs.Machine.{WholeRequest, Flight, Plain, put}
+use Rattle.plain.specs.declared.call.Call.{Call}
+use Rattle.plain.specs.Opening.{Limits, opening}
+use Rattle.plain.specs.Sessions.{is_session}
+use Rattle.plain.specs.Steps.Submit.{new_bio, merge_in}
+use Rattle.plain.specs.Requests.{request_at, flying, is_of, is_gone}
+use Rattle.plain.specs.Keeper.{machine_of}
+use Rattle.plain.specs.Headline.{replay}
+use Rattle.plain_laws.proofs.Puts.{put_here, put_other, some_is}
+use Rattle.plain_laws.proofs.Joins.{All-queue_with}
+use Rattle.plain_laws.proofs.Debts.{Seated, Seated-later, Seated-attached, SitsAt}
+use Rattle.plain_laws.proofs.Leavings.{Seated-freed, gone_is}
+use Rattle.plain_laws.proofs.Counters.{Seated-changed, SitsAt-changed, is_session-changed}
+use Rattle.plain_laws.proofs.Sendings.{IsTaken-first}
 use Rattle.host_calls.specs.Sessions.{SitsAtOne, SessionsSitApart, RequestsHaveSeats}
-use Rattle.plain_machine.proofs.Moves.{Moves, Stays}
-use Rattle.plain_machine.proofs.Stamps.{machine-moves}
-use Rattle.plain_machine.proofs.Each.{flown, ended}
+use Rattle.plain_laws.proofs.Moves.{Moves, Stays}
+use Rattle.plain_laws.proofs.Stamps.{machine-moves}
+use Rattle.plain_laws.proofs.Each.{flown, ended}
 
 -- a request's session sits at some seat
 abbrev HasSeat : (ℕ → Option Seat) → WholeRequest → Type 0

@@ -1,17 +1,19 @@
 -- The queue in service is as old as serials allow, and groups have the greatest budget.
 use Rattle.std.proofs.Common.{true, false, ◌≡◌, ◌≢◌, ℕ, ◌+◌, ◌<◌, ◌≤◌, nat_lt, List, Some, cond, refl, ◌∙◌, subst, arith, rules}
-use Rattle.group_tree.specs.Groups.{entity_of, path}
-use Rattle.change_record.specs.declared.change.InService.{InService}
-use Rattle.change_record.specs.Machine.{Bfq, put}
-use Rattle.change_record.specs.Rules.{budget_after}
-use Rattle.plain_machine.specs.declared.call.Call.{Call}
-use Rattle.plain_machine.specs.Step.{Limits, opening_bfq, older}
-use Rattle.plain_machine.specs.Keeper.{machine_of, replay}
-use Rattle.plain_machine.proofs.Puts.{put_other, some_is}
+use Rattle.plain.specs.Groups.{entity_of, path}
+use Rattle.plain.specs.declared.seat.InService.{InService}
+use Rattle.plain.specs.Machine.{Bfq, put}
+use Rattle.plain.specs.Rules.{budget_after}
+use Rattle.plain.specs.declared.call.Call.{Call}
+use Rattle.plain.specs.Opening.{Limits, opening_bfq}
+use Rattle.plain.specs.Steps.Tick.{older}
+use Rattle.plain.specs.Keeper.{machine_of}
+use Rattle.plain.specs.Headline.{replay}
+use Rattle.plain_laws.proofs.Puts.{put_other, some_is}
 use Rattle.host_calls.specs.Bounds.{AgesAreBounded, GroupsHaveTheGreatestBudget}
-use Rattle.plain_machine.proofs.Rules.{Any, all_any, Changes}
-use Rattle.plain_machine.proofs.Ruled.{Ruled, ruled-leads}
-use Rattle.plain_machine.proofs.Stamps.{machine-leads}
+use Rattle.plain_laws.proofs.Rules.{Any, all_any, Changes}
+use Rattle.plain_laws.proofs.Ruled.{Ruled, ruled-leads}
+use Rattle.plain_laws.proofs.Stamps.{machine-leads}
 
 -- the queue in service is that of a seat, and its age is below a serial
 abbrev IsYoung : ℕ → InService → Type 0
@@ -22,7 +24,7 @@ abbrev AreGreatest : Limits → (ℕ → ℕ) → Type 0
 AreGreatest l budget = (group : ℕ) → group < 32 → budget (entity_of group) ≡ l.max_budget
 
 abbrev Slotted : Limits → ℕ → Bfq → Type 0
-Slotted l n b = ((slot : InService) → b.slot ≡ Some slot → IsYoung n slot) × AreGreatest l b.budget
+Slotted l n b = ((slot : InService) → b.in_service ≡ Some slot → IsYoung n slot) × AreGreatest l b.budget
 
 -- another queue in service
 one-young : (n : ℕ) (new : InService) → IsYoung n new → (slot : InService) → Some new ≡ Some slot → IsYoung n slot

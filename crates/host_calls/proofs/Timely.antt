@@ -3,25 +3,23 @@ use Rattle.std.proofs.Common.{true, false, ◌≡◌, inl, inr, ℕ, zero, suc, 
 use Rattle.std.specs.List.{filter}
 use Rattle.std.proofs.lemmas.Bool.{cases_eq, ltb-true}
 use Rattle.sector_core.specs.declared.class.Class.{Class}
-use Rattle.service_tree.specs.declared.member.Member.{Member}
-use Rattle.class_trees.specs.declared.Vtimes.{Vtimes}
-use Rattle.class_trees.specs.Classes.{Classes, same_times, time_of, with_time}
-use Rattle.class_trees.proofs.Times.{each_time, same_most}
-use Rattle.class_trees.proofs.Highest.{only-placed}
-use Rattle.service_tree.specs.Members.{is_active, numbered, lesser, least}
-use Rattle.group_tree.specs.Groups.{path}
-use Rattle.change_record.specs.Exchange.{with_member, with_vtimes}
-use Rattle.change_record.specs.Tables.{empty_service}
-use Rattle.change_record.specs.Machine.{Bfq, put}
-use Rattle.change_record.specs.Rules.{group_of, member_in, put_member, put_vtime, put_vtimes, service_in, absent}
-use Rattle.plain_machine.specs.declared.call.Call.{Call}
-use Rattle.plain_machine.specs.Step.{Limits, opening_bfq}
-use Rattle.plain_machine.proofs.Puts.{put_here, put_other, some_is}
+use Rattle.plain.specs.declared.member.Member.{Member}
+use Rattle.plain.specs.declared.member.Vtimes.{Vtimes}
+use Rattle.plain.specs.Classes.{Classes, same_times, time_of, with_time, with_member, with_vtimes}
+use Rattle.class_laws.proofs.Times.{each_time, same_most}
+use Rattle.class_laws.proofs.Highest.{only-placed}
+use Rattle.plain.specs.Members.{is_active, numbered, lesser, least}
+use Rattle.plain.specs.Groups.{path}
+use Rattle.plain.specs.Opening.{empty_service, Limits, opening_bfq}
+use Rattle.plain.specs.Machine.{Bfq, put}
+use Rattle.plain.specs.Rules.{group_of, member_in, put_member, put_vtime, put_vtimes, service_in, absent}
+use Rattle.plain.specs.declared.call.Call.{Call}
+use Rattle.plain_laws.proofs.Puts.{put_here, put_other, some_is}
 use Rattle.host_calls.specs.Bounds.{AreTimely, TimesAreBounded}
-use Rattle.plain_machine.proofs.Placed.{places_of, placed, put_place}
-use Rattle.plain_machine.proofs.Rules.{Any, all_any, Changes}
-use Rattle.plain_machine.proofs.Ruled.{Ruled, ruled-leads}
-use Rattle.plain_machine.proofs.Stamps.{machine-leads}
+use Rattle.plain_laws.proofs.Placed.{places_of, placed, put_place}
+use Rattle.plain_laws.proofs.Rules.{Any, all_any, Changes}
+use Rattle.plain_laws.proofs.Ruled.{Ruled, ruled-leads}
+use Rattle.plain_laws.proofs.Stamps.{machine-leads}
 
 -- a member's times
 abbrev HasTimes : Member → Type 0

@@ -3,18 +3,19 @@ use Rattle.std.specs.Prelude.{◌≡◌, ◌⊎◌, ℕ, List, Some}
 use Rattle.sector_core.specs.declared.range.Range.{Range}
 use Rattle.sector_core.specs.declared.bio.Op.{Op}
 use Rattle.sector_core.specs.declared.bio.BioResult.{BioResult}
-use Rattle.plain_machine.specs.declared.answer.Reply.{Reply}
-use Rattle.plain_machine.specs.declared.answer.Reply.TheVariants.{Attached, Queued, Completed, Left, Issued, Finished, Requeued, Group, Done, Moved}
-use Rattle.plain_machine.specs.declared.answer.Cause.{Cause}
-use Rattle.plain_machine.specs.declared.answer.Cause.TheVariants.{Held, Frozen, RequestsFull, NotCompleted}
-use Rattle.plain_machine.specs.declared.answer.Answer.{Answer}
-use Rattle.plain_machine.specs.declared.answer.Answer.TheVariants.{Accepted, Refused, NotYet}
-use Rattle.plain_machine.specs.declared.step.Step.{Step}
-use Rattle.plain_machine.specs.declared.step.Step.TheVariants.{Attach, Submit, Reap, Leave, Dispatch, Finish, Requeue, GroupMake, GroupDrop, SetWeight, Freeze, Thaw, Switch, Tick}
-use Rattle.plain_machine.specs.declared.call.Call.{Call}
-use Rattle.plain_machine.specs.declared.call.Call.TheVariants.{Do, Hold, Release, Undo, Redo}
-use Rattle.plain_machine.specs.Step.{Limits}
-use Rattle.plain_machine.specs.Keeper.{State, replay, MayCall}
+use Rattle.plain.specs.declared.answer.Reply.{Reply}
+use Rattle.plain.specs.declared.answer.Reply.TheVariants.{Attached, Queued, Completed, Left, Issued, Finished, Requeued, Group, Done, Moved}
+use Rattle.plain.specs.declared.answer.Cause.{Cause}
+use Rattle.plain.specs.declared.answer.Cause.TheVariants.{Held, Frozen, RequestsFull, NotCompleted}
+use Rattle.plain.specs.declared.answer.Answer.{Answer}
+use Rattle.plain.specs.declared.answer.Answer.TheVariants.{Accepted, Refused, NotYet}
+use Rattle.plain.specs.declared.step.Step.{Step}
+use Rattle.plain.specs.declared.step.Step.TheVariants.{Attach, Submit, Reap, Leave, Dispatch, Finish, Requeue, GroupMake, GroupDrop, SetWeight, Freeze, Thaw, Switch, Tick}
+use Rattle.plain.specs.declared.call.Call.{Call}
+use Rattle.plain.specs.declared.call.Call.TheVariants.{Do, Hold, Release, Undo, Redo}
+use Rattle.plain.specs.Opening.{Limits}
+use Rattle.plain.specs.Keeper.{State}
+use Rattle.plain.specs.Headline.{replay, MayCall}
 use Rattle.host_calls.specs.declared.client.ClientCall.{ClientCall}
 use Rattle.host_calls.specs.declared.operator.OperatorCall.{OperatorCall}
 use Rattle.host_calls.specs.Asked.{client_call, operator_call}

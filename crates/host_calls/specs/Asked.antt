@@ -1,8 +1,8 @@
 -- What the calls of clients and of the operator ask of the keeper.
 use Rattle.std.specs.Prelude.{ℕ, Option, None, Some}
-use Rattle.plain_machine.specs.declared.call.Call.{Call}
-use Rattle.plain_machine.specs.declared.call.Call.TheVariants as call
-use Rattle.plain_machine.specs.declared.step.Step.TheVariants as step
+use Rattle.plain.specs.declared.call.Call.{Call}
+use Rattle.plain.specs.declared.call.Call.TheVariants as call
+use Rattle.plain.specs.declared.step.Step.TheVariants as step
 use Rattle.host_calls.specs.declared.client.ClientCall.{ClientCall}
 use Rattle.host_calls.specs.declared.client.ClientCall.TheVariants.{Attach, Submit, Reap, Leave}
 use Rattle.host_calls.specs.declared.operator.OperatorCall.{OperatorCall}

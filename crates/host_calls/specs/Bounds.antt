@@ -1,13 +1,14 @@
 -- How great times, ages and budgets are.
 use Rattle.std.specs.Prelude.{◌≡◌, ℕ, ◌<◌, ◌≤◌, ◌^◌, List, Some, None, slice_index_or}
 use Rattle.sector_core.specs.declared.class.Class.{Class}
-use Rattle.service_tree.specs.declared.member.Member.{Member}
-use Rattle.class_trees.specs.Classes.{Classes, time_of}
-use Rattle.group_tree.specs.Groups.{entity_of}
-use Rattle.change_record.specs.declared.change.InService.{InService}
-use Rattle.plain_machine.specs.declared.call.Call.{Call}
-use Rattle.plain_machine.specs.Step.{Limits}
-use Rattle.plain_machine.specs.Keeper.{machine_of, replay}
+use Rattle.plain.specs.declared.member.Member.{Member}
+use Rattle.plain.specs.Classes.{Classes, time_of}
+use Rattle.plain.specs.Groups.{entity_of}
+use Rattle.plain.specs.declared.seat.InService.{InService}
+use Rattle.plain.specs.declared.call.Call.{Call}
+use Rattle.plain.specs.Opening.{Limits}
+use Rattle.plain.specs.Keeper.{machine_of}
+use Rattle.plain.specs.Headline.{replay}
 
 -- no time of a group is above 2^62: neither a virtual time of it, nor the start or the finish of a member (our profile; the times are B-WF2Q+'s)
 abbrev pub AreTimely : Classes → Type 0
@@ -22,7 +23,7 @@ TimesAreBounded l most journal = l.first_vtime ≤ 2 ^ 62 → (group : ℕ) → 
 -- the queue in service is that of a seat, and it has been so for no more ticks than serials were given (our profile);
 abbrev pub AgesAreBounded : Limits → ℕ → List Call → Type 0
 AgesAreBounded l most journal =
-    (slot : InService) → (machine_of (replay l most journal)).bfq.slot ≡ Some slot → (slot.seat < 16) × (slot.age ≤ (replay l most journal).last)
+    (slot : InService) → (machine_of (replay l most journal)).bfq.in_service ≡ Some slot → (slot.seat < 16) × (slot.age ≤ (replay l most journal).last)
 
 -- and the budget of a group is the greatest one (our profile).
 abbrev pub GroupsHaveTheGreatestBudget : Limits → ℕ → List Call → Type 0

@@ -5,13 +5,14 @@ use Rattle.sector_core.specs.declared.bio.Bio.{Bio}
 use Rattle.sector_core.specs.declared.bio.Op.{Op}
 use Rattle.sector_core.specs.declared.bio.BioResult.{BioResult}
 use Rattle.sector_core.specs.declared.bio.BioResult.TheVariants.{Read, Written, IoError}
-use Rattle.overlay.specs.Blocks.{Blocks}
-use Rattle.change_record.specs.Machine.{WholeRequest, Plain}
-use Rattle.plain_machine.specs.declared.call.Call.{Call}
-use Rattle.plain_machine.specs.Step.{Limits, payload_length}
-use Rattle.plain_machine.specs.Whole.{HasSectors}
-use Rattle.plain_machine.specs.Keeper.{machine_of, replay}
-use Rattle.plain_machine.specs.Requests.{EachRequest}
+use Rattle.plain.specs.Machine.{Blocks, WholeRequest, Plain}
+use Rattle.plain.specs.declared.call.Call.{Call}
+use Rattle.plain.specs.Opening.{Limits}
+use Rattle.plain.specs.Steps.Submit.{payload_length}
+use Rattle.plain_laws.specs.Whole.{HasSectors}
+use Rattle.plain.specs.Keeper.{machine_of}
+use Rattle.plain.specs.Headline.{replay}
+use Rattle.plain_laws.specs.Requests.{EachRequest}
 
 -- each stored block has the 512 bytes of a sector (our profile)
 abbrev pub BlocksAreFull : Blocks → Type 0

@@ -1,12 +1,14 @@
 -- In how many places a bio stands.
 use Rattle.std.specs.Prelude.{◌≡◌, ℕ, ◌+◌, ◌≤◌, ◌==◌, List, [], None}
 use Rattle.std.specs.List.{sum_by, count_by}
-use Rattle.soft_queue.specs.Turn.{seats}
+use Rattle.plain.specs.Lists.{seats}
 use Rattle.sector_core.specs.declared.bio.Bio.{Bio}
-use Rattle.change_record.specs.Machine.{WholeRequest, Plain}
-use Rattle.plain_machine.specs.declared.call.Call.{Call}
-use Rattle.plain_machine.specs.Step.{Limits, flying}
-use Rattle.plain_machine.specs.Keeper.{machine_of, replay}
+use Rattle.plain.specs.Machine.{WholeRequest, Plain}
+use Rattle.plain.specs.declared.call.Call.{Call}
+use Rattle.plain.specs.Opening.{Limits}
+use Rattle.plain.specs.Requests.{flying}
+use Rattle.plain.specs.Keeper.{machine_of}
+use Rattle.plain.specs.Headline.{replay}
 
 -- how many of these bios have this serial
 abbrev pub bios_named : ℕ → List Bio → ℕ

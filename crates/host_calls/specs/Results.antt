@@ -2,15 +2,16 @@
 use Rattle.std.specs.Prelude.{◌≡◌, ℕ, true, List, ◌∷◌, All, Some, None, is_some}
 use Rattle.sector_core.specs.declared.bio.Bio.{Bio}
 use Rattle.sector_core.specs.declared.bio.BioResult.{BioResult}
-use Rattle.change_record.specs.Machine.{WholeRequest, Plain}
-use Rattle.plain_machine.specs.declared.answer.Reply.TheVariants.{Completed}
-use Rattle.plain_machine.specs.declared.answer.Answer.TheVariants.{Accepted}
-use Rattle.plain_machine.specs.declared.step.Step.TheVariants.{Reap}
-use Rattle.plain_machine.specs.declared.call.Call.{Call}
-use Rattle.plain_machine.specs.declared.call.Call.TheVariants.{Do}
-use Rattle.plain_machine.specs.Step.{Limits}
-use Rattle.plain_machine.specs.Keeper.{State, machine_of, replay, MayCall}
-use Rattle.plain_machine.specs.Requests.{EachRequest}
+use Rattle.plain.specs.Machine.{WholeRequest, Plain}
+use Rattle.plain.specs.declared.answer.Reply.TheVariants.{Completed}
+use Rattle.plain.specs.declared.answer.Answer.TheVariants.{Accepted}
+use Rattle.plain.specs.declared.step.Step.TheVariants.{Reap}
+use Rattle.plain.specs.declared.call.Call.{Call}
+use Rattle.plain.specs.declared.call.Call.TheVariants.{Do}
+use Rattle.plain.specs.Opening.{Limits}
+use Rattle.plain.specs.Keeper.{State, machine_of}
+use Rattle.plain.specs.Headline.{replay, MayCall}
+use Rattle.plain_laws.specs.Requests.{EachRequest}
 
 -- a bio has a result
 abbrev pub HasResult : Bio → Type 0

@@ -1,10 +1,12 @@
 -- At which seats sessions sit, and whose the requests are.
 use Rattle.std.specs.Prelude.{◌≡◌, ℕ, ◌<◌, true, List, Option, Some}
-use Rattle.change_record.specs.declared.change.Seat.{Seat}
-use Rattle.plain_machine.specs.declared.call.Call.{Call}
-use Rattle.plain_machine.specs.Step.{Limits, is_session}
-use Rattle.plain_machine.specs.Keeper.{machine_of, replay}
-use Rattle.plain_machine.specs.Requests.{EachRequest}
+use Rattle.plain.specs.declared.seat.Seat.{Seat}
+use Rattle.plain.specs.declared.call.Call.{Call}
+use Rattle.plain.specs.Opening.{Limits}
+use Rattle.plain.specs.Sessions.{is_session}
+use Rattle.plain.specs.Keeper.{machine_of}
+use Rattle.plain.specs.Headline.{replay}
+use Rattle.plain_laws.specs.Requests.{EachRequest}
 
 -- sessions sit at the first sixteen seats (our profile)
 abbrev pub AreWithin : (ℕ → Option Seat) → Type 0

@@ -2,7 +2,7 @@
 ghost use Rattle.std.specs.Prelude.{◌≡◌, ◌++◌, OnOk};
 ghost use Rattle.host_calls.specs.Texts.{text_of, reply_text, result_text, sent_text};
 
-use plain_machine::{Answer, Reply};
+use plain::{Answer, Reply};
 use sector_core::{BioResult, FailKind, Op, Range};
 use sector_text::put_hex_words;
 use std::io::{self, Write};

@@ -3,7 +3,7 @@ ghost use Rattle.std.specs.Prelude.{◌≡◌};
 ghost use Rattle.host_calls.specs.Asked.{client_call};
 
 use bytes::Bytes;
-use plain_machine::{Call, Step, Why};
+use plain::{Call, Step, Why};
 use sector_core::{Class, Op, Range};
 
 /// What a client asks. The number of its seat is no part of it: the host puts it in.

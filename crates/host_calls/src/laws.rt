@@ -1,7 +1,7 @@
 // Laws of the machine of every keeper, and of its answers.
 ghost use Rattle.std.specs.Prelude.{ℕ, List};
-ghost use Rattle.plain_machine.specs.Step.{Limits};
-ghost use Rattle.plain_machine.specs.declared.call.Call.{Call};
+ghost use Rattle.plain.specs.Opening.{Limits};
+ghost use Rattle.plain.specs.declared.call.Call.{Call};
 ghost use Rattle.host_calls.specs.Lengths.{EachBlockIsFull, EachPayloadFits, EachResultFits};
 ghost use Rattle.host_calls.specs.Answered.{CallsAreAnswered, ClientsAreAnswered, OperatorIsAnswered};
 ghost use Rattle.host_calls.specs.Sessions.{SessionsSitApart, RequestsHaveSeats};

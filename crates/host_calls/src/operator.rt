@@ -2,7 +2,7 @@
 ghost use Rattle.std.specs.Prelude.{◌≡◌};
 ghost use Rattle.host_calls.specs.Asked.{operator_call};
 
-use plain_machine::{Call, Step};
+use plain::{Call, Step};
 use sector_core::Scheduler;
 
 /// What the operator asks.

@@ -1,7 +1,7 @@
 // What is answered at a seat.
 ghost use Rattle.std.specs.Prelude.{Some, codes};
 
-use plain_machine::Answer;
+use plain::Answer;
 use std::error::Error;
 use std::fmt;
 

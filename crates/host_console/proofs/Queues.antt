@@ -2,10 +2,10 @@
 use Rattle.std.proofs.Common.{◌≡◌, ℕ, zero, suc, ◌+◌, ◌<◌, List, [], ◌∷◌, ◌++◌, codes, length, drop, refl, sym, ap, ◌∙◌, arith, add-one, append_assoc}
 use Rattle.std.specs.Prelude.{Option, None, Some, Result, Ok, Err, OnOk}
 use Rattle.sector_core.specs.declared.range.Range.{Range}
-use Rattle.change_record.specs.Machine.{WholeRequest}
-use Rattle.plain_machine.specs.Keeper.{State, machine_of}
-use Rattle.plain_machine.specs.Queued.{view_in, view_at}
-use Rattle.plain_machine.specs.declared.view.RequestView.TheVariants.{Free, Past, Queued}
+use Rattle.plain.specs.Machine.{WholeRequest}
+use Rattle.plain.specs.Keeper.{State, machine_of}
+use Rattle.plain.specs.Looks.{view_in, view_at}
+use Rattle.plain.specs.declared.view.RequestView.TheVariants.{Free, Past, Queued}
 use Rattle.host_console.specs.Printed.{request_text, requests_text, queue_text}
 
 -- what is left to print after `queue` and the requests before a place

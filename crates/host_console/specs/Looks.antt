@@ -8,12 +8,12 @@ use Rattle.sector_core.specs.declared.bio.Outcome.TheVariants.{Fetched, Stored, 
 use Rattle.sector_core.specs.declared.range.Range.{Range}
 use Rattle.sector_core.specs.declared.class.Class.{Class}
 use Rattle.sector_core.specs.declared.class.Class.TheVariants.{RealTime, BestEffort, Idle}
-use Rattle.overlay.specs.Runs.{IsNextRun}
+use Rattle.plain.specs.Runs.{IsNextRun}
 use Rattle.sector_text.specs.Hex.{all_are}
-use Rattle.plain_machine.specs.declared.step.Step.{Step}
-use Rattle.plain_machine.specs.declared.step.Step.TheVariants as step
-use Rattle.plain_machine.specs.declared.call.Stamped.{Stamped}
-use Rattle.plain_machine.specs.Keeper.{State, machine_of}
+use Rattle.plain.specs.declared.step.Step.{Step}
+use Rattle.plain.specs.declared.step.Step.TheVariants as step
+use Rattle.plain.specs.declared.call.Stamped.{Stamped}
+use Rattle.plain.specs.Keeper.{State, machine_of}
 use Rattle.script_line.specs.declared.look.Look.{Look}
 use Rattle.script_line.specs.declared.look.Look.TheVariants as look
 use Rattle.host_console.specs.Views.{seat_look, outbox_look, queue_look, requeued_look, flight_look, service_look, tree_look, scheduler_text, stored_look}

@@ -14,26 +14,27 @@ use Rattle.script_line.specs.declared.line.Line.{Line}
 use Rattle.script_line.specs.declared.line.Line.TheVariants.{Attach, ClassAttach, Read, Write, Reap, Leave, Dispatch, Finish, Work, Requeue, Hold, Release, Undo, Redo, Group, Drop, Weight, Freeze, Thaw, Switch, Tick, Sector, Queue, Cursor, Vtime, ClassVtime, Entity, Class, Show}
 use Rattle.script_line.specs.declared.line.Ending.{Ending}
 use Rattle.script_line.specs.declared.line.Ending.TheVariants.{Stored, Fill, Short, Fault}
-use Rattle.change_record.specs.Machine.{WholeRequest}
+use Rattle.plain.specs.Machine.{WholeRequest}
 use Rattle.base_image.specs.Image.{Disk}
 use Rattle.device_engine.specs.Work.{Works}
-use Rattle.plain_machine.specs.declared.answer.Work.{Work as Taken}
-use Rattle.plain_machine.specs.declared.call.DeviceCall.{DeviceCall}
-use Rattle.plain_machine.specs.declared.step.Step.{Step}
-use Rattle.plain_machine.specs.Device.{work_in_flight, device_step}
-use Rattle.plain_machine.specs.declared.answer.Answer.{Answer}
-use Rattle.plain_machine.specs.declared.step.Step.TheVariants as step
-use Rattle.plain_machine.specs.declared.step.Why.TheVariants as why
-use Rattle.plain_machine.specs.declared.call.Call.{Call}
-use Rattle.plain_machine.specs.declared.call.Call.TheVariants as call
-use Rattle.plain_machine.specs.Step.{range_of}
-use Rattle.plain_machine.specs.Keeper.{State, MayCall, machine_of}
-use Rattle.plain_machine.specs.Entities.{vtime_view, entity_view}
+use Rattle.plain.specs.declared.answer.Work.{Work as Taken}
+use Rattle.plain.specs.declared.call.DeviceCall.{DeviceCall}
+use Rattle.plain.specs.declared.step.Step.{Step}
+use Rattle.plain.specs.Device.{work_in_flight, device_step}
+use Rattle.plain.specs.declared.answer.Answer.{Answer}
+use Rattle.plain.specs.declared.step.Step.TheVariants as step
+use Rattle.plain.specs.declared.step.Why.TheVariants as why
+use Rattle.plain.specs.declared.call.Call.{Call}
+use Rattle.plain.specs.declared.call.Call.TheVariants as call
+use Rattle.plain.specs.Requests.{range_of}
+use Rattle.plain.specs.Keeper.{State, machine_of}
+use Rattle.plain.specs.Headline.{MayCall}
+use Rattle.plain.specs.Looks.{vtime_view, entity_view}
 use Rattle.host_calls.specs.Texts.{text_of}
 use Rattle.host_console.specs.Texts.{vtime_text, class_vtime_text, entity_text, entity_class_text}
 use Rattle.host_console.specs.Looks.{Looked}
-use Rattle.host_console.specs.declared.content.Content.{Content}
-use Rattle.host_console.specs.declared.content.Content.TheVariants as content
+use Rattle.plain.specs.declared.view.SectorView.{SectorView}
+use Rattle.plain.specs.declared.view.SectorView.TheVariants as content
 
 -- Calls.
 
@@ -75,13 +76,13 @@ content_text k number =
     else elim (blocks.get (machine_of k).overlay number) [ None ↦ codes "base" | Some block ↦ codes "overlay " ++ hex_of block ]
 
 -- the same of a sector that shows this (our profile)
-abbrev pub kind_text : Content → List ℕ
+abbrev pub kind_text : SectorView → List ℕ
 kind_text content.Outside = codes "none"
 kind_text content.Base = codes "base"
 kind_text (content.Stored block) = codes "overlay " ++ hex_of block.now
 
 -- a sector that shows this (our profile)
-abbrev pub shown_text : ℕ → Content → List ℕ
+abbrev pub shown_text : ℕ → SectorView → List ℕ
 shown_text number shown = codes "sector " ++ (decimal number ++ 32 ∷ kind_text shown)
 
 abbrev pub sector_text : State → ℕ → List ℕ
@@ -120,7 +121,7 @@ abbrev pub class_of_text : State → ℕ → List ℕ
 class_of_text k number = entity_class_text number (entity_view (machine_of k) number)
 
 -- what a keeper shows of a sector
-abbrev pub IsContent : State → ℕ → Content → Type 0
+abbrev pub IsContent : State → ℕ → SectorView → Type 0
 IsContent k number content.Outside = k.limits.sectors ≤ number
 IsContent k number content.Base = (number < k.limits.sectors) × (blocks.get (machine_of k).overlay number ≡ None)
 IsContent k number (content.Stored block) = (number < k.limits.sectors) × (blocks.get (machine_of k).overlay number ≡ Some block.now)

@@ -13,14 +13,16 @@ use Rattle.sector_core.specs.declared.config.Scheduler.{Scheduler}
 use Rattle.sector_core.specs.declared.config.Scheduler.TheVariants as scheduler
 use Rattle.sector_core.specs.declared.class.Class.{Class}
 use Rattle.sector_core.specs.declared.class.Class.TheVariants.{RealTime, BestEffort, Idle}
-use Rattle.soft_queue.specs.Turn.{numbers}
-use Rattle.change_record.specs.declared.change.Seat.{Seat}
-use Rattle.change_record.specs.declared.change.InService.{InService}
-use Rattle.change_record.specs.Machine.{WholeRequest, Plain}
-use Rattle.change_record.specs.Rules.{group_of, vtime_of, stands}
-use Rattle.plain_machine.specs.Step.{range_of, size_of, seat_of, is_in}
-use Rattle.plain_machine.specs.Entities.{entity_view}
-use Rattle.plain_machine.specs.declared.view.EntityView.{EntityView}
+use Rattle.plain.specs.Lists.{numbers}
+use Rattle.plain.specs.declared.seat.Seat.{Seat}
+use Rattle.plain.specs.declared.seat.InService.{InService}
+use Rattle.plain.specs.Machine.{WholeRequest, Plain}
+use Rattle.plain.specs.Rules.{group_of, vtime_of, stands}
+use Rattle.plain.specs.Requests.{range_of, size_of}
+use Rattle.plain.specs.Steps.Finish.{seat_of}
+use Rattle.plain.specs.Steps.GroupDrop.{is_in}
+use Rattle.plain.specs.Looks.{entity_view}
+use Rattle.plain.specs.declared.view.EntityView.{EntityView}
 use Rattle.host_console.specs.Texts.{state_text}
 
 -- Seats.
@@ -119,7 +121,7 @@ flight_look m tags = codes "flight" ++ flat_map (tag_text m) (numbers 0 tags)
 
 -- the queue in service: its seat, the sectors sent for it, its age in ticks, and its budget
 abbrev pub service_look : Plain → List ℕ
-service_look m = elim m.bfq.slot [
+service_look m = elim m.bfq.in_service [
   | None ↦ codes "service none"
   | Some slot ↦
       codes "service "

@@ -5,7 +5,7 @@ ghost use Rattle.host_console.specs.Printed.{asked};
 use crate::group::{make, unmake, weigh};
 use crate::steps::{attach, freeze, leave, requeue, switch, thaw, tick};
 use crate::submit::{fetch, store};
-use plain_machine::{Call, Step};
+use plain::{Call, Step};
 use script_line::Line;
 use sector_core::{Class, OutOfMemory};
 use std::alloc::Global;

@@ -1,7 +1,7 @@
 // The steps of the lines about groups.
 ghost use Rattle.std.specs.Prelude.{◌≡◌};
 
-use plain_machine::Step;
+use plain::Step;
 
 /// The step of a `group` line.
 pub fn make(parent: u8, weight: u16) -> Step

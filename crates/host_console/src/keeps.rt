@@ -1,14 +1,13 @@
 // What a console needs of a keeper.
 ghost use Rattle.std.specs.Prelude.{◌≡◌, ◌<◌, ◌^◌, ◌++◌, List, ℕ, OnOk, length};
-ghost use Rattle.plain_machine.specs.Keeper.{State, MayCall, machine_of};
-ghost use Rattle.plain_machine.specs.Queued.{request_view};
-ghost use Rattle.plain_machine.specs.Entities.{vtime_view, entity_view};
-ghost use Rattle.plain_machine.specs.Device.{work_in_flight};
+ghost use Rattle.plain.specs.Keeper.{State, machine_of};
+ghost use Rattle.plain.specs.Headline.{MayCall};
+ghost use Rattle.plain.specs.Looks.{request_view, vtime_view, entity_view};
+ghost use Rattle.plain.specs.Device.{work_in_flight};
 ghost use Rattle.host_console.specs.Printed.{IsContent};
 ghost use Rattle.host_console.specs.Looks.{Looked};
 
-use crate::Content;
-use plain_machine::{Answer, Call, EntityView, RequestView, Work};
+use plain::{Answer, Call, EntityView, RequestView, SectorView, Work};
 use script_line::Look;
 use sector_core::Class;
 use std::alloc::Global;
@@ -28,7 +27,7 @@ pub trait Keeps {
         ensures { result ≡ work_in_flight (machine_of (state self.now)) tag issue };
 
     /// The content of a sector.
-    fn sector(&self, number: u64) -> Content<'_>
+    fn sector(&self, number: u64) -> SectorView<'_>
         ensures { IsContent (state self.now) number result };
 
     /// What stands at a place of a seat's queue, in order of insertion; no queue has as many places as a `u16` counts.

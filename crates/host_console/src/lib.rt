@@ -26,7 +26,6 @@
 //! ```
 
 mod asked;
-mod content;
 mod filled;
 mod group;
 mod keeps;
@@ -37,7 +36,6 @@ mod submit;
 mod teller;
 mod work;
 
-pub use content::Content;
 pub use host_calls::put_answer;
 pub use keeps::Keeps;
 pub use run::run_keeper;

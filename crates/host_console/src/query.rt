@@ -3,11 +3,10 @@ ghost use Rattle.std.specs.Prelude.{◌≡◌, ◌∷◌, ◌++◌, OnOk};
 ghost use Rattle.host_console.specs.Printed.{sector_text, shown_text, request_text, queue_text, cursor_text, group_text, group_class_text, known_text, class_of_text};
 ghost use Rattle.host_console.specs.Texts.{state_text, class_text, entity_text};
 
-use crate::{Content, Keeps};
-use plain_machine::{EntityView, RequestView};
+use crate::Keeps;
+use plain::{EntityView, RequestView, SectorView, State};
 use sector_core::{Class, Range};
 use sector_text::put_hex;
-use service_tree::State;
 use std::io::{self, Write};
 
 // More requests than any queue has.
@@ -21,13 +20,13 @@ pub fn put_sector<K: Keeps>(keeper: &K, number: u64, out: &mut Vec<u8>) -> io::R
 }
 
 // Appends a sector with its content.
-fn put_content(number: u64, content: Content<'_>, out: &mut Vec<u8>) -> io::Result<()>
+fn put_content(number: u64, content: SectorView<'_>, out: &mut Vec<u8>) -> io::Result<()>
     ensures { OnOk result (out.new.items ≡ out.old.items ++ shown_text number content.entry) }
 {
     match content {
-        Content::Outside => write!(out, "sector {number} none"),
-        Content::Base => write!(out, "sector {number} base"),
-        Content::Stored(block) => {
+        SectorView::Outside => write!(out, "sector {number} none"),
+        SectorView::Base => write!(out, "sector {number} base"),
+        SectorView::Stored(block) => {
             write!(out, "sector {number} overlay ")?;
             put_hex(out, block.as_slice())?;
             Ok(())

@@ -1,7 +1,7 @@
 // The steps of the lines that begin or end a session, give a request back, and stop, switch or age what runs.
 ghost use Rattle.std.specs.Prelude.{◌≡◌};
 
-use plain_machine::{Step, Why};
+use plain::{Step, Why};
 use sector_core::{Class, Scheduler};
 
 /// The step of an `attach` line.

@@ -4,7 +4,7 @@ ghost use Rattle.host_console.specs.Printed.{payload_of};
 
 use crate::filled::payload;
 use bytes::Bytes;
-use plain_machine::Step;
+use plain::Step;
 use sector_core::{Op, OutOfMemory, Range};
 use std::alloc::Global;
 

@@ -12,7 +12,7 @@ use crate::query::{
 };
 use base_image::Image;
 use host_calls::put_answer;
-use plain_machine::{Call, Step};
+use plain::{Call, Step};
 use script_line::{Console, Ending, Line, Look};
 use sector_core::{Class, FailKind, OutOfMemory, Outcome};
 use std::alloc::Global;

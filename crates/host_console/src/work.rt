@@ -1,14 +1,14 @@
 // The lines of device work.
 ghost use Rattle.std.specs.Prelude.{◌≡◌, ℕ, List, ◌++◌, IfOk, OnOk, OnErr, ◌⊎◌};
 ghost use Rattle.script_line.specs.declared.line.Line.TheVariants as line;
-ghost use Rattle.plain_machine.specs.Keeper.{machine_of};
-ghost use Rattle.plain_machine.specs.Device.{work_in_flight};
+ghost use Rattle.plain.specs.Keeper.{machine_of};
+ghost use Rattle.plain.specs.Device.{work_in_flight};
 ghost use Rattle.host_console.specs.Printed.{Looks, StepOfWork};
 
 use crate::{Keeps, Teller};
 use base_image::Image;
 use device_engine::work_once;
-use plain_machine::Step;
+use plain::Step;
 use sector_core::{OutOfMemory, Outcome};
 use std::alloc::Global;
 

@@ -3,8 +3,8 @@ use Rattle.std.proofs.Common.{true, false, Bool, ◌≡◌, ℕ, ◌≤◌, List
 use Rattle.std.specs.List.{slice_get, filter}
 use Rattle.std.proofs.lemmas.List.{append-nil}
 use Rattle.std.proofs.lemmas.Option.{same_Some}
-use Rattle.plain_machine.specs.declared.call.Call.TheVariants.{Do}
-use Rattle.plain_machine.specs.declared.step.Step.TheVariants.{Dispatch}
+use Rattle.plain.specs.declared.call.Call.TheVariants.{Do}
+use Rattle.plain.specs.declared.step.Step.TheVariants.{Dispatch}
 use Rattle.host_calls.specs.declared.seat.SeatName.{SeatName}
 use Rattle.host_calls.specs.declared.seat.SeatName.TheVariants.{Core}
 use Rattle.host_core.specs.Journal.{Pages, Entry}

@@ -1,14 +1,14 @@
 -- What the core answers may be told: it has a frame, and only the operator hears that it is not yet time.
 use Rattle.std.proofs.Common.{true, false, ◌≡◌, ℕ, List, refl, sym, ◌∙◌, Option, Some}
 use Rattle.std.proofs.lemmas.Bool.{false≢true}
-use Rattle.plain_machine.specs.declared.answer.Answer.{Answer}
-use Rattle.plain_machine.specs.declared.answer.Answer.TheVariants.{Accepted, Refused, NotYet}
-use Rattle.plain_machine.specs.declared.answer.Cause.TheVariants.{Held}
-use Rattle.plain_machine.specs.declared.call.Call.{Call}
-use Rattle.plain_machine.specs.declared.call.Call.TheVariants.{Do, Hold, Release, Undo, Redo}
-use Rattle.plain_machine.specs.declared.step.Step.{Step}
-use Rattle.plain_machine.specs.declared.step.Step.TheVariants.{Attach, Submit, Reap, Leave, Dispatch, Finish, Requeue, GroupMake, GroupDrop, SetWeight, Freeze, Thaw, Switch, Tick}
-use Rattle.plain_machine.specs.Step.{Limits}
+use Rattle.plain.specs.declared.answer.Answer.{Answer}
+use Rattle.plain.specs.declared.answer.Answer.TheVariants.{Accepted, Refused, NotYet}
+use Rattle.plain.specs.declared.answer.Cause.TheVariants.{Held}
+use Rattle.plain.specs.declared.call.Call.{Call}
+use Rattle.plain.specs.declared.call.Call.TheVariants.{Do, Hold, Release, Undo, Redo}
+use Rattle.plain.specs.declared.step.Step.{Step}
+use Rattle.plain.specs.declared.step.Step.TheVariants.{Attach, Submit, Reap, Leave, Dispatch, Finish, Requeue, GroupMake, GroupDrop, SetWeight, Freeze, Thaw, Switch, Tick}
+use Rattle.plain.specs.Opening.{Limits}
 use Rattle.host_calls.specs.Answered.{IsAnswer, ClientsAreAnswered, OperatorIsAnswered}
 use Rattle.host_calls.specs.Asked.{client_call, operator_call}
 use Rattle.host_calls.specs.Kinds.{IsForOperator}
@@ -100,9 +100,6 @@ client-hears law n l most lasts entries Stop answer kind j kept = absurd (false�
 
 pub client-told : ((l : Limits) (most : ℕ) (journal : List Call) → ClientsAreAnswered l most journal) → (n : ℕ) → MayTell (Client n) (λ _ reply. IsForClients reply)
 client-told law n = λ before l most lasts entries call answer kind j kept. client-hears law n l most lasts entries call answer kind j kept
-
-pub device-told : (n : ℕ) → MayTell (Device n) (λ _ reply. Unit {0})
-device-told n = λ before l most lasts entries call answer kind j kept. (tt, (unkept (Device n) answer refl kept).1)
 
 operator-hears : ((l : Limits) (most : ℕ) (journal : List Call) → OperatorIsAnswered l most journal) → (l : Limits) (most : ℕ) (lasts : List (Option ℕ))
     (entries : List Entry) (call : Asked) (answer : Answer) → IsOfKind Operator call → JudgedBy l most Operator lasts entries call answer

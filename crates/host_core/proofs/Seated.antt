@@ -2,7 +2,7 @@
 use Rattle.std.proofs.Common.{◌≡◌, List, Some, slice_get, subst, sym}
 use Rattle.host_calls.specs.declared.client.ClientCall.{ClientCall}
 use Rattle.host_calls.specs.declared.operator.OperatorCall.{OperatorCall}
-use Rattle.plain_machine.specs.declared.call.DeviceCall.{DeviceCall}
+use Rattle.plain.specs.declared.call.DeviceCall.{DeviceCall}
 use Rattle.rtrb.specs.declared.AnyItems.{AnyItems}
 use Rattle.host_core.specs.Seats.{seat_number, SameSeat, SameDesk, AreBeside}
 use Rattle.host_core.specs.declared.desk.Desk.{Desk}

@@ -9,8 +9,7 @@ use Rattle.host_core.specs.Closing.{AllOpen, AllClose}
 use Rattle.host_core.specs.Visits.{AllReady}
 use Rattle.host_core.specs.declared.visit.Came.{Came}
 use Rattle.host_core.specs.declared.visit.Came.TheVariants.{Answered, Stopped}
-use Rattle.host_core.specs.Rounds.{Comes}
-use Rattle.host_core.specs.Rounds.{Passes, RoundOver}
+use Rattle.host_core.specs.Rounds.{Comes, Passes, RoundOver}
 use Rattle.host_core.specs.Turns.{is_starved, RoundBy, Dispatches, IsTurn, Ends, IsLastTurn}
 use Rattle.host_core.proofs.Took.{all-one, all-twice, changes-so, ready-changes}
 

@@ -1,10 +1,10 @@
 -- What the seats of each kind ask of the core, with their numbers put in.
 use Rattle.std.specs.Prelude.{ℕ, Option, None, Some}
-use Rattle.plain_machine.specs.declared.call.Call.{Call}
-use Rattle.plain_machine.specs.declared.call.Call.TheVariants.{Do}
-use Rattle.plain_machine.specs.declared.call.DeviceCall.{DeviceCall}
-use Rattle.plain_machine.specs.declared.call.DeviceCall.TheVariants as device
-use Rattle.plain_machine.specs.declared.step.Step.TheVariants as step
+use Rattle.plain.specs.declared.call.Call.{Call}
+use Rattle.plain.specs.declared.call.Call.TheVariants.{Do}
+use Rattle.plain.specs.declared.call.DeviceCall.{DeviceCall}
+use Rattle.plain.specs.declared.call.DeviceCall.TheVariants as device
+use Rattle.plain.specs.declared.step.Step.TheVariants as step
 use Rattle.host_calls.specs.Asked.{client_call, operator_call}
 use Rattle.host_calls.specs.declared.client.ClientCall.{ClientCall}
 use Rattle.host_calls.specs.declared.operator.OperatorCall.{OperatorCall}

@@ -1,7 +1,7 @@
 -- What is asked at a seat is of its kind.
 use Rattle.std.specs.Prelude.{ℕ, refl}
-use Rattle.plain_machine.specs.declared.call.DeviceCall.{DeviceCall}
-use Rattle.plain_machine.specs.declared.call.DeviceCall.TheVariants.{Take, Finish, Requeue}
+use Rattle.plain.specs.declared.call.DeviceCall.{DeviceCall}
+use Rattle.plain.specs.declared.call.DeviceCall.TheVariants.{Take, Finish, Requeue}
 use Rattle.host_calls.specs.declared.client.ClientCall.{ClientCall}
 use Rattle.host_calls.specs.declared.client.ClientCall.TheVariants.{Attach, Submit, Reap, Leave}
 use Rattle.host_calls.specs.declared.operator.OperatorCall.{OperatorCall}

@@ -1,11 +1,12 @@
 -- The core's journal: the accepted calls, each under the name of its seat.
 use denote.Ref.{Bor}
 use Rattle.std.specs.Prelude.{ℕ, List, [], ◌∷◌, ◌++◌, map}
-use Rattle.plain_machine.specs.declared.call.Call.{Call}
-use Rattle.plain_machine.specs.declared.answer.Answer.{Answer}
-use Rattle.plain_machine.specs.declared.answer.Answer.TheVariants.{Accepted, Refused, NotYet}
-use Rattle.plain_machine.specs.Step.{Limits}
-use Rattle.plain_machine.specs.Keeper.{State, MayCall, replay}
+use Rattle.plain.specs.declared.call.Call.{Call}
+use Rattle.plain.specs.declared.answer.Answer.{Answer}
+use Rattle.plain.specs.declared.answer.Answer.TheVariants.{Accepted, Refused, NotYet}
+use Rattle.plain.specs.Opening.{Limits}
+use Rattle.plain.specs.Keeper.{State}
+use Rattle.plain.specs.Headline.{MayCall, replay}
 use Rattle.host_calls.specs.declared.seat.SeatName.{SeatName}
 
 -- an accepted call, under the name of its seat

@@ -2,7 +2,7 @@
 use Rattle.std.specs.Prelude.{◌≡◌, ℕ, false, List, [], Some, slice_get}
 use Rattle.host_calls.specs.declared.client.ClientCall.{ClientCall}
 use Rattle.host_calls.specs.declared.operator.OperatorCall.{OperatorCall}
-use Rattle.plain_machine.specs.declared.call.DeviceCall.{DeviceCall}
+use Rattle.plain.specs.declared.call.DeviceCall.{DeviceCall}
 use Rattle.rtrb.specs.declared.AnyItems.{AnyItems}
 use Rattle.host_core.specs.Seats.{IsFresh, staged, collected, is_closed}
 use Rattle.host_core.specs.declared.seat_rules.ClientReplies.{ClientReplies}

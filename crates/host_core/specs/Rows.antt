@@ -1,9 +1,9 @@
 -- What a desk has had, whatever its kind: its calls with the seat's number put in, what waits, and its replies.
 use Rattle.std.specs.Prelude.{◌≡◌, ℕ, Bool, List, ◌++◌, Option, None, Some}
 use Rattle.std.specs.List.{fold}
-use Rattle.plain_machine.specs.declared.answer.Answer.TheVariants.{Accepted, Refused, NotYet}
-use Rattle.plain_machine.specs.declared.answer.Reply.{Reply}
-use Rattle.plain_machine.specs.declared.answer.Reply.TheVariants.{Taken}
+use Rattle.plain.specs.declared.answer.Answer.TheVariants.{Accepted, Refused, NotYet}
+use Rattle.plain.specs.declared.answer.Reply.{Reply}
+use Rattle.plain.specs.declared.answer.Reply.TheVariants.{Taken}
 use Rattle.host_calls.specs.declared.ring.RingReply.{RingReply}
 use Rattle.host_calls.specs.declared.ring.RingReply.TheVariants.{Answer as Answered, Closed as Closing}
 use Rattle.host_calls.specs.declared.seat.SeatName.{SeatName}

@@ -1,6 +1,6 @@
 -- Which replies may go to a seat, by its kind.
-use Rattle.plain_machine.specs.declared.answer.Answer.{Answer}
-use Rattle.plain_machine.specs.declared.answer.Answer.TheVariants.{Accepted, Refused, NotYet}
+use Rattle.plain.specs.declared.answer.Answer.{Answer}
+use Rattle.plain.specs.declared.answer.Answer.TheVariants.{Accepted, Refused, NotYet}
 use Rattle.host_calls.specs.Frames.{AnswerHasFrame}
 use Rattle.host_calls.specs.declared.ring.RingReply.{RingReply}
 use Rattle.host_calls.specs.declared.ring.RingReply.TheVariants as ring

@@ -1,15 +1,15 @@
 -- What a device takes: of the requests in flight that no other device took last, the one of least issue (our profile). And the rule of Take.
 use Rattle.std.specs.Prelude.{◌≡◌, ◌≢◌, ℕ, ◌≤◌, true, false, List, Option, None, Some, slice_get}
 use Rattle.std.specs.Option.{option_map}
-use Rattle.change_record.specs.Machine.{Plain}
-use Rattle.plain_machine.specs.declared.answer.Answer.{Answer}
-use Rattle.plain_machine.specs.declared.answer.Answer.TheVariants.{Accepted, Refused, NotYet}
-use Rattle.plain_machine.specs.declared.answer.Cause.TheVariants.{Held, NothingToTake}
-use Rattle.plain_machine.specs.declared.answer.Code.TheVariants.{BadWorker}
-use Rattle.plain_machine.specs.declared.answer.Reply.TheVariants.{Taken}
-use Rattle.plain_machine.specs.declared.answer.Work.{Work}
-use Rattle.plain_machine.specs.Keeper.{State, machine_of}
-use Rattle.plain_machine.specs.Device.{work_of}
+use Rattle.plain.specs.Machine.{Plain}
+use Rattle.plain.specs.declared.answer.Answer.{Answer}
+use Rattle.plain.specs.declared.answer.Answer.TheVariants.{Accepted, Refused, NotYet}
+use Rattle.plain.specs.declared.answer.Cause.TheVariants.{Held, NothingToTake}
+use Rattle.plain.specs.declared.answer.Code.TheVariants.{BadWorker}
+use Rattle.plain.specs.declared.answer.Reply.TheVariants.{Taken}
+use Rattle.plain.specs.declared.answer.Work.{Work}
+use Rattle.plain.specs.Keeper.{State, machine_of}
+use Rattle.plain.specs.Device.{work_of}
 
 -- another device took this issue last
 abbrev pub IsOthers : List (Option ℕ) → ℕ → ℕ → Type 0

@@ -8,7 +8,7 @@ ghost use Rattle.host_core.specs.Kinds.{IsOfKind};
 ghost use Rattle.host_core.specs.declared.asked.Asked.{Asked as Askings};
 
 use host_calls::{ClientCall, OperatorCall, SeatName};
-use plain_machine::{Call, DeviceCall, Step};
+use plain::{Call, DeviceCall, Step};
 
 /// What a seat asks of the core, with its number put in.
 #[derive(Drop)]

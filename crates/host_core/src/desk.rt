@@ -7,7 +7,7 @@ ghost use Rattle.host_core.specs.Rows.{Took, last_taken};
 use crate::asked::{Asked, Staged};
 use crate::bell::Bell;
 use host_calls::{RingReply, SeatName};
-use plain_machine::{Answer, Reply};
+use plain::{Answer, Reply};
 use rtrb::{Consumer, Producer, Protocol};
 use std::alloc::Global;
 

@@ -4,7 +4,7 @@ ghost use Rattle.std.specs.Prelude.{◌≤◌, vec_len};
 use crate::desk::Desk;
 use crate::seat_rules::{ClientReplies, OperatorReplies};
 use host_calls::{ClientCall, OperatorCall};
-use plain_machine::DeviceCall;
+use plain::DeviceCall;
 use rtrb::AnyItems;
 
 /// The desks of a core: at most 16 clients', at most 4 devices', and the operator's.

@@ -1,12 +1,12 @@
 // What a core asks of whoever keeps its journal.
 ghost use Rattle.std.specs.Prelude.{◌≡◌, slice_get};
 ghost use Rattle.std.specs.Option.{option_map};
-ghost use Rattle.plain_machine.specs.Keeper.{replay};
+ghost use Rattle.plain.specs.Headline.{replay};
 ghost use Rattle.host_core.specs.Journal.{Pages, Allows, calls_of, entered_by, shown_entry};
 ghost use Rattle.host_core.specs.Takes.{TakeRule};
 
 use host_calls::SeatName;
-use plain_machine::{Answer, Call};
+use plain::{Answer, Call};
 use std::alloc::Global;
 
 /// Whoever keeps a core's journal, and answers by it.

@@ -6,7 +6,7 @@ ghost use Rattle.host_core.specs.Judging.{JudgedBy, own_number, entered_at};
 use crate::asked::Asked;
 use crate::judges::Judges;
 use host_calls::SeatName;
-use plain_machine::Answer;
+use plain::Answer;
 use std::alloc::Global;
 
 /// What is answered to a call at the seat of a name; nothing to Stop. `lasts` has the issue that each device took last, by its number.

@@ -12,7 +12,7 @@ use crate::seat::Seat;
 use crate::seat_rules::{ClientReplies, OperatorReplies};
 use crate::turns::Core;
 use host_calls::{ClientCall, OperatorCall};
-use plain_machine::DeviceCall;
+use plain::DeviceCall;
 use rtrb::AnyItems;
 use std::alloc::{AllocError, Global};
 

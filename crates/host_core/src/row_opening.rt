@@ -9,7 +9,7 @@ use crate::seat::Seat;
 use crate::seat_opening::open_seat;
 use crate::seat_rules::{ClientReplies, OperatorReplies};
 use host_calls::{ClientCall, OperatorCall, RingReply};
-use plain_machine::DeviceCall;
+use plain::DeviceCall;
 use rtrb::{AnyItems, Protocol};
 use std::alloc::{AllocError, Global};
 

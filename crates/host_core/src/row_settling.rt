@@ -11,7 +11,7 @@ use crate::desks::Desks;
 use crate::seat_rules::{ClientReplies, OperatorReplies};
 use crate::seat_settling::{FinishedSeat, Settled};
 use host_calls::{ClientCall, OperatorCall, RingReply};
-use plain_machine::DeviceCall;
+use plain::DeviceCall;
 use rtrb::{AnyItems, Protocol};
 
 /// A seat of a host that has ended its work, by its kind.

@@ -5,7 +5,7 @@ ghost use Rattle.host_calls.specs.declared.ring.RingReply.TheVariants.{Answer as
 
 use crate::bell::Bell;
 use host_calls::{Closed, RingReply};
-use plain_machine::Answer;
+use plain::Answer;
 use rtrb::{Consumer, Producer, Protocol, PushError};
 use std::alloc::Global;
 use std::sync::Wait;

@@ -10,7 +10,7 @@ use crate::judges::Judges;
 use crate::round::visit_all;
 use crate::visit::Came;
 use host_calls::SeatName;
-use plain_machine::{Answer, Call, Code, Step};
+use plain::{Answer, Call, Code, Step};
 use std::alloc::Global;
 
 /// What a turn did.

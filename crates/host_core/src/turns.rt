@@ -10,7 +10,7 @@ use crate::desks::Desks;
 use crate::judges::Judges;
 use crate::turn::{TurnReport, Turned, take_turn};
 use host_calls::SeatName;
-use plain_machine::Call;
+use plain::Call;
 use std::alloc::Global;
 
 /// The core of a host: whoever keeps its journal, and the desks of all seats.

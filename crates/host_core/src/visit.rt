@@ -10,7 +10,7 @@ use crate::desk::Desk;
 use crate::judges::Judges;
 use crate::judging::judge_asked;
 use host_calls::{RingReply, SeatName};
-use plain_machine::Answer;
+use plain::Answer;
 use rtrb::Protocol;
 use std::alloc::Global;
 

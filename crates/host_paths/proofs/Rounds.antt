@@ -5,11 +5,11 @@ use Rattle.base_image.specs.Image.{Disk}
 use Rattle.device_engine.specs.Work.{Works}
 use Rattle.host_calls.specs.declared.ring.RingReply.{RingReply}
 use Rattle.host_calls.specs.declared.ring.RingReply.TheVariants.{Answer as Answered}
-use Rattle.plain_machine.specs.declared.answer.Answer.TheVariants.{Accepted}
-use Rattle.plain_machine.specs.declared.answer.Reply.TheVariants.{Taken}
-use Rattle.plain_machine.specs.declared.answer.Work.{Work}
-use Rattle.plain_machine.specs.declared.call.DeviceCall.{DeviceCall}
-use Rattle.plain_machine.specs.declared.call.DeviceCall.TheVariants.{Take, Finish, Requeue}
+use Rattle.plain.specs.declared.answer.Answer.TheVariants.{Accepted}
+use Rattle.plain.specs.declared.answer.Reply.TheVariants.{Taken}
+use Rattle.plain.specs.declared.answer.Work.{Work}
+use Rattle.plain.specs.declared.call.DeviceCall.{DeviceCall}
+use Rattle.plain.specs.declared.call.DeviceCall.TheVariants.{Take, Finish, Requeue}
 use Rattle.host_core.specs.Seats.{SameSeat, seat_number, staged, collected}
 use Rattle.host_paths.specs.Working.{Device, Exchange, Does, DoesAll, HasDone, IsRound, IsMade, handed_out}
 
@@ -47,15 +47,6 @@ module _ (taken : Option Work) (s t u : Device) (before middle after : Disk) whe
         does = does-more (seat_number s) taken before middle after was.exchanges more.exchanges was.does
             (subst (λ n. DoesAll n (last_taken taken was.exchanges) middle more.exchanges after) same more.does);
       }
-
--- a worker that has done nothing yet
-pub nothing-done : (s : Device) (disk : Disk) → HasDone None s disk s disk
-nothing-done s disk = record {
-  exchanges = [];
-  calls = sym (append-nil (staged s));
-  replies = sym (append-nil (collected s));
-  does = refl;
-}
 
 -- work was told
 pub told : (s t : Device) (work : Work) (call : DeviceCall) (before after : Disk) → Works before work call after → IsMade call s t → HasDone (Some work) s before t after

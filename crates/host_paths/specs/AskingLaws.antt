@@ -1,6 +1,6 @@
 -- Each answer of a seat has a frame.
 use Rattle.std.specs.Prelude.{Ok}
-use Rattle.plain_machine.specs.declared.answer.Answer.{Answer}
+use Rattle.plain.specs.declared.answer.Answer.{Answer}
 use Rattle.host_calls.specs.Frames.{AnswerHasFrame}
 use Rattle.host_calls.specs.declared.client.ClientCall.{ClientCall}
 use Rattle.host_paths.specs.Asking.{Caller, AsksSeat}

@@ -5,16 +5,16 @@ use Rattle.base_image.specs.Image.{Disk}
 use Rattle.device_engine.specs.Work.{Works}
 use Rattle.host_calls.specs.declared.ring.RingReply.{RingReply}
 use Rattle.host_calls.specs.declared.ring.RingReply.TheVariants.{Answer as Answered, Closed as Closing}
-use Rattle.plain_machine.specs.declared.answer.Answer.TheVariants.{Accepted, Refused}
-use Rattle.plain_machine.specs.declared.answer.Code.TheVariants.{HistoryFull as NoHistory}
+use Rattle.plain.specs.declared.answer.Answer.TheVariants.{Accepted, Refused}
+use Rattle.plain.specs.declared.answer.Code.TheVariants.{HistoryFull as NoHistory}
 use Rattle.host_paths.specs.declared.worker.WorkerEnd.{WorkerEnd}
 use Rattle.host_paths.specs.declared.worker.WorkerEnd.TheVariants.{Closed, Faults, HistoryFull}
 use Rattle.host_paths.specs.declared.worker.Round.{Round}
 use Rattle.host_paths.specs.declared.worker.Round.TheVariants.{Ended}
-use Rattle.plain_machine.specs.declared.answer.Reply.TheVariants.{Taken}
-use Rattle.plain_machine.specs.declared.answer.Work.{Work}
-use Rattle.plain_machine.specs.declared.call.DeviceCall.{DeviceCall}
-use Rattle.plain_machine.specs.declared.call.DeviceCall.TheVariants.{Take}
+use Rattle.plain.specs.declared.answer.Reply.TheVariants.{Taken}
+use Rattle.plain.specs.declared.answer.Work.{Work}
+use Rattle.plain.specs.declared.call.DeviceCall.{DeviceCall}
+use Rattle.plain.specs.declared.call.DeviceCall.TheVariants.{Take}
 use Rattle.host_core.specs.Seats.{staged, collected, is_closed, seat_number}
 use Rattle.host_core.specs.declared.seat.Seat.{Seat}
 

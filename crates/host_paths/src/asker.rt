@@ -6,7 +6,7 @@ ghost use Rattle.host_paths.specs.AskingLaws.{seat_frames};
 
 use host_calls::{ClientCall, Closed};
 use host_core::{ClientReplies, Seat};
-use plain_machine::Answer;
+use plain::Answer;
 use session_proto::Asks;
 use std::alloc::Global;
 use std::sync::Wait;

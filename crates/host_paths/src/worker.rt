@@ -8,7 +8,7 @@ use base_image::Image;
 use device_engine::work_once;
 use host_calls::{Closed, RingReply};
 use host_core::Seat;
-use plain_machine::{Answer, Code, DeviceCall, Reply, Work};
+use plain::{Answer, Code, DeviceCall, Reply, Work};
 use rtrb::AnyItems;
 use std::alloc::Global;
 use std::sync::Wait;

@@ -3,10 +3,10 @@ use Rattle.std.proofs.Common.{◌≡◌, ℕ, zero, suc, ◌+◌, ◌<◌, ◌�
 use Rattle.std.specs.Option.{option_map}
 use Rattle.std.specs.List.{slice_get}
 use Rattle.std.proofs.lemmas.Option.{slice_get_within}
-use Rattle.change_record.specs.Machine.{Plain}
+use Rattle.plain.specs.Machine.{Plain}
 use Rattle.dispatch_core.specs.Running.{Running, plain_of, IsFor}
-use Rattle.plain_machine.specs.declared.answer.Work.{Work}
-use Rattle.plain_machine.specs.Device.{work_of}
+use Rattle.plain.specs.declared.answer.Work.{Work}
+use Rattle.plain.specs.Device.{work_of}
 use Rattle.host_core.specs.Takes.{IsOthers, IsFree, IsBest, IsBestOf}
 use Rattle.host_rings.specs.Nearer.{IsNearer}
 

@@ -1,18 +1,20 @@
 -- What a call does to a journal with names.
 use Rattle.std.proofs.Common.{true, false, Bool, not, ◌≡◌, ℕ, zero, suc, Some, None, get_or, ◌+◌, ◌-◌, ◌==◌, nat_lt, if◌then◌else◌, ◌<◌, ◌≤◌, List, [], ◌∷◌, ◌++◌, length, refl, sym, ap, ◌∙◌, subst, arith, inl, inr}
-use Rattle.plain_machine.specs.declared.step.Step.{Step}
-use Rattle.plain_machine.specs.declared.call.Call.{Call}
-use Rattle.plain_machine.specs.declared.call.Call.TheVariants.{Do, Hold, Release, Undo, Redo}
-use Rattle.plain_machine.specs.declared.answer.Answer.{Answer}
-use Rattle.plain_machine.specs.declared.answer.Answer.TheVariants.{Accepted, Refused, NotYet}
-use Rattle.plain_machine.specs.declared.answer.Reply.{Reply}
-use Rattle.plain_machine.specs.declared.answer.Code.{Code}
-use Rattle.plain_machine.specs.declared.answer.Code.TheVariants.{NotHeld, AlreadyHeld, ZeroCount, NothingToUndo, NothingToRedo, HistoryFull}
-use Rattle.plain_machine.specs.declared.answer.Reply.TheVariants.{Moved, Done}
-use Rattle.plain_machine.specs.declared.answer.Cause.{Cause}
-use Rattle.plain_machine.specs.declared.answer.Cause.TheVariants.{Held}
-use Rattle.plain_machine.specs.Step.{Limits, step}
-use Rattle.plain_machine.specs.Keeper.{State, machine_of, has_room, entered, did, called, MayCall, opened, replay}
+use Rattle.plain.specs.declared.step.Step.{Step}
+use Rattle.plain.specs.declared.call.Call.{Call}
+use Rattle.plain.specs.declared.call.Call.TheVariants.{Do, Hold, Release, Undo, Redo}
+use Rattle.plain.specs.declared.answer.Answer.{Answer}
+use Rattle.plain.specs.declared.answer.Answer.TheVariants.{Accepted, Refused, NotYet}
+use Rattle.plain.specs.declared.answer.Reply.{Reply}
+use Rattle.plain.specs.declared.answer.Code.{Code}
+use Rattle.plain.specs.declared.answer.Code.TheVariants.{NotHeld, AlreadyHeld, ZeroCount, NothingToUndo, NothingToRedo, HistoryFull}
+use Rattle.plain.specs.declared.answer.Reply.TheVariants.{Moved, Done}
+use Rattle.plain.specs.declared.answer.Cause.{Cause}
+use Rattle.plain.specs.declared.answer.Cause.TheVariants.{Held}
+use Rattle.plain.specs.Opening.{Limits}
+use Rattle.plain.specs.Step.{step}
+use Rattle.plain.specs.Keeper.{State, machine_of, has_room, entered, did, called, opened}
+use Rattle.plain.specs.Headline.{MayCall, replay}
 use Rattle.host_calls.specs.declared.seat.SeatName.{SeatName}
 use Rattle.host_core.specs.Journal.{calls_of, entered_by, Allows, Pages}
 use Rattle.host_rings.specs.Names.{entries, IsBook}

@@ -1,13 +1,13 @@
 -- The rule of Take.
 use Rattle.std.proofs.Common.{Bool, true, false, ◌≡◌, ◌≢◌, ℕ, List, sym, ◌∙◌, refl, subst, Option}
 use Rattle.std.proofs.lemmas.Bool.{true≢false, false≢true}
-use Rattle.change_record.specs.Machine.{Plain}
-use Rattle.plain_machine.specs.Keeper.{State, machine_of}
-use Rattle.plain_machine.specs.declared.answer.Answer.{Answer}
-use Rattle.plain_machine.specs.declared.answer.Answer.TheVariants.{Refused, NotYet}
-use Rattle.plain_machine.specs.declared.answer.Cause.TheVariants.{Held}
-use Rattle.plain_machine.specs.declared.answer.Code.TheVariants.{BadWorker}
-use Rattle.plain_machine.specs.declared.answer.Work.{Work}
+use Rattle.plain.specs.Machine.{Plain}
+use Rattle.plain.specs.Keeper.{State, machine_of}
+use Rattle.plain.specs.declared.answer.Answer.{Answer}
+use Rattle.plain.specs.declared.answer.Answer.TheVariants.{Refused, NotYet}
+use Rattle.plain.specs.declared.answer.Cause.TheVariants.{Held}
+use Rattle.plain.specs.declared.answer.Code.TheVariants.{BadWorker}
+use Rattle.plain.specs.declared.answer.Work.{Work}
 use Rattle.host_core.specs.Takes.{IsBest, TakeRule, of_best}
 
 module _ (k s : State) (own worker : ℕ) (lasts : List (Option ℕ)) (is_held : Bool) (same : s ≡ k) (told : is_held ≡ s.held) where

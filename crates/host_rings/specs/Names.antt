@@ -1,7 +1,8 @@
 -- A keeper and the names of its journal's entries.
 use Rattle.std.specs.Prelude.{◌≡◌, ℕ, ◌≤◌, List, [], ◌∷◌, length}
-use Rattle.plain_machine.specs.declared.call.Call.{Call}
-use Rattle.plain_machine.specs.Keeper.{State, replay}
+use Rattle.plain.specs.declared.call.Call.{Call}
+use Rattle.plain.specs.Keeper.{State}
+use Rattle.plain.specs.Headline.{replay}
 use Rattle.host_calls.specs.declared.seat.SeatName.{SeatName}
 use Rattle.host_core.specs.Journal.{Entry}
 

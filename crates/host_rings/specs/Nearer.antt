@@ -1,6 +1,6 @@
 -- Which of two is issued first.
 use Rattle.std.specs.Prelude.{◌≡◌, ◌<◌, ◌≤◌, Option, None, Some, ◌⊎◌}
-use Rattle.plain_machine.specs.declared.answer.Work.{Work}
+use Rattle.plain.specs.declared.answer.Work.{Work}
 
 -- the one of lesser issue
 abbrev pub IsNearer : Option Work → Work → Option Work → Type 0

@@ -1,15 +1,15 @@
 // The keeper and the names of its journal's entries.
 ghost use Rattle.std.specs.Prelude.{◌≡◌, ◌<◌, ◌^◌, [], IfOk, slice_get};
 ghost use Rattle.std.specs.Option.{option_map};
-ghost use Rattle.plain_machine.specs.Step.{of_sizes};
+ghost use Rattle.plain.specs.Step.{of_sizes};
 ghost use Rattle.dispatch_core.specs.Running.{sizes_of};
-ghost use Rattle.plain_machine.specs.Keeper.{replay};
+ghost use Rattle.plain.specs.Headline.{replay};
 ghost use Rattle.host_core.specs.Journal.{Allows, calls_of, entered_by, shown_entry};
 
 use change_record::push_within;
 use history::{Keeper, KeeperView};
 use host_calls::SeatName;
-use plain_machine::{Answer, Call};
+use plain::{Answer, Call};
 use sector_core::{Config, OutOfMemory};
 use std::alloc::Global;
 use std::marker::Model;

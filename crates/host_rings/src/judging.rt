@@ -3,7 +3,7 @@
 use crate::book::Book;
 use host_calls::SeatName;
 use host_core::Judges;
-use plain_machine::{Answer, Call};
+use plain::{Answer, Call};
 use std::alloc::Global;
 
 impl Judges for Book {

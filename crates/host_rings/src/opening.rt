@@ -1,7 +1,7 @@
 // A host: a core over the keeper of a new machine, and its seats.
 ghost use Rattle.std.specs.Prelude.{◌≡◌, ◌<◌, ◌^◌, [], IfOk, IfErr, false};
 ghost use Rattle.dispatch_core.specs.Running.{sizes_of};
-ghost use Rattle.plain_machine.specs.Step.{of_sizes};
+ghost use Rattle.plain.specs.Step.{of_sizes};
 ghost use Rattle.host_core.specs.Opened.{AreOpened};
 ghost use Rattle.host_core.specs.Cores.{pages, seats_of, has_ended};
 ghost use Rattle.host_core.specs.Opening.{ArePaired, IsIdle, AreIdle};

@@ -1,13 +1,13 @@
 // What a device is answered to a Take.
 ghost use Rattle.std.specs.Prelude.{◌≡◌};
-ghost use Rattle.plain_machine.specs.Keeper.{replay};
+ghost use Rattle.plain.specs.Headline.{replay};
 ghost use Rattle.host_core.specs.Journal.{calls_of};
 ghost use Rattle.host_core.specs.Takes.{TakeRule, of_best};
 
 use crate::book::Book;
 use crate::takes::take_work;
 use dispatch_core::Work;
-use plain_machine::{Answer, Cause, Code, Reply};
+use plain::{Answer, Cause, Code, Reply};
 
 impl Book {
     /// What the device of number `own` is answered to a Take, in which it says that its number is `worker`. `lasts` has the issue that

@@ -1,6 +1,6 @@
 // What is seen of the core of a host.
 ghost use Rattle.std.specs.Prelude.{◌≡◌, true, false};
-ghost use Rattle.plain_machine.specs.Keeper.{replay};
+ghost use Rattle.plain.specs.Headline.{replay};
 ghost use Rattle.host_core.specs.Journal.{calls_of};
 ghost use Rattle.host_core.specs.Visits.{AllReady};
 ghost use Rattle.host_core.specs.Cores.{pages, seats_of, has_ended};

@@ -4,7 +4,7 @@ ghost use Rattle.host_core.specs.Seats.{staged, collected};
 
 use host_calls::{ClientCall, RingReply};
 use host_core::{Bell, ClientReplies, Desk, Seat, open_seat};
-use plain_machine::{Answer, Code};
+use plain::{Answer, Code};
 use std::alloc::Global;
 use std::sync::Wait;
 use std::test::Fail;

@@ -3,7 +3,7 @@ use crate::opening::usual;
 use bytes::Bytes;
 use host_calls::SeatName;
 use host_rings::{Book, take_work};
-use plain_machine::{Answer, Call, Reply, Step};
+use plain::{Answer, Call, Reply, Step};
 use sector_core::{Class, Op, Range};
 use std::alloc::Global;
 use std::test::Fail;

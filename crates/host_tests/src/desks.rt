@@ -3,7 +3,7 @@ ghost use Rattle.host_core.specs.Seats.{SameSeat, SameDesk};
 
 use host_calls::{ClientCall, OperatorCall, RingReply, SeatName};
 use host_core::{Asked, Bell, ClientReplies, Desk, Seat, Staged, open_seat};
-use plain_machine::{Answer, Call, Cause, Code, DeviceCall, Reply, Step, Work};
+use plain::{Answer, Call, Cause, Code, DeviceCall, Reply, Step, Work};
 use rtrb::AnyItems;
 use sector_core::{Op, Range};
 use std::alloc::Global;

@@ -5,7 +5,7 @@ use crate::opening::opened;
 use host_calls::OperatorCall;
 use host_paths::serve_operator;
 use host_rings::{Core, OperatorSeat};
-use plain_machine::{Answer, Code};
+use plain::{Answer, Code};
 use std::alloc::Global;
 use std::sync::Wait;
 use std::test::Fail;

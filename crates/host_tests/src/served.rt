@@ -7,7 +7,7 @@ use crate::peer::{Frame, Talk, answers, connected, has_ended};
 use host_calls::{OperatorCall, RingReply};
 use host_rings::{ServeEnd, ServeOptions, run_server};
 use operator_asking::ask_host;
-use plain_machine::{Answer, Reply};
+use plain::{Answer, Reply};
 use std::alloc::Global;
 use std::os::unix::net::UnixStream;
 use std::test::Fail;

@@ -6,7 +6,7 @@ use crate::opening::opened;
 use bytes::Bytes;
 use host_calls::{ClientCall, OperatorCall};
 use host_rings::{Caller, Core, SeatEnd, Settled, settle};
-use plain_machine::DeviceCall;
+use plain::DeviceCall;
 use sector_core::{Class, Op, Range};
 use std::alloc::Global;
 use std::test::Fail;

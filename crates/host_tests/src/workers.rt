@@ -9,7 +9,7 @@ use bytes::Bytes;
 use host_calls::{ClientCall, OperatorCall};
 use host_paths::{WorkerEnd, run_worker};
 use host_rings::{Caller, Core, DeviceSeat, OperatorSeat, host};
-use plain_machine::{Answer, Reply};
+use plain::{Answer, Reply};
 use sector_core::{BioResult, Class, FailKind, Op, Range};
 use std::alloc::Global;
 use std::sync::Wait;

@@ -3,7 +3,7 @@ use crate::scripted::Scripted;
 use base_image::{FailingImage, Image, ImageFault, MemoryImage};
 use bytes::Bytes;
 use device_engine::work_once;
-use plain_machine::{DeviceCall, Work};
+use plain::{DeviceCall, Work};
 use sector_core::{FailKind, Op, Outcome, Range};
 use std::alloc::Global;
 use std::process::Abort;

@@ -3,7 +3,7 @@ use crate::host::checked;
 use bytes::Bytes;
 use dispatch_core::{Answer, Cause, Code, Reply, SectorView, Step};
 use history::{Call, Keeper};
-use plain_machine::{redo_gives_back, two_undos_are_one};
+use plain_laws::{redo_gives_back, two_undos_are_one};
 use sector_core::{Class, ConfigDraft, Op, Outcome, Range};
 use std::alloc::Global;
 use std::process::Abort;

@@ -1,6 +1,6 @@
 -- What an outcome says of a call, and the exit status.
 use Rattle.std.specs.Prelude.{ℕ}
-use Rattle.plain_machine.specs.declared.answer.Answer.TheVariants.{Accepted, Refused as refused, NotYet}
+use Rattle.plain.specs.declared.answer.Answer.TheVariants.{Accepted, Refused as refused, NotYet}
 use Rattle.host_calls.specs.declared.operator.OperatorCall.{OperatorCall}
 use Rattle.host_calls.specs.declared.operator.OperatorCall.TheVariants.{GroupMake, GroupDrop, SetWeight, Freeze, Thaw, Switch, Tick, Hold, Release, Undo, Redo, Stop}
 use Rattle.host_calls.specs.declared.ring.RingReply.{RingReply}

@@ -4,7 +4,7 @@ ghost use Rattle.operator_asking.specs.Ending.{end_of, fault_end, status_of};
 
 use crate::fault::AskFault;
 use host_calls::{OperatorCall, RingReply};
-use plain_machine::Answer;
+use plain::Answer;
 
 /// How the run of a call ends.
 #[derive(Clone, Copy, Debug, PartialEq, Eq)]

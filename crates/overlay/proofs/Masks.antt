@@ -6,12 +6,6 @@ use Rattle.std.proofs.lemmas.Nat.{pow_below, pow_pos}
 use Rattle.std.proofs.lemmas.List.{get_or-set_same, get_or-set_other, length-set}
 use Rattle.overlay.specs.Pages.{Places, HasBlock, HasNone, IsPage, mask_of}
 
-pub bit_value : (k : ℕ) → k < 8 → 1 * 2 ^ k % 256 ≡ 2 ^ k
-bit_value k lt =
-    let small = pow_below k 8 lt in
-    let one : 1 * 2 ^ k ≡ 2 ^ k = omega arith in
-    ap (λ n. n % 256) one ∙ mod-eq_of_lt (omega (arith, small))
-
 -- the mask after a write
 pub mask_of-set : (i : ℕ) (xs : Places) (w : Option (List ℕ)) → i < length xs
     → mask_of (set xs i w) + cond (is_some (get_or xs i None)) (2 ^ i) 0 ≡ mask_of xs + cond (is_some w) (2 ^ i) 0

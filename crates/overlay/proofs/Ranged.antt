@@ -6,9 +6,9 @@ use Rattle.std.specs.Cmp.{nat_cmp_is}
 use Rattle.std.specs.Map.{lookup}
 use Rattle.std.specs.BTreeMap.{is_at}
 use Rattle.std.specs.declared.cmp.Ordering.TheVariants.{Less, Equal}
-use Rattle.overlay.specs.Blocks.{Blocks}
+use Rattle.plain.specs.Machine.{Blocks}
 use Rattle.overlay.specs.Pages.{Pages, blocks_of}
-use Rattle.overlay.specs.Runs.{IsFree, IsStored}
+use Rattle.plain.specs.Runs.{IsFree, IsStored}
 use Rattle.overlay.proofs.Seen.{in_page}
 
 -- a bound of numbers, as the tree compares them

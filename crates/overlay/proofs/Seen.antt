@@ -8,7 +8,8 @@ use Rattle.std.specs.BTreeMap.{is_at}
 use Rattle.std.specs.FinMap as map
 use Rattle.std.specs.FinMap.{gets}
 use Rattle.std.proofs.lemmas.Bool.Decides.{nat_tests}
-use Rattle.overlay.specs.Blocks.{Blocks, exchanged}
+use Rattle.plain.specs.Machine.{Blocks}
+use Rattle.overlay.specs.Blocks.{exchanged}
 use Rattle.overlay.specs.Pages.{Pages, Places, Puts, blocks_of, has_page, stands, with_places}
 
 pub same_test : (a b : ℕ) → is_eq (nat_cmp a b) ≡ (a == b)

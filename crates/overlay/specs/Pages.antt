@@ -5,7 +5,8 @@ use Rattle.std.specs.Ordering.{nat_cmp}
 use Rattle.std.specs.Map.{lookup}
 use Rattle.std.specs.BTreeMap.{is_at}
 use Rattle.std.specs.FinMap as map
-use Rattle.overlay.specs.Blocks.{Blocks, exchanged}
+use Rattle.plain.specs.Machine.{Blocks}
+use Rattle.overlay.specs.Blocks.{exchanged}
 
 -- what stands at each place of a page
 abbrev pub Places : Type 0

@@ -18,7 +18,8 @@ mod runs;
 ghost use Rattle.std.specs.Prelude.{◌≡◌, ◌/◌, List, ℕ, OnErr, OnOk, IfOk, IfErr, IsNone, IsSome, IsOk, None, Some};
 ghost use Rattle.std.specs.Option.{option_copied};
 ghost use Rattle.std.specs.FinMap as map;
-ghost use Rattle.overlay.specs.Blocks.{Blocks, exchanged};
+ghost use Rattle.plain.specs.Machine.{Blocks};
+ghost use Rattle.overlay.specs.Blocks.{exchanged};
 
 use page::{PAGE, Page};
 use pages::{put_at, take_at};
@@ -34,7 +35,8 @@ pub struct Overlay {
 }
 
 impl Model for Overlay {
-    ghost use Rattle.overlay.specs.Blocks.{Blocks, blocks_code};
+    ghost use Rattle.plain.specs.Machine.{Blocks};
+    ghost use Rattle.overlay.specs.Blocks.{blocks_code};
 
     ghost Value = { Blocks };
 

@@ -1,6 +1,6 @@
 // Runs of stored sectors.
 ghost use Rattle.std.specs.Prelude.{◌≡◌, ◌+◌, ◌*◌, ◌/◌, ◌%◌, ◌<◌, ◌≤◌, ◌^◌, ℕ, IfSome};
-ghost use Rattle.overlay.specs.Runs.{IsStored, IsFree, IsNextStored, IsRun, IsNextRun};
+ghost use Rattle.plain.specs.Runs.{IsStored, IsFree, IsNextStored, IsRun, IsNextRun};
 
 use crate::Overlay;
 use crate::page::PAGE;

@@ -9,9 +9,9 @@ use Rattle.std.proofs.lemmas.Option.{same_Some}
 use Rattle.process_queue.specs.declared.Link.{Link}
 use Rattle.linked_rows.specs.declared.Sides.{Sides}
 use Rattle.linked_rows.specs.declared.Ends.{Ends}
-use Rattle.process_queue.specs.declared.merge.Shape.{Shape}
+use Rattle.plain.specs.declared.shape.Shape.{Shape}
 use Rattle.process_queue.specs.Queue.{placed, queue_slots}
-use Rattle.process_queue.specs.Next.{has_start, minimum, next_of, start_of, starts}
+use Rattle.plain.specs.Next.{has_start, minimum, next_of, start_of, starts}
 use Rattle.process_queue.specs.Nearest.{candidate, nearest, slot_of, sooner}
 use Rattle.linked_rows.specs.Chains.{side_at, first_or, IsChain}
 use Rattle.process_queue.specs.Links.{IsQueues}

@@ -1,8 +1,8 @@
 -- Of the requests of a queue the first one with the least start at or after a sector.
 use Rattle.std.specs.Prelude.{ℕ, nat_le, nat_lt, cond, List, [], ◌∷◌, Option, Some, None}
 use Rattle.std.specs.Option.{option_and_then, option_map, option_or}
-use Rattle.process_queue.specs.declared.merge.Shape.{Shape}
-use Rattle.process_queue.specs.Next.{start_of}
+use Rattle.plain.specs.declared.shape.Shape.{Shape}
+use Rattle.plain.specs.Next.{start_of}
 
 -- a start and its slot, if the start is at or after a sector
 abbrev pub candidate : ℕ → Option ℕ → ℕ → Option (ℕ × ℕ)

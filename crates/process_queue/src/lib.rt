@@ -16,7 +16,8 @@
 //! linked both ways, and the ends of each queue are known; so a call walks over no slot of another queue.
 
 ghost use Rattle.std.specs.Prelude.{◌≡◌, ◌+◌, ◌<◌, ◌≤◌, None, Some, IfOk, length, replicate, slice_get, slice_index_or, slice_set, ℕ};
-ghost use Rattle.process_queue.specs.Queue.{first_slot, is_empty, queue_slots};
+ghost use Rattle.process_queue.specs.Queue.{first_slot, queue_slots};
+ghost use Rattle.plain.specs.Lists.{is_empty};
 
 mod idle;
 mod links;
@@ -26,7 +27,8 @@ mod place;
 
 use linked_rows::{ALONE, Ends, NOBODY, Sides, ends_at, side_at};
 use links::{fewer, link_free, unlink_at};
-pub use merge::{Place, Shape};
+pub use merge::Place;
+pub use plain::Shape;
 use sector_core::{OutOfMemory, Slot, empty_table};
 use std::alloc::Global;
 use std::marker::Model;

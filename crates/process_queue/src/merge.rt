@@ -1,9 +1,11 @@
 // Merging: a bio joins an adjacent queued request of its queue, before any scheduler is asked.
 ghost use Rattle.std.specs.Prelude.{◌≡◌, ◌+◌, ◌^◌, ◌<◌, ◌==◌};
 ghost use Rattle.process_queue.specs.Queue.{queue_slots};
-ghost use Rattle.process_queue.specs.Merge.{bios_at, first_merge, has_room, joins, joins_at, may_join, merge_place, place_of, same_op, shape_at, shape_of};
+ghost use Rattle.process_queue.specs.Merge.{bios_at, merge_place, place_of, shape_at};
+ghost use Rattle.plain.specs.Merge.{first_merge, has_room, joins, joins_at, may_join, same_op, shape_of};
 
 use crate::ProcessQueue;
+use plain::Shape;
 use request_pool::{Request, RequestPool};
 use sector_core::{Op, Range, Slot};
 
@@ -20,21 +22,6 @@ pub struct Place {
     pub slot: Slot,
     /// Whether the bio goes to its front, and not to its end.
     pub front: bool,
-}
-
-/// What a merge asks of a request.
-#[derive(Clone, Copy, Debug, PartialEq, Eq)]
-pub struct Shape {
-    /// The session of its bios.
-    pub session: u64,
-    /// What its bios ask for.
-    pub op: Op,
-    /// The first sector of its first bio.
-    pub start: u64,
-    /// How many sectors its bios have together.
-    pub size: u64,
-    /// How many bios it has.
-    pub bios: usize,
 }
 
 // How many sectors a range has, as a wide number.

@@ -2,7 +2,8 @@
 ghost use Rattle.std.specs.Prelude.{◌≡◌};
 ghost use Rattle.process_queue.specs.Queue.{queue_slots};
 ghost use Rattle.process_queue.specs.Merge.{shape_at};
-ghost use Rattle.process_queue.specs.Next.{next_slot, start_of};
+ghost use Rattle.process_queue.specs.Next.{next_slot};
+ghost use Rattle.plain.specs.Next.{start_of};
 ghost use Rattle.process_queue.specs.Nearest.{candidate, nearest, slot_of, sooner};
 
 use crate::ProcessQueue;

@@ -1,7 +1,7 @@
 -- Seats that wait to be settled, while the core is settled with another.
 use Rattle.std.proofs.Common.{List}
 use Rattle.host_calls.specs.declared.client.ClientCall.{ClientCall}
-use Rattle.plain_machine.specs.declared.call.DeviceCall.{DeviceCall}
+use Rattle.plain.specs.declared.call.DeviceCall.{DeviceCall}
 use Rattle.host_core.below.rtrb.specs.declared.AnyItems.{AnyItems}
 use Rattle.host_core.specs.declared.judges.Judges as journal
 use Rattle.host_core.specs.declared.seat_rules.ClientReplies.{ClientReplies}

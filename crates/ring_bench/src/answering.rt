@@ -7,7 +7,7 @@ ghost use Rattle.host_calls.specs.declared.ring.RingReply.TheVariants.{Answer as
 use bytes::Bytes;
 use host_calls::ClientCall;
 use host_core::{Asked, Bell, ClientReplies, Desk};
-use plain_machine::{Answer, Call, Code, Reply, Step};
+use plain::{Answer, Call, Code, Reply, Step};
 use sector_core::BioResult;
 use std::sync::Wait;
 

@@ -5,7 +5,7 @@ ghost use Rattle.host_core.specs.Seats.{staged, collected};
 use crate::answering::LOOKS;
 use host_calls::ClientCall;
 use host_core::{Bell, ClientReplies, Desk, Seat, open_seat};
-use plain_machine::{Answer, Code};
+use plain::{Answer, Code};
 use std::alloc::Global;
 use std::sync::Wait;
 use std::thread::{self, Threads};

@@ -9,7 +9,7 @@ use bytes::Bytes;
 use host_calls::{ClientCall, RingReply};
 use host_core::Seat;
 use host_rings::{Caller, DeviceSeat};
-use plain_machine::{Answer, DeviceCall, Reply, Work};
+use plain::{Answer, DeviceCall, Reply, Work};
 use rtrb::Protocol;
 use sector_core::{Class, Op, Outcome, Range};
 use std::alloc::Global;

@@ -2,7 +2,7 @@
 use crate::seated::{Host, stage};
 use host_calls::{RingReply, SeatName, put_ring_reply};
 use host_rings::TurnReport;
-use plain_machine::{Answer, Reply};
+use plain::{Answer, Reply};
 use std::alloc::{AllocError, Global};
 
 /// Plays a line. Gives the line that is printed.

@@ -10,7 +10,7 @@ use crate::opening::opened;
 use crate::settling::settle_all;
 use host_calls::{ClientCall, OperatorCall};
 use host_rings::{Caller, Core, OperatorSeat};
-use plain_machine::Answer;
+use plain::Answer;
 use sector_core::Class;
 use std::alloc::Global;
 use std::sync::Wait;

@@ -2,7 +2,7 @@
 use bytes::Bytes;
 use host_calls::{ClientCall, OperatorCall};
 use host_rings::{Caller, Core, DeviceSeat, OperatorSeat, host};
-use plain_machine::{DeviceCall, Why};
+use plain::{DeviceCall, Why};
 use script_line::{Ending, Line, line_of, number};
 use sector_core::{Class, Config, ConfigDraft, FailKind, Op, Outcome, Range};
 use std::alloc::{AllocError, Global};

@@ -4,11 +4,11 @@ use Rattle.std.specs.Prelude.{Result, Ok, Err, OnOk}
 use Rattle.std.specs.List.{flat_map}
 use Rattle.std.proofs.lemmas.List.Concat.{flat_map-cons}
 use Rattle.sector_core.specs.declared.class.Class.{Class}
-use Rattle.soft_queue.specs.Turn.{numbers}
-use Rattle.change_record.specs.Machine.{Bfq, Plain}
-use Rattle.group_tree.specs.Groups.{has_entity}
-use Rattle.change_record.specs.Rules.{stands, vtime_of}
-use Rattle.plain_machine.specs.Entities.{vtime_view}
+use Rattle.plain.specs.Lists.{numbers}
+use Rattle.plain.specs.Machine.{Bfq, Plain}
+use Rattle.plain.specs.Groups.{has_entity}
+use Rattle.plain.specs.Rules.{stands, vtime_of}
+use Rattle.plain.specs.Looks.{vtime_view}
 
 -- the texts from a place on are that of the item there, and those after it
 pub more : {A : Type 0} (f : A → List ℕ) (xs : List A) (i : ℕ) (x : A) → slice_get xs i ≡ Some x

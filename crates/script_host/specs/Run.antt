@@ -1,7 +1,7 @@
 -- A script run on a new host.
 use Rattle.std.specs.Prelude.{◌≡◌, ℕ, ◌⊎◌}
-use Rattle.plain_machine.specs.Step.{Limits}
-use Rattle.plain_machine.specs.Keeper.{opened}
+use Rattle.plain.specs.Opening.{Limits}
+use Rattle.plain.specs.Keeper.{opened}
 use Rattle.base_image.specs.Image.{Disk}
 use Rattle.script_line.specs.Script.{Known, IsEnd}
 use Rattle.script_line.specs.declared.ending.ScriptEnd.{ScriptEnd}

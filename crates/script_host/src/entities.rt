@@ -1,20 +1,19 @@
 // The groups with their members, the queue in service, and what is stored.
 ghost use Rattle.std.specs.Prelude.{◌≡◌, ◌+◌, ◌∷◌, ◌++◌, true, codes, Option, OnOk};
 ghost use Rattle.std.specs.Fmt.{decimal};
-ghost use Rattle.change_record.specs.Rules.{stands};
+ghost use Rattle.plain.specs.Rules.{stands};
 ghost use Rattle.sector_core.specs.declared.range.Range.{Range as RangeOf};
 ghost use Rattle.std.specs.List.{flat_map};
-ghost use Rattle.soft_queue.specs.Turn.{numbers};
+ghost use Rattle.plain.specs.Lists.{numbers};
 ghost use Rattle.dispatch_core.specs.Running.{plain_of};
-ghost use Rattle.plain_machine.specs.Step.{is_in};
-ghost use Rattle.overlay.specs.Runs.{IsNextRun};
+ghost use Rattle.plain.specs.Steps.GroupDrop.{is_in};
+ghost use Rattle.plain.specs.Runs.{IsNextRun};
 ghost use Rattle.host_console.specs.Texts.{state_text};
 ghost use Rattle.host_console.specs.Views.{service_look, other_class_text, known_text, member_text, parent_text, tree_look, stored_look};
 
-use change_record::InService;
 use dispatch_core::{EntityView, View};
+use plain::{InService, State};
 use sector_core::{Class, Entity, Range};
-use service_tree::State;
 use std::io::{self, Write};
 
 // Entities are numbered from 0: 16 seats and 32 groups.

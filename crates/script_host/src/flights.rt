@@ -1,7 +1,7 @@
 // What the tags of the device bear.
 ghost use Rattle.std.specs.Prelude.{◌≡◌, ◌++◌, OnOk};
 ghost use Rattle.std.specs.List.{flat_map};
-ghost use Rattle.soft_queue.specs.Turn.{numbers};
+ghost use Rattle.plain.specs.Lists.{numbers};
 ghost use Rattle.dispatch_core.specs.Running.{plain_of};
 ghost use Rattle.host_console.specs.Views.{tag_text, flight_look};
 

@@ -1,10 +1,9 @@
 // The keeper of the history, as a console needs it.
 
 use crate::looks::put_look;
-use dispatch_core::SectorView;
 use history::Keeper;
-use host_console::{Content, Keeps};
-use plain_machine::{Answer, Call, EntityView, RequestView, Work};
+use host_console::Keeps;
+use plain::{Answer, Call, EntityView, RequestView, SectorView, Work};
 use script_line::Look;
 use sector_core::Class;
 use std::alloc::Global;
@@ -31,12 +30,8 @@ impl Keeps for Host {
         }
     }
 
-    fn sector(&self, number: u64) -> Content<'_> {
-        match self.keeper.view().machine().sector(number) {
-            SectorView::Outside => Content::Outside,
-            SectorView::Base => Content::Base,
-            SectorView::Stored(block) => Content::Stored(block),
-        }
+    fn sector(&self, number: u64) -> SectorView<'_> {
+        self.keeper.view().machine().sector(number)
     }
 
     fn request(&self, seat: u8, place: usize) -> RequestView {

@@ -9,7 +9,7 @@ use crate::requests::{put_queue, put_requeued};
 use crate::seats::{put_outbox, put_seat};
 use crate::steps::{put_numbered, scheduler_word};
 use history::KeeperView;
-use plain_machine::Stamped;
+use plain::Stamped;
 use script_line::Look;
 use std::io::{self, Write};
 

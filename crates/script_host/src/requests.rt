@@ -2,7 +2,8 @@
 ghost use Rattle.std.specs.Prelude.{◌≡◌, [], ◌∷◌, ◌++◌, ℕ, drop, OnOk};
 ghost use Rattle.std.specs.List.{flat_map};
 ghost use Rattle.dispatch_core.specs.Running.{plain_of, IsFor};
-ghost use Rattle.plain_machine.specs.Step.{range_of, seat_of};
+ghost use Rattle.plain.specs.Requests.{range_of};
+ghost use Rattle.plain.specs.Steps.Finish.{seat_of};
 ghost use Rattle.host_console.specs.Views.{op_text, next_text, bios_text, listed_text, queued_text, queue_look, owner_text, owned_text, again_text, requeued_look};
 
 use dispatch_core::{Listed, View};

@@ -1,6 +1,6 @@
 // A script run on a new host.
 ghost use Rattle.std.specs.Prelude.{◌<◌, ◌^◌};
-ghost use Rattle.plain_machine.specs.Step.{of_sizes};
+ghost use Rattle.plain.specs.Step.{of_sizes};
 ghost use Rattle.dispatch_core.specs.Running.{sizes_of};
 ghost use Rattle.script_host.specs.Run.{IsRun};
 

@@ -1,12 +1,12 @@
 // Who sits at a seat, and what waits there to be reaped.
 ghost use Rattle.std.specs.Prelude.{◌≡◌, ◌++◌, OnOk};
 ghost use Rattle.std.specs.List.{flat_map};
-ghost use Rattle.change_record.specs.Rules.{group_of};
+ghost use Rattle.plain.specs.Rules.{group_of};
 ghost use Rattle.dispatch_core.specs.Running.{plain_of};
 ghost use Rattle.host_console.specs.Views.{presence_text, sitting_text, seat_look, result_text, completed_text, outbox_look};
 
-use change_record::Seat;
 use dispatch_core::View;
+use plain::Seat;
 use sector_core::{Bio, BioResult, FailKind};
 use std::io::{self, Write};
 

@@ -5,7 +5,7 @@ ghost use Rattle.host_console.specs.Views.{scheduler_text};
 ghost use Rattle.host_console.specs.Looks.{fill_text, outcome_text, class_end, line_text, step_look, IsSetting};
 
 use dispatch_core::Step;
-use plain_machine::Stamped;
+use plain::Stamped;
 use sector_core::{Class, FailKind, Op, Outcome, Range, Scheduler};
 use std::io::{self, Write};
 

@@ -23,10 +23,6 @@ Appends-kept (Some xs) None c x h k = absurd h
 Appends-kept (Some xs) (Some ys) None x h k = absurd k
 Appends-kept (Some xs) (Some ys) (Some zs) x h k = k ∙ h
 
-pub Keeps-same : (w : Known) → Keeps w w
-Keeps-same None = tt
-Keeps-same (Some xs) = refl
-
 pub Consumes-none : (r : Known) → Consumes r r []
 Consumes-none None = tt
 Consumes-none (Some xs) = refl

@@ -105,11 +105,6 @@ to_classed word text given c (ClassAttach s g p k) e h = (h.0, e ∙ ap (λ ns. 
 to_classed word text given c (ClassVtime g k) e h = (h.0, e ∙ ap (λ ns. numbers ns ++ class_named c) h.1 ∙ ap (λ x. numbers (g ∷ []) ++ class_named x) h.2)
 to_classed word text given c _ e h = absurd h
 
-pub spelled_classed : (word text : List ℕ) (l : Line) → IsClassed word text l → spelled l ≡ word ++ text
-spelled_classed word text (ClassAttach s g p c) h = sym (ap (λ w. w ++ text) h.0 ∙ ap (λ t. codes "attach" ++ t) h.1)
-spelled_classed word text (ClassVtime g c) h = sym (ap (λ w. w ++ text) h.0 ∙ ap (λ t. codes "vtime" ++ t) h.1)
-spelled_classed word text _ h = absurd h
-
 -- a word, numbers and a class are one line at most
 one_classed : (w ns : List ℕ) (c : Class) (l m : Line) → IsWordNumbersAndClass w ns c l → IsWordNumbersAndClass w ns c m → l ≡ m
 one_classed w ns c (ClassAttach s g p k) (ClassAttach s' g' p' k') one two =
@@ -174,11 +169,6 @@ read_classed word text front given c None whole is fits h = λ l f m.
     let same : p.given ≡ given = one_numbers p.given given p.fits fits (cuts.0 ∙ is) in
     let M : List ℕ → Class → Type 0 = λ ns k. IsWordNumbersAndClass word ns k l in
     h l f (subst (λ k. M given k) cuts.1 (subst (λ ns. M ns p.named) same p.is))
-
--- a front of what can stand after a word can stand there too
-pub IsTail-front : (front : List ℕ) (c : Class) → IsTail (front ++ class_named c) → IsTail front
-IsTail-front [] c h = tt
-IsTail-front (x ∷ xs) c h = h
 
 pub if_classed : {Q : Type 0} (word text : List ℕ) (found : Option Line)
     → MatchOption found ((l : Line) → Fits l → IsClassed word text l → ⊥) (λ l. Fits l × IsClassed word text l)

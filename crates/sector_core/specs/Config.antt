@@ -1,6 +1,6 @@
 -- The limits of a configuration (our profile).
-use Rattle.std.specs.Prelude.{◌≡◌, ℕ, ◌^◌, Bool, ◌||◌, nat_lt, [], ◌∷◌, Option}
-use Rattle.sector_core.specs.First.{first_of}
+use Rattle.std.specs.Prelude.{◌≡◌, ℕ, ◌^◌, Bool, ◌||◌, nat_lt, [], ◌∷◌, Option, find}
+use Rattle.std.specs.Option.{option_map}
 use Rattle.sector_core.specs.declared.config.Config.{Config}
 use Rattle.sector_core.specs.declared.config.ConfigDraft.{ConfigDraft}
 use Rattle.sector_core.specs.declared.config.ConfigFault.{ConfigFault}
@@ -26,7 +26,7 @@ is_outside least most n = nat_lt n least || nat_lt most n
 
 -- the first field out of its limits
 abbrev pub fault_of : ConfigDraft → Option ConfigFault
-fault_of draft = first_of (
+fault_of draft = option_map (λ (test : Bool × ConfigFault). test.1) (find (λ (test : Bool × ConfigFault). test.0) (
     (is_outside 1 256 draft.nr_requests, NrRequests)
     ∷ (is_outside 1 64 draft.tags, Tags)
     ∷ (is_outside 256 65536 draft.max_budget, MaxBudget)
@@ -34,7 +34,7 @@ fault_of draft = first_of (
     ∷ (is_outside 1 1000 draft.timeout, Timeout)
     ∷ (is_outside 1 16777216 draft.history_max, HistoryMax)
     ∷ (is_outside 0 (2 ^ 62) draft.first_vtime, FirstVtime)
-    ∷ [])
+    ∷ []))
 
 -- the configuration has the draft's numbers
 pub record IsDraftOf (config : Config) (draft : ConfigDraft) : Type 0 where

@@ -1,3 +1,2 @@
 pub mod Config
-pub mod First
 pub mod Table

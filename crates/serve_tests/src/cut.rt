@@ -1,6 +1,6 @@
 // One session, cut and broken at each of its bytes.
 use crate::run::{Outcome, Setup, front, plain, session};
-use plain_machine::Why;
+use plain::Why;
 use session_proto::EndCause;
 use std::test::Fail;
 

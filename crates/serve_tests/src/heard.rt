@@ -4,7 +4,7 @@ ghost use Rattle.host_calls.specs.Frames.{AnswerHasFrame};
 
 use history::Keeper;
 use host_calls::{ClientCall, Closed};
-use plain_machine::{Answer, Why};
+use plain::{Answer, Why};
 use session_proto::Asks;
 use session_solo::Solo;
 use std::alloc::Global;

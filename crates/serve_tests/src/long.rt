@@ -3,7 +3,7 @@ use crate::run::{checked, front};
 use bytes::Bytes;
 use failing_io::{Narrow, Pieces};
 use history::{Call, ClientCall, Closed, Keeper};
-use plain_machine::{Answer, Reply, Step};
+use plain::{Answer, Reply, Step};
 use sector_core::{Class, ConfigDraft, Op, Outcome, Range};
 use session_proto::{Asks, EndCause, serve};
 use session_solo::Solo;

@@ -1,6 +1,6 @@
 // Sessions of a few bytes, and what comes of each.
 use crate::run::{LIMIT, Setup, plain, session};
-use plain_machine::Why;
+use plain::Why;
 use session_proto::EndCause;
 use std::test::Fail;
 

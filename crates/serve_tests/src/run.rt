@@ -3,7 +3,7 @@ use crate::heard::Heard;
 use failing_io::{Narrow, Pieces};
 use history::Keeper;
 use host_calls::ClientCall;
-use plain_machine::{Answer, Call, Reply, Why};
+use plain::{Answer, Call, Reply, Why};
 use sector_core::{Class, Config, ConfigDraft};
 use session_proto::{EndCause, SessionEnd, serve};
 use std::alloc::Global;

@@ -10,11 +10,11 @@ use Rattle.augmented_tree.specs.Tables.{pick_rows, above_rows, first_key_rows}
 use Rattle.augmented_tree.specs.Trees.{Tree, root_of, weight_of, Holds, tree_in}
 use Rattle.augmented_tree.proofs.Frames.{height_held, sum_held}
 use Rattle.augmented_tree.proofs.Walks.{BestOf, IsBest, Under, pick-best, late, above-tally, IsLeastKey, first-key-least}
-use Rattle.service_tree.specs.declared.member.State.{State}
-use Rattle.service_tree.specs.declared.member.State.TheVariants.{Idle, Active, Serving}
-use Rattle.service_tree.specs.declared.member.Member.{Member}
+use Rattle.plain.specs.declared.member.State.{State}
+use Rattle.plain.specs.declared.member.State.TheVariants.{Idle, Active, Serving}
+use Rattle.plain.specs.declared.member.Member.{Member}
 use Rattle.service_tree.specs.declared.order.Orders.{Orders}
-use Rattle.service_tree.specs.Members.{IsActiveAt, IsEligibleAt, does_count, least_start, numbered, pick, weight_sum}
+use Rattle.plain.specs.Members.{IsActiveAt, IsEligibleAt, does_count, least_start, numbered, pick, weight_sum}
 use Rattle.service_tree.specs.Orders.{IsRanked, IsService, Order, active_of, counted, idle_of, if_active, if_idle, if_serving, served, share}
 use Rattle.service_tree.proofs.Chosen.{before_false}
 use Rattle.service_tree.proofs.Compared.{IsLeast, first_picked, least_is, none_picked, not_eligible}

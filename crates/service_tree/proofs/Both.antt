@@ -2,9 +2,9 @@
 use Rattle.std.proofs.Common.{◌≡◌, ◌≢◌, ℕ, ◌+◌, ◌<◌, ◌≤◌, inl, inr, List, [], ◌∷◌, length, get_or, set, Option, None, Some, refl, ap, arith}
 use Rattle.std.proofs.lemmas.Bool.{cases_lt}
 use Rattle.augmented_tree.specs.Trees.{Entry, is_numbered}
-use Rattle.service_tree.specs.declared.member.State.{State}
-use Rattle.service_tree.specs.declared.member.State.TheVariants.{Idle, Active, Serving}
-use Rattle.service_tree.specs.declared.member.Member.{Member}
+use Rattle.plain.specs.declared.member.State.{State}
+use Rattle.plain.specs.declared.member.State.TheVariants.{Idle, Active, Serving}
+use Rattle.plain.specs.declared.member.Member.{Member}
 use Rattle.service_tree.specs.declared.order.Orders.{Orders}
 use Rattle.service_tree.specs.Orders.{IsRanked, active_of, active_order, brought_in, counted, exchanged, idle_of, idle_order, if_active, if_idle, left_out, share, without_active, without_member, also_active, with_member}
 use Rattle.service_tree.proofs.Counts.{By, IsLight, counted-before, share-le, share-other}

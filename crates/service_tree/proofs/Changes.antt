@@ -12,7 +12,7 @@ use Rattle.augmented_tree.proofs.Heights.{insert-balanced, remove-balanced}
 use Rattle.augmented_tree.proofs.Orders.{insert-ordered, remove-ordered}
 use Rattle.augmented_tree.proofs.Frames.{IsHeld-same, height_held, tree_in-held}
 use Rattle.augmented_tree.proofs.Grows.{grows-insert, links-remove}
-use Rattle.service_tree.specs.declared.member.Member.{Member}
+use Rattle.plain.specs.declared.member.Member.{Member}
 use Rattle.service_tree.specs.Orders.{IsRanked, Order, brought_in, counted, inserted, left_out, removed, share}
 use Rattle.service_tree.proofs.Counts.{By, Counts, IsLight, counted-none, counted-once, counted-set, counted-size, counted-weight, member_held}
 

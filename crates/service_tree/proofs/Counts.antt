@@ -5,7 +5,7 @@ use Rattle.std.proofs.lemmas.Bool.Decides.{nat_tests}
 use Rattle.augmented_tree.specs.declared.row.Figures.{Figures}
 use Rattle.augmented_tree.specs.Trees.{Entry, Tree, tally, is_numbered, one, weight_of, Holds}
 use Rattle.augmented_tree.proofs.Plain.{holds-tally, tally-holds}
-use Rattle.service_tree.specs.declared.member.Member.{Member}
+use Rattle.plain.specs.declared.member.Member.{Member}
 use Rattle.service_tree.specs.Orders.{counted, share}
 
 abbrev pub By : Type 0

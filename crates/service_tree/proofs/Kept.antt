@@ -6,9 +6,9 @@ use Rattle.augmented_tree.specs.declared.row.Figures.{Figures}
 use Rattle.augmented_tree.specs.Rows.{blank}
 use Rattle.augmented_tree.specs.Trees.{Entry, Leaf}
 use Rattle.augmented_tree.proofs.Frames.{stays}
-use Rattle.service_tree.specs.declared.member.State.{State}
-use Rattle.service_tree.specs.declared.member.State.TheVariants.{Idle, Active, Serving}
-use Rattle.service_tree.specs.declared.member.Member.{Member}
+use Rattle.plain.specs.declared.member.State.{State}
+use Rattle.plain.specs.declared.member.State.TheVariants.{Idle, Active, Serving}
+use Rattle.plain.specs.declared.member.Member.{Member}
 use Rattle.service_tree.specs.declared.order.Orders.{Orders}
 use Rattle.service_tree.specs.Orders.{IsService, active_of, counted, exchanged, idle_of, if_active, if_idle, if_serving, served, serving_of, with_member, without_member}
 use Rattle.service_tree.proofs.Counts.{IsLight}

@@ -5,9 +5,9 @@ use Rattle.augmented_tree.specs.declared.row.Row.{Row}
 use Rattle.augmented_tree.specs.Rows.{height_at}
 use Rattle.augmented_tree.specs.Tables.{insert_rows, remove_rows}
 use Rattle.augmented_tree.specs.Trees.{Entry, root_of, tally, IsHeld, IsBalanced, IsOrdered, tree_in}
-use Rattle.service_tree.specs.declared.member.State.{State}
-use Rattle.service_tree.specs.declared.member.State.TheVariants.{Idle, Active, Serving}
-use Rattle.service_tree.specs.declared.member.Member.{Member}
+use Rattle.plain.specs.declared.member.State.{State}
+use Rattle.plain.specs.declared.member.State.TheVariants.{Idle, Active, Serving}
+use Rattle.plain.specs.declared.member.Member.{Member}
 use Rattle.service_tree.specs.declared.order.Orders.{Orders}
 
 -- one order: the rows, and the link of its top (our profile)

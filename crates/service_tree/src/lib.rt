@@ -1,5 +1,5 @@
 #![tactic(auto)]
-//! B-WF2Q+'s tree of one group: its members by entity number, and its virtual time.
+//! B-WF2Q+'s tree of one class of a group: its members by entity number, and its virtual time.
 //!
 //! | call | rule that it meets |
 //! |---|---|
@@ -24,23 +24,22 @@
 //! question is a walk down one of them, and an exchange takes the old member out and puts the new one in. No call takes memory.
 
 ghost use Rattle.std.specs.Prelude.{◌≡◌, None, Some, MatchOption, length, replicate, slice_index_or, slice_set};
-ghost use Rattle.service_tree.specs.Members.{IsLeastStart, IsPicked, NoneActive, NoneEligible, WeighsAtMost, least_start, pick, weight_sum};
+ghost use Rattle.plain.specs.Members.{IsLeastStart, IsPicked, NoneActive, NoneEligible, WeighsAtMost, least_start, pick, weight_sum};
 
-mod member;
 mod order;
-mod plain;
+mod slow;
 
-pub use member::{Member, State};
 use order::{Orders, serving_of};
-pub use plain::{plain_least_start, plain_pick, plain_weight_sum};
+pub use plain::{Member, State};
 use sector_core::Entity;
+pub use slow::{plain_least_start, plain_pick, plain_weight_sum};
 use std::marker::Model;
 use std::mem;
 
 // How many entities there are: 16 sessions and 32 groups.
 const ENTITIES: u8 = 48;
 
-/// The members of one group, under the numbers 0 to 47, and the group's virtual time.
+/// The members of one class of a group, under the numbers 0 to 47, and its virtual time.
 #[derive(Drop)]
 pub struct ServiceTree {
     vtime: u64,
@@ -52,7 +51,7 @@ pub struct ServiceTree {
 
 impl Model for ServiceTree {
     ghost use Rattle.std.specs.Prelude.{◌≡◌, length};
-    ghost use Rattle.service_tree.specs.Members.{Service};
+    ghost use Rattle.plain.specs.Members.{Service};
     ghost use Rattle.service_tree.specs.Orders.{IsService};
 
     ghost Value = { Service };

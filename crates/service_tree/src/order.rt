@@ -4,11 +4,11 @@ ghost use Rattle.augmented_tree.specs.Rows.{blank, height_at, sum_at};
 ghost use Rattle.augmented_tree.specs.Tables.{pick_rows, above_rows, first_key_rows};
 ghost use Rattle.service_tree.specs.Orders.{active_of, brought_in, idle_of, left_out, serving_of, with_member, without_member};
 
-use crate::member::{Member, State};
 use augmented_tree::{
     BLANK, Figures, Row, Turn, first_key_at, height_at, insert_at, pick_at, remove_at,
     sum_above_at, sum_at,
 };
+use plain::{Member, State};
 
 // The rows, and the links of the two tops. A member is active or idle and never both, so its row is in one tree at most.
 #[derive(Drop)]

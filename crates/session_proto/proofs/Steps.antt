@@ -2,7 +2,7 @@
 use Rattle.std.proofs.Common.{◌≡◌, ℕ, true, false, is_some, ◌+◌, ◌<◌, ◌≤◌, List, [], ◌∷◌, ◌++◌, length, take, drop, Result, Ok, Err, Option, Some, None, refl, sym, ap, ◌∙◌, subst, append_assoc, append-nil, take-append-drop, length-append, length-drop, length-take-le, take_all, arith, inl, inr}
 use Rattle.std.specs.Io.KnownBytes.{Appends, Consumes, Keeps, IsAtEnd}
 use Rattle.std.proofs.lemmas.List.Concat.{flat_map-append}
-use Rattle.plain_machine.specs.declared.answer.Answer.{Answer}
+use Rattle.plain.specs.declared.answer.Answer.{Answer}
 use Rattle.host_calls.specs.declared.client.ClientCall.{ClientCall}
 use Rattle.host_calls.specs.declared.ring.Closed.{Closed as HasClosed}
 use Rattle.session_proto.specs.Frame.{framed}
@@ -75,12 +75,6 @@ pub read_fails : (limit : ℕ) (r0 r1 r2 : Known) (held : Held) (calls : List Cl
     → ReadSoFar limit (length calls) r0 r1 held calls → Reads limit r0 r2 held calls (Err ReadFault)
 read_fails limit r0 r1 r2 held calls sound kept past =
     (held.bytes, None, [], nothing_more limit r0 r1 r2 held calls sound (Consumes-kept r1 r1 r2 [] (Consumes-none r1) kept) past, (refl, refl))
-
--- the input is at its end, between two frames
-pub input_ends : (limit : ℕ) (r0 r1 r2 : Known) (held : Held) (calls : List Client) → held.fault ≡ None → Consumes r1 r2 [] → IsAtEnd r2
-    → held.bytes ≡ [] → ReadSoFar limit (length calls) r0 r1 held calls → Reads limit r0 r2 held calls (Err Ended)
-input_ends limit r0 r1 r2 held calls sound read end none past =
-    (held.bytes, None, [], nothing_more limit r0 r1 r2 held calls sound read past, (none, refl, end, refl))
 
 -- or inside one
 pub input_breaks : (limit : ℕ) (r0 r1 r2 : Known) (held : Held) (calls : List Client) → held.fault ≡ None → Consumes r1 r2 [] → IsAtEnd r2

@@ -91,9 +91,6 @@ each-append : {T : Type 0} (fits : T → Type 0) (vs ws : List T) → AllByRecur
 each-append fits [] ws p q = q
 each-append fits (v ∷ vs) ws p q = (p.0, each-append fits vs ws p.1 q)
 
-pub no_cut : {T : Type 0} (body : T → List ℕ) (fits : T → Type 0) (bytes : List ℕ) → IsCut body fits bytes [] 0
-no_cut body fits bytes = record { within = omega arith; front = refl; each = tt }
-
 pub cut_more : {T : Type 0} (body : T → List ℕ) (fits : T → Type 0) (body_at : List ℕ → Result T Fault) (most : ℕ) → IsSide body fits body_at most
     → (bytes : List ℕ) (values : List T) (size : ℕ) (v : T) (more : ℕ) → IsBytes bytes → IsCut body fits bytes values size
     → next_of body_at most (drop size bytes) ≡ Whole v more → IsCut body fits bytes (values ++ v ∷ []) (size + more) × (0 < more)

@@ -1,6 +1,6 @@
 -- The calls of a session, asked one after the other, and what their answers are as bytes.
 use Rattle.std.specs.Prelude.{◌≡◌, ℕ, List, [], ◌∷◌, ◌++◌, Result, Ok, Err, Option}
-use Rattle.plain_machine.specs.declared.answer.Answer.{Answer}
+use Rattle.plain.specs.declared.answer.Answer.{Answer}
 use Rattle.host_calls.specs.declared.client.ClientCall.{ClientCall}
 use Rattle.host_calls.specs.declared.ring.Closed.{Closed}
 use Rattle.host_calls.specs.declared.ring.RingReply.TheVariants as ring

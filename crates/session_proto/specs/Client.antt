@@ -4,7 +4,7 @@ use Rattle.std.specs.Int.{w8, w16, w64}
 use Rattle.sector_core.specs.declared.bio.Op.TheVariants.{Fetch, Store}
 use Rattle.sector_core.specs.declared.class.Class.TheVariants.{BestEffort}
 use Rattle.sector_core.specs.declared.range.Range.{Range}
-use Rattle.plain_machine.specs.declared.step.Why.TheVariants.{Ended}
+use Rattle.plain.specs.declared.step.Why.TheVariants.{Ended}
 use Rattle.host_calls.specs.declared.client.ClientCall.{ClientCall}
 use Rattle.host_calls.specs.declared.client.ClientCall.TheVariants.{Attach, Submit, Reap, Leave}
 use Rattle.session_proto.specs.declared.fault.Fault.{Fault}
@@ -29,8 +29,8 @@ client_body (Leave why) = 0x05 ∷ []
 abbrev pub SpanFits : ℕ → Range → Type 0
 SpanFits session range = (session < 2 ^ 64) × (range.start < 2 ^ 64) × (range.count < 2 ^ 16)
 
--- an Attach is of best effort; a fetch has no payload, a store at most that of 64 sectors, which need not be that of its
--- count; a client only says that it has ended (our format)
+-- an Attach is of best effort; a fetch has no payload, and a store at most that of 64 sectors, whatever its count; a client only says that
+-- it has ended (our format)
 abbrev pub ClientFits : ClientCall → Type 0
 ClientFits (Attach group prio class) = (group < 2 ^ 8) × (prio < 2 ^ 8) × (class ≡ BestEffort)
 ClientFits (Submit session Fetch range payload) = SpanFits session range × (payload ≡ [])

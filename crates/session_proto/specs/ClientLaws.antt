@@ -6,7 +6,7 @@ use Rattle.std.proofs.lemmas.List.{append-nil, length-append}
 use Rattle.sector_core.specs.declared.bio.Op.TheVariants.{Fetch, Store}
 use Rattle.sector_core.specs.declared.class.Class.TheVariants.{BestEffort}
 use Rattle.sector_core.specs.declared.range.Range.{Range}
-use Rattle.plain_machine.specs.declared.step.Why.TheVariants.{Ended}
+use Rattle.plain.specs.declared.step.Why.TheVariants.{Ended}
 use Rattle.host_calls.specs.declared.client.ClientCall.{ClientCall}
 use Rattle.host_calls.specs.declared.client.ClientCall.TheVariants.{Attach, Submit, Reap, Leave}
 use Rattle.session_proto.specs.Frame.{IsBytes}

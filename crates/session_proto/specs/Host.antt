@@ -5,10 +5,10 @@ use Rattle.sector_core.specs.declared.bio.BioResult.{BioResult}
 use Rattle.sector_core.specs.declared.bio.BioResult.TheVariants.{Read, Written, IoError}
 use Rattle.sector_core.specs.declared.bio.FailKind.{FailKind}
 use Rattle.sector_core.specs.declared.bio.FailKind.TheVariants.{Short, Fault as Faulty}
-use Rattle.plain_machine.specs.Numbers.{code_number, code_of_number, cause_number, cause_of_number}
-use Rattle.plain_machine.specs.declared.answer.Reply.{Reply}
-use Rattle.plain_machine.specs.declared.answer.Reply.TheVariants.{Attached, Queued, Completed, Left, Issued, Finished, Requeued, Group, Done, Moved, Taken}
-use Rattle.plain_machine.specs.declared.answer.Answer.TheVariants.{Accepted, Refused, NotYet}
+use Rattle.plain.specs.Numbers.{code_number, code_of_number, cause_number, cause_of_number}
+use Rattle.plain.specs.declared.answer.Reply.{Reply}
+use Rattle.plain.specs.declared.answer.Reply.TheVariants.{Attached, Queued, Completed, Left, Issued, Finished, Requeued, Group, Done, Moved, Taken}
+use Rattle.plain.specs.declared.answer.Answer.TheVariants.{Accepted, Refused, NotYet}
 use Rattle.host_calls.specs.Frames.{IfAccepted, HasFrame}
 use Rattle.host_calls.specs.declared.ring.RingReply.{RingReply}
 use Rattle.host_calls.specs.declared.ring.RingReply.TheVariants.{Answer, Closed}

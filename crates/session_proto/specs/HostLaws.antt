@@ -7,14 +7,14 @@ use Rattle.std.proofs.lemmas.List.{append-nil, length-append}
 use Rattle.sector_core.specs.declared.bio.BioResult.TheVariants.{Read, Written, IoError}
 use Rattle.sector_core.specs.declared.bio.FailKind.{FailKind}
 use Rattle.sector_core.specs.declared.bio.FailKind.TheVariants.{Short, Fault as Faulty}
-use Rattle.plain_machine.specs.Numbers.{code_number, code_of_number, cause_number, cause_of_number}
-use Rattle.plain_machine.specs.NumberLaws.{number-code_of_number, code_of_number-number, number-cause_of_number, cause_of_number-number}
-use Rattle.plain_machine.specs.declared.answer.Code.{Code}
-use Rattle.plain_machine.specs.declared.answer.Code.TheVariants.{BadSeat}
-use Rattle.plain_machine.specs.declared.answer.Cause.{Cause}
-use Rattle.plain_machine.specs.declared.answer.Cause.TheVariants.{Held}
-use Rattle.plain_machine.specs.declared.answer.Reply.TheVariants.{Attached, Queued, Completed, Left, Issued, Finished, Requeued, Group, Done, Moved, Taken}
-use Rattle.plain_machine.specs.declared.answer.Answer.TheVariants.{Accepted, Refused, NotYet}
+use Rattle.plain.specs.Numbers.{code_number, code_of_number, cause_number, cause_of_number}
+use Rattle.plain.specs.NumberLaws.{number-code_of_number, code_of_number-number, number-cause_of_number, cause_of_number-number}
+use Rattle.plain.specs.declared.answer.Code.{Code}
+use Rattle.plain.specs.declared.answer.Code.TheVariants.{BadSeat}
+use Rattle.plain.specs.declared.answer.Cause.{Cause}
+use Rattle.plain.specs.declared.answer.Cause.TheVariants.{Held}
+use Rattle.plain.specs.declared.answer.Reply.TheVariants.{Attached, Queued, Completed, Left, Issued, Finished, Requeued, Group, Done, Moved, Taken}
+use Rattle.plain.specs.declared.answer.Answer.TheVariants.{Accepted, Refused, NotYet}
 use Rattle.host_calls.specs.Frames.{ResultHasFrame}
 use Rattle.host_calls.specs.declared.ring.RingReply.{RingReply}
 use Rattle.host_calls.specs.declared.ring.RingReply.TheVariants.{Answer, Closed}

@@ -1,9 +1,9 @@
 -- How a session ends, what was read, asked and written by then, and the Leave after it.
 use Rattle.std.specs.Prelude.{◌≡◌, ℕ, ◌<◌, ◌≤◌, List, [], ◌∷◌, ◌++◌, length, Result, Ok, Err, Option, None, Some, ◌⊎◌}
 use Rattle.std.specs.Io.KnownBytes.{Appends, Consumes, IsAtEnd}
-use Rattle.plain_machine.specs.declared.answer.Answer.{Answer}
-use Rattle.plain_machine.specs.declared.step.Why.{Why}
-use Rattle.plain_machine.specs.declared.step.Why.TheVariants as why
+use Rattle.plain.specs.declared.answer.Answer.{Answer}
+use Rattle.plain.specs.declared.step.Why.{Why}
+use Rattle.plain.specs.declared.step.Why.TheVariants as why
 use Rattle.host_calls.specs.declared.client.ClientCall.{ClientCall}
 use Rattle.host_calls.specs.declared.client.ClientCall.TheVariants.{Leave}
 use Rattle.host_calls.specs.declared.ring.Closed.{Closed as HasClosed}

@@ -1,7 +1,7 @@
 -- A session while it goes on: what has come, and what was asked and written.
 use Rattle.std.specs.Prelude.{◌≡◌, ℕ, ◌<◌, ◌≤◌, List, [], ◌++◌, length, Result, Ok, Err, Option, None, Some}
 use Rattle.std.specs.Io.KnownBytes.{Appends, Consumes, IsAtEnd}
-use Rattle.plain_machine.specs.declared.answer.Answer.{Answer}
+use Rattle.plain.specs.declared.answer.Answer.{Answer}
 use Rattle.host_calls.specs.declared.client.ClientCall.{ClientCall}
 use Rattle.host_calls.specs.declared.ring.Closed.{Closed as HasClosed}
 use Rattle.session_proto.specs.Stream.{Held, HasCome}

@@ -6,7 +6,7 @@ ghost use Rattle.session_proto.specs.Asked.{frame_of};
 use crate::encoding::encode;
 use crate::host::Host;
 use host_calls::RingReply;
-use plain_machine::Answer;
+use plain::Answer;
 use std::alloc::{AllocError, Global};
 
 /// The frame of the host that answers a client so. It has at most 32,791 bytes.

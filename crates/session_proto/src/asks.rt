@@ -1,12 +1,12 @@
 // Who answers the calls of a session.
 ghost use Rattle.std.specs.Prelude.{Result, Ok};
-ghost use Rattle.plain_machine.specs.declared.answer.Answer.{Answer};
+ghost use Rattle.plain.specs.declared.answer.Answer.{Answer};
 ghost use Rattle.host_calls.specs.declared.client.ClientCall.{ClientCall};
 ghost use Rattle.host_calls.specs.declared.ring.Closed.{Closed};
 ghost use Rattle.host_calls.specs.Frames.{AnswerHasFrame};
 
 use host_calls::{ClientCall, Closed};
-use plain_machine::Answer;
+use plain::Answer;
 use std::alloc::Global;
 
 /// One who answers a client's calls: a keeper on this thread, or a seat of a host.

@@ -12,7 +12,7 @@ use super::fields::{BAD_BODY, ended, put_u8, put_u16, put_u64, u8_of, u16_of, u6
 use super::side::Side;
 use bytes::Bytes;
 use host_calls::ClientCall;
-use plain_machine::Why;
+use plain::Why;
 use sector_core::{Class, Op, Range};
 use std::alloc::{AllocError, Global};
 

@@ -2,7 +2,7 @@
 ghost use Rattle.std.specs.Prelude.{◌≡◌};
 ghost use Rattle.session_proto.specs.Served.{leave_of};
 
-use plain_machine::{Answer, Why};
+use plain::{Answer, Why};
 
 /// Why a session ended: the first of these causes that came.
 #[derive(Clone, Copy, Debug, PartialEq, Eq)]

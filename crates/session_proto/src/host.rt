@@ -7,14 +7,14 @@ ghost use Rattle.session_proto.specs.Fields.{big_endian};
 ghost use Rattle.session_proto.specs.Kinds.{read_by};
 ghost use Rattle.session_proto.specs.Host.{host_body, reply_body, result_body, HostFits, host_kinds, host_at, accepted, is_sectors, fail_number, fail_of_number, attached_at, queued_at, read_at, written_at, error_at, group_at, moved_at, refused_at, not_yet_at};
 ghost use Rattle.session_proto.specs.HostLaws.{host_in_limits, host_again, host_spelled};
-ghost use Rattle.plain_machine.specs.declared.answer.Reply.TheVariants.{Completed};
+ghost use Rattle.plain.specs.declared.answer.Reply.TheVariants.{Completed};
 
 use super::fault::{Fault, ReadError};
 use super::fields::{BAD_BODY, ended, named, put_u8, put_u32, put_u64, u8_of, u32_of, u64_of};
 use super::side::Side;
 use bytes::Bytes;
 use host_calls::RingReply;
-use plain_machine::{Answer, Cause, Code, Reply};
+use plain::{Answer, Cause, Code, Reply};
 use sector_core::{BioResult, FailKind, SECTOR_BYTES};
 use std::alloc::{AllocError, Global};
 

@@ -1,8 +1,9 @@
 -- A keeper that is the replay of its journal answers a client with what has a frame.
 use Rattle.std.proofs.Common.{◌≡◌, subst}
-use Rattle.plain_machine.specs.declared.answer.Answer.{Answer}
-use Rattle.plain_machine.specs.declared.call.Call.{Call}
-use Rattle.plain_machine.specs.Keeper.{State, MayCall, replay}
+use Rattle.plain.specs.declared.answer.Answer.{Answer}
+use Rattle.plain.specs.declared.call.Call.{Call}
+use Rattle.plain.specs.Keeper.{State}
+use Rattle.plain.specs.Headline.{MayCall, replay}
 use Rattle.host_calls.specs.Answered.{ClientsAreAnswered}
 use Rattle.host_calls.specs.Asked.{client_call}
 use Rattle.host_calls.specs.Frames.{AnswerHasFrame}

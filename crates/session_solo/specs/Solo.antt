@@ -1,7 +1,8 @@
 -- How a keeper on one thread answers a client.
 use Rattle.std.specs.Prelude.{Result, Ok, Err}
-use Rattle.plain_machine.specs.declared.answer.Answer.{Answer}
-use Rattle.plain_machine.specs.Keeper.{State, MayCall}
+use Rattle.plain.specs.declared.answer.Answer.{Answer}
+use Rattle.plain.specs.Keeper.{State}
+use Rattle.plain.specs.Headline.{MayCall}
 use Rattle.host_calls.specs.Asked.{client_call}
 use Rattle.host_calls.specs.Frames.{AnswerHasFrame}
 use Rattle.host_calls.specs.declared.client.ClientCall.{ClientCall}

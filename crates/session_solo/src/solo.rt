@@ -4,7 +4,7 @@ ghost use Rattle.session_solo.specs.SoloLaws.{solo_frames};
 
 use history::Keeper;
 use host_calls::{ClientCall, Closed, clients_are_answered};
-use plain_machine::Answer;
+use plain::Answer;
 use session_proto::Asks;
 use std::alloc::Global;
 

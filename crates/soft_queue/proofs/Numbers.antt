@@ -4,8 +4,9 @@ use Rattle.std.specs.List.{find}
 use Rattle.std.specs.Option.{option_or}
 use Rattle.std.proofs.lemmas.List.Folds.{find-append}
 use Rattle.process_queue.specs.declared.Link.{Link}
-use Rattle.process_queue.specs.Queue.{queue_slots, is_empty}
-use Rattle.soft_queue.specs.Turn.{numbers, seats, is_waiting, next_seat}
+use Rattle.process_queue.specs.Queue.{queue_slots}
+use Rattle.plain.specs.Lists.{is_empty, numbers, seats}
+use Rattle.soft_queue.specs.Turn.{is_waiting, next_seat}
 
 numbers-cons : (i n : ℕ) → 0 < n → numbers i n ≡ i ∷ numbers (i + 1) (n - 1)
 numbers-cons i zero h = absurd (omega arith)

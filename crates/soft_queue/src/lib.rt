@@ -7,7 +7,8 @@
 
 ghost use Rattle.std.specs.Prelude.{◌≡◌, ◌≤◌, ◌-◌};
 ghost use Rattle.std.specs.List.{find};
-ghost use Rattle.soft_queue.specs.Turn.{next_seat, is_waiting, numbers};
+ghost use Rattle.soft_queue.specs.Turn.{next_seat, is_waiting};
+ghost use Rattle.plain.specs.Lists.{numbers};
 
 use process_queue::ProcessQueue;
 

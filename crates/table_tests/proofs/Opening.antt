@@ -1,13 +1,14 @@
 -- Tables of a new machine are sized and bounded, and stay so as entities come into groups, and as groups get other times.
 use Rattle.std.proofs.Common.{◌≡◌, ℕ, zero, suc, ◌<◌, ◌≤◌, ◌^◌, List, [], ◌∷◌, ◌++◌, Option, Some, None, replicate, slice_index_or, slice_set, refl, sym, subst, ◌∙◌, length-set, arith}
 use Rattle.sector_core.specs.declared.class.Class.{Class}
-use Rattle.service_tree.specs.declared.member.Member.{Member}
-use Rattle.class_trees.specs.declared.Vtimes.{Vtimes}
-use Rattle.class_trees.specs.Classes.{Classes, same_times, time_of}
-use Rattle.class_trees.proofs.Times.{same_most}
+use Rattle.plain.specs.declared.member.Member.{Member}
+use Rattle.plain.specs.declared.member.Vtimes.{Vtimes}
+use Rattle.plain.specs.Classes.{Classes, same_times, time_of, with_vtimes}
+use Rattle.class_laws.proofs.Times.{same_most}
 use Rattle.change_record.specs.declared.change.Making.{Making}
-use Rattle.change_record.specs.Tables.{Tables, empty_tables, empty_service}
-use Rattle.change_record.specs.Exchange.{tree_at, with_vtimes}
+use Rattle.change_record.specs.Tables.{Tables, empty_tables}
+use Rattle.plain.specs.Opening.{empty_service}
+use Rattle.change_record.specs.Exchange.{tree_at}
 use Rattle.change_record.specs.Machine.{bfq_of}
 use Rattle.bfq_select.specs.Service.{IsSized, IsBounded}
 use Rattle.bfq_select.proofs.Bounds.{each_set}

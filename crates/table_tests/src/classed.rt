@@ -1,8 +1,8 @@
 // The trees of a group beside a plain list of its members, after each of a list of changes that is the same each time.
 use crate::compared::{ENTITIES, Numbers, VTIMES, next_member};
 use class_trees::ClassTrees;
+use plain::{Member, State};
 use sector_core::{Class, Entity};
-use service_tree::{Member, State};
 
 // The highest first.
 const CLASSES: [Class; 3] = [Class::RealTime, Class::BestEffort, Class::Idle];

@@ -1,8 +1,8 @@
 // What no clause says: each call of the trees of a group once, and the rules at listed members. The numbers are worked out by hand.
 use Class::{BestEffort, Idle, RealTime};
-use class_trees::{ClassTrees, Vtimes};
+use class_trees::ClassTrees;
+use plain::{Member, State, Vtimes};
 use sector_core::{Class, Entity};
-use service_tree::{Member, State};
 use std::process::Abort;
 
 // It waits.

@@ -2,8 +2,9 @@
 ghost use Rattle.std.specs.Prelude.{◌<◌};
 
 use augmented_tree::{BLANK, Figures, Row, height_at, insert_at, remove_at};
+use plain::{Member, State};
 use sector_core::{Class, Entity};
-use service_tree::{Member, ServiceTree, State, plain_least_start, plain_pick, plain_weight_sum};
+use service_tree::{ServiceTree, plain_least_start, plain_pick, plain_weight_sum};
 
 // How many entities there are: 16 sessions and 32 groups.
 pub const ENTITIES: Entity = 48;

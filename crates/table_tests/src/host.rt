@@ -5,9 +5,8 @@ ghost use Rattle.bfq_select.specs.Service.{IsSized, IsBounded};
 
 use bfq_select::{Expiry, VtimeFull, activate, charge, expire, member_in, select};
 use change_record::{Change, Making, Parts, Tape};
-use class_trees::Vtimes;
+use plain::{State, Vtimes};
 use sector_core::{Class, Entity, Scheduler};
-use service_tree::State;
 use std::alloc::Global;
 use std::process::Abort;
 use std::test::Fail;

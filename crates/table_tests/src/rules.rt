@@ -1,6 +1,6 @@
 // The rules in examples that were computed by hand: 2^22 = 4194304 is the virtual time of one sector at weight 1.
 use crate::host::{Act, Fact, Host};
-use service_tree::State;
+use plain::State;
 use std::process::Abort;
 use std::test::Fail;
 

@@ -2,7 +2,8 @@
 ghost use Rattle.std.specs.Prelude.{◌≡◌, ◌∷◌, [], IfOk, OnOk, false};
 
 use bytes::Bytes;
-use change_record::{Change, Making, Parts, Seat, Tape};
+use change_record::{Change, Making, Parts, Tape};
+use plain::Seat;
 use process_queue::Link;
 use sector_core::{Block, Scheduler, Slot};
 use std::alloc::Global;

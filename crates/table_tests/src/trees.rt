@@ -1,6 +1,7 @@
 // What no clause says: each call once, and the rules at listed members. The numbers are worked out by hand.
+use plain::{Member, State};
 use sector_core::Class;
-use service_tree::{Member, ServiceTree, State};
+use service_tree::ServiceTree;
 use std::process::Abort;
 
 fn member(state: State, start: u64, finish: u64, weight: u32) -> Member {

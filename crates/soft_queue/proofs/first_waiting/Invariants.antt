@@ -1,6 +1,7 @@
 use Rattle.std.proofs.Common.{◌≡◌, ◌-◌}
 use Rattle.std.specs.List.{find}
-use Rattle.soft_queue.specs.Turn.{numbers, is_waiting}
+use Rattle.plain.specs.Lists.{numbers}
+use Rattle.soft_queue.specs.Turn.{is_waiting}
 use Rattle.soft_queue.proofs.first_waiting.Given as goal
 
 -- no seat before this one has a queued request

@@ -1,7 +1,8 @@
 use Rattle.std.proofs.Common.{◌-◌, inl, inr, ap, sym, ◌∙◌, rules}
 use Rattle.std.specs.List.{find}
 use Rattle.std.specs.Option.{option_or}
-use Rattle.soft_queue.specs.Turn.{numbers, is_waiting}
+use Rattle.plain.specs.Lists.{numbers}
+use Rattle.soft_queue.specs.Turn.{is_waiting}
 use Rattle.soft_queue.proofs.Numbers.{IsAfter, next_seat_is, none_next}
 use Rattle.soft_queue.proofs.pick.Goals as goal
 use Rattle.soft_queue.proofs.pick.Goals.{then-last_seat-lt16, else-last_seat-lt16}

@@ -1,6 +1,7 @@
 use Rattle.std.proofs.Common.{length, ◌≡◌, ◌+◌, ℕ, Some, true, get_or, ◌∙◌, arith, rules}
-use Rattle.change_record.specs.Machine.{Bfq, bfq_of}
-use Rattle.change_record.specs.Rules.{is_idle, member_of, start_from, stamp}
+use Rattle.plain.specs.Machine.{Bfq}
+use Rattle.change_record.specs.Machine.{bfq_of}
+use Rattle.plain.specs.Rules.{is_idle, member_of, start_from, stamp}
 use Rattle.bfq_select.proofs.Courses.{course_more, course_most}
 use Rattle.bfq_select.proofs.Paths.{activate_more}
 use Rattle.bfq_select.proofs.activating.activate_path.Goals as goal

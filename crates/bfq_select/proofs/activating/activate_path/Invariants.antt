@@ -1,6 +1,6 @@
 use Rattle.std.proofs.Common.{◌≡◌, drop}
 use Rattle.change_record.specs.Machine.{bfq_of}
-use Rattle.change_record.specs.Rules.{activate_path}
+use Rattle.plain.specs.Rules.{activate_path}
 use Rattle.bfq_select.specs.Service.{IsSized, IsBounded}
 use Rattle.bfq_select.specs.Course.{Exchanges}
 use Rattle.bfq_select.proofs.activating.activate_path.Given as goal

@@ -1,6 +1,6 @@
 use Rattle.std.proofs.Common.{length, ◌+◌, ◌∙◌, arith}
 use Rattle.change_record.specs.Machine.{bfq_of}
-use Rattle.change_record.specs.Rules.{charge_one}
+use Rattle.plain.specs.Rules.{charge_one}
 use Rattle.bfq_select.proofs.Courses.{course_more, course_most}
 use Rattle.bfq_select.proofs.Paths.{along_more}
 use Rattle.bfq_select.proofs.charging.charge_path.Goals as goal

@@ -1,6 +1,6 @@
 use Rattle.std.proofs.Common.{◌≡◌, drop}
 use Rattle.change_record.specs.Machine.{bfq_of}
-use Rattle.change_record.specs.Rules.{along, charge_one}
+use Rattle.plain.specs.Rules.{along, charge_one}
 use Rattle.bfq_select.specs.Service.{IsSized, IsBounded}
 use Rattle.bfq_select.specs.Course.{Exchanges}
 use Rattle.bfq_select.proofs.charging.charge_path.Given as goal

@@ -1,6 +1,6 @@
 use Rattle.std.proofs.Common.{refl, length, ◌+◌, ◌∙◌, arith}
 use Rattle.change_record.specs.Machine.{bfq_of}
-use Rattle.change_record.specs.Rules.{expire_one}
+use Rattle.plain.specs.Rules.{expire_one}
 use Rattle.bfq_select.proofs.Courses.{course_more, course_most, course_none}
 use Rattle.bfq_select.proofs.Paths.{along_more}
 use Rattle.bfq_select.proofs.expiring.expire_path.Goals as goal

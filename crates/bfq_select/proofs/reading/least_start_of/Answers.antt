@@ -1,7 +1,7 @@
 use Rattle.std.specs.Prelude.{slice_get}
 use Rattle.std.proofs.Common.{◌≡◌, [], None, Some, sym, ap, rules}
-use Rattle.service_tree.specs.Members.{least_start}
-use Rattle.class_trees.specs.Classes.{Classes, only, same_times}
+use Rattle.plain.specs.Members.{least_start}
+use Rattle.plain.specs.Classes.{Classes, only, same_times}
 use Rattle.change_record.specs.Machine.{bfq_of}
 use Rattle.bfq_select.proofs.Bounds.{small_least}
 use Rattle.bfq_select.proofs.Looking.{looked_none, looked_some}

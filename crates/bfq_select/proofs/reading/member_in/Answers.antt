@@ -1,7 +1,7 @@
 use Rattle.std.specs.Prelude.{slice_get, unwrap_or}
 use Rattle.std.proofs.Common.{◌≡◌, [], None, Some, slice_index_or, sym, ap, rules}
-use Rattle.class_trees.specs.Classes.{Classes, same_times}
-use Rattle.change_record.specs.Rules.{absent}
+use Rattle.plain.specs.Classes.{Classes, same_times}
+use Rattle.plain.specs.Rules.{absent}
 use Rattle.bfq_select.proofs.Looking.{looked_none, looked_in}
 use Rattle.bfq_select.proofs.reading.member_in.Goals as goal
 

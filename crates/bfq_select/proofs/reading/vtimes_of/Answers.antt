@@ -1,6 +1,6 @@
 use Rattle.std.specs.Prelude.{slice_get}
 use Rattle.std.proofs.Common.{◌≡◌, ◌∙◌, [], None, sym, ap, rules}
-use Rattle.class_trees.specs.Classes.{Classes, same_times}
+use Rattle.plain.specs.Classes.{Classes, same_times}
 use Rattle.bfq_select.proofs.Looking.{looked_none}
 use Rattle.bfq_select.proofs.reading.vtimes_of.Goals as goal
 

@@ -1,7 +1,7 @@
 use Rattle.std.specs.Prelude.{slice_get}
 use Rattle.std.proofs.Common.{◌≡◌, [], None, sym, ap, rules}
-use Rattle.service_tree.specs.Members.{weight_sum}
-use Rattle.class_trees.specs.Classes.{Classes, only, same_times, time_of}
+use Rattle.plain.specs.Members.{weight_sum}
+use Rattle.plain.specs.Classes.{Classes, only, same_times, time_of}
 use Rattle.bfq_select.proofs.Looking.{looked_none}
 use Rattle.bfq_select.proofs.reading.weight_sum_of.Goals as goal
 

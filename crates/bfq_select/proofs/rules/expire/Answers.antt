@@ -1,8 +1,9 @@
 use Rattle.std.proofs.Common.{◌≡◌, ◌≤◌, subst, Some, None, sym, ap, ◌∙◌, length, arith, rules}
-use Rattle.group_tree.specs.Groups.{parent, path}
-use Rattle.change_record.specs.declared.change.InService.{InService}
-use Rattle.change_record.specs.Machine.{Bfq, bfq_of}
-use Rattle.change_record.specs.Rules.{out_of_service, budget_after}
+use Rattle.plain.specs.Groups.{parent, path}
+use Rattle.plain.specs.declared.seat.InService.{InService}
+use Rattle.plain.specs.Machine.{Bfq}
+use Rattle.change_record.specs.Machine.{bfq_of}
+use Rattle.plain.specs.Rules.{out_of_service, budget_after}
 use Rattle.bfq_select.proofs.Bounds.{least_after, most_after}
 use Rattle.bfq_select.specs.Course.{Exchanges}
 use Rattle.bfq_select.proofs.Courses.{course_more}
@@ -13,7 +14,7 @@ pub returns-in-Ok-clause-made : goal.returns-in-Ok-clause-made
 returns-in-Ok-clause-made c =
     let b : Bfq = bfq_of c.args.parts.now.tables in
     let s : InService = c.in-Some.slot in
-    let there : b.slot ≡ Some s = sym c.slot.ensures ∙ c.in-Some.is in
+    let there : b.in_service ≡ Some s = sym c.slot.ensures ∙ c.in-Some.is in
     let way : c.as_slice.result.now ≡ path b.parent s.seat = c.as_slice.ensures.value ∙ c.path-path.ensures ∙ ap (λ p. path (parent p) s.seat) c.groups.ensures in
     let out : bfq_of c.set_slot.new.parts.tables ≡ out_of_service c.args.cause c.args.most s b = search rules in
     expire_all c.args.cause c.args.most c.args.queued b (bfq_of c.set_slot.new.parts.tables) s c.as_slice.result.now (Some (bfq_of c.expire_path.new.parts.tables)) there way out c.in-Ok.ensures.made
@@ -22,7 +23,7 @@ pub returns-in-Err-clause-made : goal.returns-in-Err-clause-made
 returns-in-Err-clause-made c =
     let b : Bfq = bfq_of c.args.parts.now.tables in
     let s : InService = c.in-Some.slot in
-    let there : b.slot ≡ Some s = sym c.slot.ensures ∙ c.in-Some.is in
+    let there : b.in_service ≡ Some s = sym c.slot.ensures ∙ c.in-Some.is in
     let way : c.as_slice.result.now ≡ path b.parent s.seat = c.as_slice.ensures.value ∙ c.path-path.ensures ∙ ap (λ p. path (parent p) s.seat) c.groups.ensures in
     let out : bfq_of c.set_slot.new.parts.tables ≡ out_of_service c.args.cause c.args.most s b = search rules in
     expire_all c.args.cause c.args.most c.args.queued b (bfq_of c.set_slot.new.parts.tables) s c.as_slice.result.now None there way out c.in-Err.ensures.made
@@ -86,7 +87,7 @@ pub expire_path-requires-clause-bounded : goal.expire_path-requires-clause-bound
 expire_path-requires-clause-bounded c =
     let b : Bfq = bfq_of c.args.parts.now.tables in
     let s : InService = c.in-Some.slot in
-    let there : b.slot ≡ Some s = sym c.slot.ensures ∙ c.in-Some.is in
+    let there : b.in_service ≡ Some s = sym c.slot.ensures ∙ c.in-Some.is in
     let new : c.budget_after-budget.result ≡ budget_after c.args.cause (b.budget s.seat) s.service c.args.most =
     c.budget_after-budget.ensures ∙ ap (λ n. budget_after c.args.cause n s.service c.args.most) c.budget.ensures in
     let least = least_after c.args.cause (b.budget s.seat) s.service c.args.most (c.requires.bounded.least_budgets s.seat) c.requires.least in

@@ -16,7 +16,7 @@ loop-level-preserved c =
     course_more 1 1 2 c.loop-level.parts.tables c.jump.new.parts.tables c.serve.new.parts.tables c.loop-level.tape c.jump.new.tape c.serve.new.tape c.jump.ensures.course c.serve.ensures.course (omega arith) in
     record {
       rest = sym (select_group (5 - level) (5 - (level + 1)) c.loop-level.group x c.in-Some.class (bfq_of c.loop-level.parts.tables) (bfq_of c.jump.new.parts.tables) (bfq_of c.serve.new.parts.tables) more c.in-Some.ensures c.jump.ensures.made c.in-Some-jump.ensures.picked c.serve.ensures.made group) ∙ v.rest;
-      group = omega (arith, c.in-Some-jump.ensures.within, c.if-entity-lt16.false);
+      group = omega (arith, c.in-Some-jump.ensures.within, c.if-entity-lt-SEATS.false);
       sized = c.serve.ensures.sized;
       bounded = c.serve.ensures.bounded;
       course = course_more (2 * level) 2 (2 * (level + 1)) c.args.parts.now.tables c.loop-level.parts.tables c.serve.new.parts.tables c.args.tape.now c.loop-level.tape c.serve.new.tape v.course level_done (omega arith);
@@ -28,8 +28,8 @@ returns-in_default-jump-clause-made c =
     let more : 5 - level ≡ suc (5 - (level + 1)) = omega arith in
     sym (select_none (5 - level) (5 - (level + 1)) c.loop-level.group c.in-Some.class (bfq_of c.loop-level.parts.tables) (bfq_of c.jump.new.parts.tables) more c.in-Some.ensures c.jump.ensures.made c.in_default-jump.ensures.picked) ∙ c.loop-level.invariant.rest
 
-pub returns-then-entity-lt16-clause-made : goal.returns-then-entity-lt16-clause-made
-returns-then-entity-lt16-clause-made c =
+pub returns-then-entity-lt-SEATS-clause-made : goal.returns-then-entity-lt-SEATS-clause-made
+returns-then-entity-lt-SEATS-clause-made c =
     let level : ℕ = c.loop-level._level in
     let x : ℕ = c.in-Some-jump.entity in
     let more : 5 - level ≡ suc (5 - (level + 1)) = omega arith in

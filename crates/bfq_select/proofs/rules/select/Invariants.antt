@@ -1,6 +1,6 @@
 use Rattle.std.proofs.Common.{◌≡◌, ◌<◌, ◌*◌, ◌-◌}
 use Rattle.change_record.specs.Machine.{bfq_of}
-use Rattle.change_record.specs.Rules.{select_from}
+use Rattle.plain.specs.Rules.{select_from}
 use Rattle.bfq_select.specs.Service.{IsSized, IsBounded}
 use Rattle.bfq_select.specs.Course.{Exchanges}
 use Rattle.bfq_select.proofs.rules.select.Given as goal

@@ -1,5 +1,5 @@
 use Rattle.std.proofs.Common.{◌≡◌, replicate}
-use Rattle.change_record.specs.Tables.{empty_service}
+use Rattle.plain.specs.Opening.{empty_service}
 use Rattle.change_record.proofs.parts.empty_trees.Given as goal
 
 abbrev pub invariant-loop : goal.invariant-loop

@@ -1,12 +1,8 @@
 use Rattle.std.proofs.Common.{◌≡◌, ◌+◌, length, true, subst, sym, ap, ◌∙◌, arith, rules}
-use Rattle.change_record.specs.Tables.{Tables}
-use Rattle.change_record.specs.Machine.{bfq_of, meaning}
-use Rattle.change_record.specs.Rules.{stands}
-use Rattle.dispatch_core.specs.WellFormed.{WellFormed}
-use Rattle.dispatch_core.specs.Changes.{attached_tables}
-use Rattle.plain_machine.specs.Step.{of_sizes}
-use Rattle.plain_machine.specs.declared.answer.Answer.TheVariants.{Accepted}
-use Rattle.plain_machine.specs.declared.answer.Reply.TheVariants.{Attached}
+use Rattle.dispatch_core.proofs.Words.{Tables, bfq_of, meaning, stands, WellFormed, attached_tables}
+use Rattle.plain.specs.Step.{of_sizes}
+use Rattle.plain.specs.declared.answer.Answer.TheVariants.{Accepted}
+use Rattle.plain.specs.declared.answer.Reply.TheVariants.{Attached}
 use Rattle.dispatch_core.proofs.Sides.{CanAttach}
 use Rattle.dispatch_core.proofs.Laws.{attached-well, attached-meaning}
 use Rattle.dispatch_core.proofs.Decided.{attach_does, stands_below}
@@ -16,7 +12,7 @@ pub returns-clause-answers : goal.returns-clause-answers
 returns-clause-answers c =
     let l = of_sizes c.args.sizes in
     let t = c.args.parts.now.tables in
-    let can : CanAttach t c.args.seat = record { within = c.if-seat-ge16.false; free = search rules } in
+    let can : CanAttach t c.args.seat = record { within = c.if-seat-ge-SEATS.false; free = search rules } in
     let there : stands (bfq_of t) c.args.group ≡ true = search rules in
     let now : c.sit.new.parts.tables ≡ attached_tables l t c.args.serial c.args.seat c.args.group c.args.prio c.args.class = search rules in
     sym (attach_does l (meaning t) c.args.serial c.args.room c.args.seat c.args.group c.args.prio c.args.class can.within can.free there (search rules) c.if-not-room.false
@@ -26,7 +22,7 @@ pub returns-clause-leaves : goal.returns-clause-leaves
 returns-clause-leaves c =
     let l = of_sizes c.args.sizes in
     let t = c.args.parts.now.tables in
-    let can : CanAttach t c.args.seat = record { within = c.if-seat-ge16.false; free = search rules } in
+    let can : CanAttach t c.args.seat = record { within = c.if-seat-ge-SEATS.false; free = search rules } in
     let there : stands (bfq_of t) c.args.group ≡ true = search rules in
     let now : c.sit.new.parts.tables ≡ attached_tables l t c.args.serial c.args.seat c.args.group c.args.prio c.args.class = search rules in
     let P : Tables → Type 0 = λ t. WellFormed l (c.args.serial + 1) t in (

@@ -1,8 +1,7 @@
 use Rattle.std.proofs.lemmas.List.{drop_more}
 use Rattle.std.proofs.Common.{◌+◌, length, get_or, drop, sym, ap, ◌∙◌, subst, arith}
-use Rattle.sector_core.specs.declared.bio.Outcome.{Outcome}
+use Rattle.dispatch_core.proofs.Words.{Outcome, total_count}
 use Rattle.dispatch_core.specs.Counts.{blocks_put}
-use Rattle.dispatch_core.specs.Ranges.{total_count}
 use Rattle.dispatch_core.specs.Ready.{IsReady}
 use Rattle.dispatch_core.proofs.Completing.{completed_tables, first_taken, first_ends, first_done, first_ends_done, first_payload, first_total, first_bytes, tables_more, total_more, ready_more, ready_at, tables_at, changes_at}
 use Rattle.dispatch_core.proofs.Recorded.{one_more, blocks_put-sum, blocks_put-rest}

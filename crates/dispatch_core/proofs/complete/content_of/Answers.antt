@@ -1,7 +1,7 @@
 use Rattle.std.proofs.Common.{rules, ap, ◌∙◌, ◌≡◌, ◌-◌, ◌++◌, take, drop}
 use Rattle.std.specs.Prelude.{unwrap_or}
 use Rattle.std.specs.FinMap as blocks
-use Rattle.plain_machine.specs.Step.{content}
+use Rattle.plain.specs.Steps.Finish.{content}
 use Rattle.dispatch_core.proofs.Contents.{all_more, content-more, content-none, first_bytes, other_bytes}
 use Rattle.dispatch_core.proofs.complete.content_of.Goals as goal
 

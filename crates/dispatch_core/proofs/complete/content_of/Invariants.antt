@@ -1,5 +1,5 @@
 use Rattle.std.proofs.Common.{◌≡◌, ◌-◌, ◌++◌}
-use Rattle.plain_machine.specs.Step.{content}
+use Rattle.plain.specs.Steps.Finish.{content}
 use Rattle.dispatch_core.proofs.complete.content_of.Given as goal
 
 -- what has been found, and the content of the sectors that are to come

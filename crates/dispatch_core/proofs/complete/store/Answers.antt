@@ -1,8 +1,7 @@
 use Rattle.std.proofs.Common.{◌≡◌, ◌≤◌, ap, ◌∙◌, arith, take, length, length-drop}
 use Rattle.std.proofs.lemmas.List.{length-take-le}
 use Rattle.std.specs.FinMap as blocks
-use Rattle.change_record.specs.Tables.{Tables}
-use Rattle.plain_machine.specs.Step.{with_blocks}
+use Rattle.dispatch_core.proofs.Words.{Tables, with_blocks}
 use Rattle.dispatch_core.proofs.Contents.{with_blocks-more, only_overlay}
 use Rattle.dispatch_core.proofs.Recorded.{one_more}
 use Rattle.dispatch_core.proofs.complete.store.Goals as goal

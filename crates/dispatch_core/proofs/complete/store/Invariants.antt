@@ -1,6 +1,6 @@
 use Rattle.std.proofs.Common.{◌≡◌, ◌+◌, ◌-◌, ◌*◌, ◌≤◌, length}
 use Rattle.change_record.specs.Trail.{KeepsTrail}
-use Rattle.plain_machine.specs.Step.{with_blocks}
+use Rattle.plain.specs.Steps.Finish.{with_blocks}
 use Rattle.dispatch_core.proofs.complete.store.Given as goal
 
 -- putting the blocks that are to come does what putting all does, and there are bytes and room for them

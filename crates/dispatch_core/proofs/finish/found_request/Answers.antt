@@ -1,11 +1,6 @@
 use Rattle.std.proofs.Common.{◌≡◌, ◌<◌, Some, None, subst, sym, ap, ◌∙◌, rules}
-use Rattle.request_pool.specs.declared.Request.{Request}
-use Rattle.tag_set.specs.declared.Issue.{Issue}
-use Rattle.process_queue.specs.Merge.{bios_at}
-use Rattle.change_record.specs.Machine.{Flight, meaning}
-use Rattle.plain_machine.specs.Step.{of_sizes, fits, size_of}
-use Rattle.dispatch_core.specs.WellFormed.{at}
-use Rattle.dispatch_core.specs.Ranges.{HasFewSectors, total_count}
+use Rattle.dispatch_core.proofs.Words.{Request, Issue, bios_at, Flight, meaning, fits, size_of, at, HasFewSectors, total_count}
+use Rattle.plain.specs.Step.{of_sizes}
 use Rattle.dispatch_core.proofs.Queues.{whole, flight_borne, flight_is, no_flight}
 use Rattle.dispatch_core.proofs.Sectors.{few_sectors_of, size_is, request_taken}
 use Rattle.dispatch_core.proofs.Decided.{finish_past, finish_free, finish_stale, finish_bad, finish_late}

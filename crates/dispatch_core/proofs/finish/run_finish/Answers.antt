@@ -1,6 +1,6 @@
 use Rattle.std.proofs.Common.{◌≡◌, Some, is_some, ap, arith, length, rules}
-use Rattle.plain_machine.specs.Step.{of_sizes, finish}
-use Rattle.dispatch_core.specs.WellFormed.{at}
+use Rattle.plain.specs.Step.{of_sizes}
+use Rattle.dispatch_core.proofs.Words.{finish, at}
 use Rattle.dispatch_core.proofs.MayFinish.{may_give_way, may_ready, may_fit, may_size, may_make, may_make_most, ended-well, ended-answers}
 use Rattle.dispatch_core.proofs.Decided.{Answers-err}
 use Rattle.dispatch_core.proofs.finish.run_finish.Goals as goal

@@ -1,5 +1,5 @@
 use Rattle.std.proofs.Common.{◌≡◌, ◌≢◌, ℕ, ◌<◌, Some, None, slice_index_or}
-use Rattle.change_record.specs.declared.change.Seat.{Seat}
+use Rattle.plain.specs.declared.seat.Seat.{Seat}
 use Rattle.dispatch_core.proofs.finish.seat_of.Given as goal
 
 -- no seat before this one is the session's

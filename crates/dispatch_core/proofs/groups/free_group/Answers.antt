@@ -1,6 +1,5 @@
 use Rattle.std.proofs.Common.{◌≡◌, false, arith, rules}
-use Rattle.change_record.specs.Machine.{bfq_of}
-use Rattle.change_record.specs.Rules.{stands}
+use Rattle.dispatch_core.proofs.Words.{bfq_of, stands}
 use Rattle.dispatch_core.proofs.Grouping.{free_is, free_none}
 use Rattle.dispatch_core.proofs.groups.free_group.Goals as goal
 

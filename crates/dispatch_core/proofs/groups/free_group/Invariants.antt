@@ -1,6 +1,5 @@
 use Rattle.std.proofs.Common.{◌≡◌, ℕ, ◌<◌, ◌≤◌, true}
-use Rattle.change_record.specs.Machine.{bfq_of}
-use Rattle.change_record.specs.Rules.{stands}
+use Rattle.dispatch_core.proofs.Words.{bfq_of, stands}
 use Rattle.dispatch_core.proofs.groups.free_group.Given as goal
 
 -- each earlier group stands

@@ -1,5 +1,5 @@
 use Rattle.std.proofs.Common.{◌≡◌, ◌≢◌, ℕ, List, Option, Some, MatchOption, subst, ◌∙◌}
-use Rattle.group_tree.specs.Groups.{parent}
+use Rattle.plain.specs.Groups.{parent}
 use Rattle.dispatch_core.proofs.Grouping.{used_child}
 use Rattle.dispatch_core.proofs.groups.is_used.Goals as goal
 

@@ -1,15 +1,12 @@
 use Rattle.std.proofs.Common.{◌≡◌, ◌+◌, ◌<◌, List, None, length, true, false, subst, sym, ap, ◌∙◌, arith, rules}
 use Rattle.change_record.specs.declared.change.Change.{Change}
 use Rattle.change_record.specs.declared.change.Change.TheVariants.{TreeMember, GroupEntry}
-use Rattle.change_record.specs.Tables.{Tables}
-use Rattle.change_record.specs.Exchange.{after}
+use Rattle.dispatch_core.proofs.Words.{Tables, after, bfq_of, meaning, stands, group_of, WellFormed}
 use Rattle.change_record.specs.Trail.{IsTrail}
-use Rattle.change_record.specs.Machine.{bfq_of, meaning}
-use Rattle.change_record.specs.Rules.{stands, group_of}
-use Rattle.plain_machine.specs.Step.{of_sizes, is_used}
-use Rattle.plain_machine.specs.declared.answer.Answer.TheVariants.{Accepted}
-use Rattle.plain_machine.specs.declared.answer.Reply.TheVariants.{Done}
-use Rattle.dispatch_core.specs.WellFormed.{WellFormed}
+use Rattle.plain.specs.Step.{of_sizes}
+use Rattle.plain.specs.Steps.GroupDrop.{is_used}
+use Rattle.plain.specs.declared.answer.Answer.TheVariants.{Accepted}
+use Rattle.plain.specs.declared.answer.Reply.TheVariants.{Done}
 use Rattle.dispatch_core.proofs.Recorded.{one_more}
 use Rattle.dispatch_core.proofs.Decided.{stands_below}
 use Rattle.dispatch_core.proofs.Grouping.{group_drop_does, dropped-meaning, dropped-well}

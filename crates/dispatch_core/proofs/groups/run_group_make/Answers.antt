@@ -2,23 +2,20 @@ use Rattle.std.proofs.Common.{◌≡◌, ◌+◌, ◌<◌, List, Some, length, t
 use Rattle.sector_core.specs.declared.class.Class.TheVariants.{BestEffort}
 use Rattle.change_record.specs.declared.change.Change.{Change}
 use Rattle.change_record.specs.declared.change.Change.TheVariants.{Vtime}
-use Rattle.change_record.specs.Tables.{Tables}
-use Rattle.change_record.specs.Exchange.{after}
+use Rattle.dispatch_core.proofs.Words.{Tables, after, bfq_of, meaning, stands, WellFormed, entered, same_times}
 use Rattle.change_record.specs.Trail.{IsTrail}
-use Rattle.change_record.specs.Machine.{bfq_of, meaning}
-use Rattle.group_tree.specs.Groups.{depth}
-use Rattle.change_record.specs.Rules.{stands}
-use Rattle.plain_machine.specs.Step.{of_sizes, group_make, is_weight, free_group, Outcome_of, MayGiveWay}
-use Rattle.plain_machine.specs.declared.answer.Answer.TheVariants.{Accepted}
-use Rattle.plain_machine.specs.declared.answer.Reply.TheVariants.{Group}
-use Rattle.dispatch_core.specs.WellFormed.{WellFormed}
-use Rattle.dispatch_core.specs.Changes.{entered}
+use Rattle.plain.specs.Groups.{depth}
+use Rattle.plain.specs.Step.{of_sizes, MayGiveWay}
+use Rattle.plain.specs.Steps.GroupMake.{group_make, free_group}
+use Rattle.plain.specs.Entities.{is_weight}
+use Rattle.plain.specs.Tests.{StepResult}
+use Rattle.plain.specs.declared.answer.Answer.TheVariants.{Accepted}
+use Rattle.plain.specs.declared.answer.Reply.TheVariants.{Group}
 use Rattle.dispatch_core.proofs.Recorded.{one_more}
 use Rattle.dispatch_core.proofs.Decided.{stands_below, Answers-err}
 use Rattle.dispatch_core.proofs.Grouping.{group_make_does, made-meaning, made-well}
 use Rattle.dispatch_core.proofs.groups.run_group_make.Goals as goal
-use Rattle.class_trees.specs.declared.Vtimes.{Vtimes}
-use Rattle.class_trees.specs.Classes.{same_times}
+use Rattle.plain.specs.declared.member.Vtimes.{Vtimes}
 
 pub returns-in_err-reserve-clause-answers : goal.returns-in_err-reserve-clause-answers
 returns-in_err-reserve-clause-answers c =
@@ -30,7 +27,7 @@ returns-in_err-reserve-clause-answers c =
     let high : depth (bfq_of t).parent c.args.parent < 4 = omega (arith, level, c.if-depth-ge-MOST_LEVELS.false) in
     let free : free_group (bfq_of t) ≡ Some c.in-Some.group = sym c.free_group.ensures.value ∙ c.in-Some.is in
     let does = group_make_does l (meaning t) c.args.room c.args.parent c.args.weight c.in-Some.group there good high free c.if-not-room.false in
-    let P : Outcome_of → Type 0 = λ o. MayGiveWay o.1 in
+    let P : StepResult → Type 0 = λ o. MayGiveWay o.1 in
     Answers-err (λ m. group_make l m c.args.room c.args.parent c.args.weight) t t c.from_residual.result (search rules) (subst P (sym does) tt)
 
 pub returns-clause-answers : goal.returns-clause-answers

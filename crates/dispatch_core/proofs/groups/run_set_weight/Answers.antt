@@ -1,13 +1,10 @@
 use Rattle.std.proofs.Common.{◌≡◌, ◌+◌, ◌<◌, length, true, subst, sym, ap, ◌∙◌, arith, rules}
 use Rattle.change_record.specs.declared.change.Change.TheVariants.{Pending}
-use Rattle.change_record.specs.Tables.{Tables}
-use Rattle.change_record.specs.Exchange.{after}
-use Rattle.change_record.specs.Machine.{bfq_of, meaning}
-use Rattle.change_record.specs.Rules.{stands}
-use Rattle.plain_machine.specs.Step.{of_sizes, is_weight}
-use Rattle.plain_machine.specs.declared.answer.Answer.TheVariants.{Accepted}
-use Rattle.plain_machine.specs.declared.answer.Reply.TheVariants.{Done}
-use Rattle.dispatch_core.specs.WellFormed.{WellFormed}
+use Rattle.dispatch_core.proofs.Words.{Tables, after, bfq_of, meaning, stands, WellFormed}
+use Rattle.plain.specs.Step.{of_sizes}
+use Rattle.plain.specs.Entities.{is_weight}
+use Rattle.plain.specs.declared.answer.Answer.TheVariants.{Accepted}
+use Rattle.plain.specs.declared.answer.Reply.TheVariants.{Done}
 use Rattle.dispatch_core.proofs.Recorded.{one_more}
 use Rattle.dispatch_core.proofs.Decided.{stands_below}
 use Rattle.dispatch_core.proofs.Grouping.{set_weight_does, weighed-meaning, weighed-well}

@@ -1,7 +1,6 @@
 use Rattle.std.proofs.Common.{◌+◌, ℕ, List, length, get_or, drop, sym, ap, ◌∙◌, arith}
 use Rattle.std.proofs.lemmas.List.{drop_more}
-use Rattle.change_record.specs.Tables.{Tables}
-use Rattle.dispatch_core.specs.Changes.{without_bios}
+use Rattle.dispatch_core.proofs.Words.{Tables, without_bios}
 use Rattle.dispatch_core.proofs.Recorded.{one_more}
 use Rattle.dispatch_core.proofs.leave.drop_bios.Goals as goal
 

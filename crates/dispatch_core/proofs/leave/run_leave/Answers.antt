@@ -1,36 +1,33 @@
 use Rattle.std.proofs.Common.{◌≡◌, ◌+◌, [], length, Some, None, set, subst, sym, ap, ◌∙◌, arith, rules}
-use Rattle.change_record.specs.Tables.{Tables}
-use Rattle.change_record.specs.Machine.{meaning, outbox_at}
-use Rattle.plain_machine.specs.declared.answer.Answer.TheVariants.{Accepted}
-use Rattle.plain_machine.specs.declared.answer.Reply.TheVariants.{Left}
-use Rattle.plain_machine.specs.Step.{of_sizes}
-use Rattle.dispatch_core.specs.WellFormed.{at, WellFormed}
-use Rattle.dispatch_core.specs.Changes.{left_tables, fewer_tables}
+use Rattle.dispatch_core.proofs.Words.{Tables, meaning, outbox_at, at, WellFormed, left_tables, fewer_tables}
+use Rattle.plain.specs.declared.answer.Answer.TheVariants.{Accepted}
+use Rattle.plain.specs.declared.answer.Reply.TheVariants.{Left}
+use Rattle.plain.specs.Step.{of_sizes}
 use Rattle.dispatch_core.proofs.Leaves.{left-well, left-meaning, length-outbox}
 use Rattle.dispatch_core.proofs.LeaveSteps.{leave_seat, leave_nobody, leave_again, leave_late, leave_does}
 use Rattle.dispatch_core.proofs.leave.run_leave.Goals as goal
 
-pub returns-then-seat-ge16-clause-answers : goal.returns-then-seat-ge16-clause-answers
-returns-then-seat-ge16-clause-answers c =
-    sym (leave_seat (of_sizes c.args.sizes) (meaning c.args.parts.now.tables) c.args.room c.args.seat c.if-seat-ge16.true)
+pub returns-then-seat-ge-SEATS-clause-answers : goal.returns-then-seat-ge-SEATS-clause-answers
+returns-then-seat-ge-SEATS-clause-answers c =
+    sym (leave_seat (of_sizes c.args.sizes) (meaning c.args.parts.now.tables) c.args.room c.args.seat c.if-seat-ge-SEATS.true)
 
 pub returns-in_default-clause-answers : goal.returns-in_default-clause-answers
 returns-in_default-clause-answers c =
     let t = c.args.parts.now.tables in
     let none : at t.seats c.args.seat ≡ None = search rules in
-    sym (leave_nobody (of_sizes c.args.sizes) (meaning t) c.args.room c.args.seat c.if-seat-ge16.false none)
+    sym (leave_nobody (of_sizes c.args.sizes) (meaning t) c.args.room c.args.seat c.if-seat-ge-SEATS.false none)
 
 pub returns-then-entry-clause-answers : goal.returns-then-entry-clause-answers
 returns-then-entry-clause-answers c =
     let t = c.args.parts.now.tables in
     let sits : at t.seats c.args.seat ≡ Some c.in-Some.entry = sym c.seat.ensures ∙ c.in-Some.is in
-    sym (leave_again (of_sizes c.args.sizes) (meaning t) c.args.room c.args.seat c.if-seat-ge16.false c.in-Some.entry sits c.if-entry.true)
+    sym (leave_again (of_sizes c.args.sizes) (meaning t) c.args.room c.args.seat c.if-seat-ge-SEATS.false c.in-Some.entry sits c.if-entry.true)
 
 pub returns-then-not-room-clause-answers : goal.returns-then-not-room-clause-answers
 returns-then-not-room-clause-answers c =
     let t = c.args.parts.now.tables in
     let sits : at t.seats c.args.seat ≡ Some c.in-Some.entry = sym c.seat.ensures ∙ c.in-Some.is in
-    sym (leave_late (of_sizes c.args.sizes) (meaning t) c.args.room c.args.seat c.if-seat-ge16.false c.in-Some.entry sits c.if-entry.false c.if-not-room.true)
+    sym (leave_late (of_sizes c.args.sizes) (meaning t) c.args.room c.args.seat c.if-seat-ge-SEATS.false c.in-Some.entry sits c.if-entry.false c.if-not-room.true)
 
 pub returns-clause-answers : goal.returns-clause-answers
 returns-clause-answers c =
@@ -43,8 +40,8 @@ returns-clause-answers c =
     c.owe_fewer.ensures.tables ∙ ap (λ u. fewer_tables u c.args.seat entry (length c.as_slice-slots.result.now)) (c.clear_outbox.ensures.tables
     ∙ ap (λ (u : Tables). record u { outboxes = set u.outboxes c.args.seat (record { items = [] }) }) c.drop_bios.ensures.tables)
     ∙ ap (left_tables t c.args.seat entry) slots in
-    let next = ap meaning now ∙ left-meaning l c.args.serial t c.args.seat entry c.requires c.if-seat-ge16.false sits in
-    let does = leave_does l (meaning t) c.args.room c.args.seat c.if-seat-ge16.false entry sits c.if-entry.false c.if-not-room.false in
+    let next = ap meaning now ∙ left-meaning l c.args.serial t c.args.seat entry c.requires c.if-seat-ge-SEATS.false sits in
+    let does = leave_does l (meaning t) c.args.room c.args.seat c.if-seat-ge-SEATS.false entry sits c.if-entry.false c.if-not-room.false in
     sym (does ∙ ap (λ m. (m, Accepted Left)) (sym next))
 
 pub returns-clause-leaves : goal.returns-clause-leaves
@@ -58,11 +55,11 @@ returns-clause-leaves c =
     c.owe_fewer.ensures.tables ∙ ap (λ u. fewer_tables u c.args.seat entry (length c.as_slice-slots.result.now)) (c.clear_outbox.ensures.tables
     ∙ ap (λ (u : Tables). record u { outboxes = set u.outboxes c.args.seat (record { items = [] }) }) c.drop_bios.ensures.tables)
     ∙ ap (left_tables t c.args.seat entry) slots in
-    let bios = length-outbox l c.args.serial t c.args.seat entry c.requires c.if-seat-ge16.false sits in
+    let bios = length-outbox l c.args.serial t c.args.seat entry c.requires c.if-seat-ge-SEATS.false sits in
     let long = ap length slots in
     let was = ap length c.reserve.ensures.current in
     let P : Tables → Type 0 = λ u. WellFormed l (c.args.serial + 1) u in (
-      subst P (sym now) (left-well l c.args.serial t c.args.seat entry c.requires c.if-seat-ge16.false sits),
+      subst P (sym now) (left-well l c.args.serial t c.args.seat entry c.requires c.if-seat-ge-SEATS.false sits),
       omega (arith, c.owe_fewer.ensures.spare, c.clear_outbox.ensures.spare, c.drop_bios.ensures.spare, c.in_ok-reserve.ensures.spare),
       omega (arith, bios, long, was, c.clear_outbox.ensures.count, c.drop_bios.ensures.count, c.owe_fewer.ensures.least),
       omega (arith, bios, long, was, c.clear_outbox.ensures.count, c.drop_bios.ensures.count, c.owe_fewer.ensures.most),

@@ -1,6 +1,5 @@
 use Rattle.std.proofs.Common.{◌≡◌, ◌+◌, ◌*◌, ◌≤◌, ◌^◌, drop}
-use Rattle.process_queue.specs.Merge.{bios_at}
-use Rattle.plain_machine.specs.Step.{size_of}
+use Rattle.dispatch_core.proofs.Words.{bios_at, size_of}
 use Rattle.dispatch_core.proofs.listed.size_of.Given as goal
 
 -- with the sectors of the slots that are left it is the whole

@@ -1,8 +1,8 @@
 use Rattle.std.proofs.Common.{IfOk, ap, subst, sym}
 use Rattle.change_record.specs.Machine.{meaning}
-use Rattle.plain_machine.specs.declared.step.Step.{Step}
-use Rattle.plain_machine.specs.declared.step.Step.TheVariants.{Submit, Leave}
-use Rattle.plain_machine.specs.Step.{of_sizes, step}
+use Rattle.plain.specs.declared.step.Step.{Step}
+use Rattle.plain.specs.declared.step.Step.TheVariants.{Submit, Leave}
+use Rattle.plain.specs.Step.{of_sizes, step}
 use Rattle.dispatch_core.specs.Counts.{exchanges_of, rule_exchanges}
 use Rattle.dispatch_core.specs.Relation.{Leaves}
 use Rattle.dispatch_core.proofs.Decided.{Answers-by}

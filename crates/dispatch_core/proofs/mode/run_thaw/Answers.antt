@@ -1,7 +1,6 @@
 use Rattle.std.proofs.Common.{◌+◌, length, false, subst, sym, ap, arith}
-use Rattle.change_record.specs.Tables.{Tables}
-use Rattle.plain_machine.specs.Step.{of_sizes}
-use Rattle.dispatch_core.specs.WellFormed.{WellFormed}
+use Rattle.dispatch_core.proofs.Words.{Tables, WellFormed}
+use Rattle.plain.specs.Step.{of_sizes}
 use Rattle.dispatch_core.proofs.Modes.{frozen-well}
 use Rattle.dispatch_core.proofs.mode.run_thaw.Goals as goal
 

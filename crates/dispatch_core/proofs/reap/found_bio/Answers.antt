@@ -1,13 +1,13 @@
 use Rattle.std.proofs.Common.{◌≡◌, false, Some, ◌∙◌, sym, rules}
 use Rattle.std.specs.Prelude.{slice_get}
 use Rattle.change_record.specs.Machine.{outbox_at}
-use Rattle.plain_machine.specs.Step.{of_sizes}
+use Rattle.plain.specs.Step.{of_sizes}
 use Rattle.dispatch_core.proofs.MayReap.{refused_late}
 use Rattle.dispatch_core.proofs.reap.found_bio.Goals as goal
 
 pub returns : goal.returns
 returns c = record {
-  within = c.if-seat-ge16.false;
+  within = c.if-seat-ge-SEATS.false;
   sits = sym c.seat.ensures ∙ c.in-Some.is;
   stays = search rules;
   session_is = c.if-entry-session.false;
@@ -22,5 +22,5 @@ returns-then-not-room c =
     let entry = c.in-Some.entry in
     let stays : entry.leaving ≡ false = search rules in
     let first : slice_get (outbox_at t.outboxes c.args.seat) 0 ≡ Some c.in-Some-copied.place = search rules in
-    refused_late (of_sizes c.args.sizes) c.args.serial t c.args.room c.args.seat c.args.session entry c.in-Some-copied.place c.requires c.if-seat-ge16.false (sym c.seat.ensures ∙ c.in-Some.is)
+    refused_late (of_sizes c.args.sizes) c.args.serial t c.args.room c.args.seat c.args.session entry c.in-Some-copied.place c.requires c.if-seat-ge-SEATS.false (sym c.seat.ensures ∙ c.in-Some.is)
     stays c.if-entry-session.false c.if-entry-eq0.false first c.if-not-room.true

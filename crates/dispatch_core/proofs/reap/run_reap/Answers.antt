@@ -1,9 +1,7 @@
 use Rattle.std.proofs.Common.{◌≡◌, length, drop, Some, None, ap, arith, rules, List, subst, sym, ◌∙◌}
-use Rattle.sector_core.specs.declared.bio.Bio.{Bio}
-use Rattle.change_record.specs.Machine.{outbox_at, meaning}
-use Rattle.plain_machine.specs.Step.{of_sizes, reap}
-use Rattle.dispatch_core.specs.WellFormed.{at}
-use Rattle.dispatch_core.specs.Changes.{reaped_tables}
+use Rattle.dispatch_core.proofs.Words.{Bio, outbox_at, meaning, at, reaped_tables}
+use Rattle.plain.specs.Step.{of_sizes}
+use Rattle.plain.specs.Steps.Reap.{reap}
 use Rattle.dispatch_core.proofs.MayReap.{place_taken, one_waits, one_owed, may_give_way, reaped-answers, reaped-well, declined-answers, declined-leaves}
 use Rattle.dispatch_core.proofs.Decided.{Answers-err}
 use Rattle.change_record.specs.declared.change.Change.{Change}

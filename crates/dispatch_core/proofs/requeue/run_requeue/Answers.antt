@@ -1,11 +1,8 @@
 use Rattle.std.proofs.Common.{◌≡◌, ◌+◌, ◌<◌, length, Some, subst, sym, ap, ◌∙◌, arith, rules}
-use Rattle.change_record.specs.Tables.{Tables}
-use Rattle.change_record.specs.Machine.{meaning}
-use Rattle.plain_machine.specs.declared.answer.Answer.TheVariants.{Accepted}
-use Rattle.plain_machine.specs.declared.answer.Reply.TheVariants.{Requeued}
-use Rattle.plain_machine.specs.Step.{of_sizes}
-use Rattle.dispatch_core.specs.WellFormed.{at, WellFormed}
-use Rattle.dispatch_core.specs.Changes.{requeued_tables}
+use Rattle.dispatch_core.proofs.Words.{Tables, meaning, at, WellFormed, requeued_tables}
+use Rattle.plain.specs.declared.answer.Answer.TheVariants.{Accepted}
+use Rattle.plain.specs.declared.answer.Reply.TheVariants.{Requeued}
+use Rattle.plain.specs.Step.{of_sizes}
 use Rattle.dispatch_core.proofs.Queues.{flight_is}
 use Rattle.dispatch_core.proofs.Requeues.{requeue-well, requeue-meaning, requeue_does}
 use Rattle.dispatch_core.proofs.Recorded.{one_more}

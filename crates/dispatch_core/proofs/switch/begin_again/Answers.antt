@@ -1,7 +1,8 @@
 use Rattle.std.proofs.Common.{ap, ◌∙◌}
-use Rattle.soft_queue.specs.Turn.{numbers}
+use Rattle.plain.specs.Lists.{numbers}
 use Rattle.dispatch_core.proofs.Begun.{room_enough, room_left, room_thrice, trees_then_budgets}
-use Rattle.plain_machine.specs.Step.{with_first_budgets, with_first_times, for_each, of_sizes}
+use Rattle.plain.specs.Steps.Switch.{with_first_budgets, with_first_times, for_each}
+use Rattle.plain.specs.Step.{of_sizes}
 use Rattle.dispatch_core.proofs.switch.begin_again.Goals as goal
 
 pub returns-clause-made : goal.returns-clause-made

@@ -1,6 +1,6 @@
 use Rattle.std.proofs.Common.{◌≡◌, ℕ, cond, nat_lt, ap, ◌∙◌, subst, arith}
-use Rattle.change_record.specs.Machine.{Bfq, bfq_of}
-use Rattle.plain_machine.specs.Step.{of_sizes}
+use Rattle.dispatch_core.proofs.Words.{Bfq, bfq_of}
+use Rattle.plain.specs.Step.{of_sizes}
 use Rattle.dispatch_core.proofs.Begun.{budget_more, budgets_all, budgets_twice}
 use Rattle.dispatch_core.proofs.switch.begin_budgets.Goals as goal
 

@@ -1,7 +1,5 @@
 use Rattle.std.proofs.Common.{◌≡◌, ℕ, ◌<◌, Option, Some, is_some, unwrap_or, cond, sym, ap, ◌∙◌, rules}
-use Rattle.service_tree.specs.declared.member.Member.{Member}
-use Rattle.change_record.specs.Machine.{Bfq, bfq_of}
-use Rattle.change_record.specs.Rules.{put_member, member_in}
+use Rattle.dispatch_core.proofs.Words.{Member, Bfq, bfq_of, put_member, member_in}
 use Rattle.bfq_select.proofs.Bounds.{bounded_member}
 use Rattle.dispatch_core.proofs.Begun.{member_put}
 use Rattle.dispatch_core.proofs.switch.begin_entity.Goals as goal

@@ -1,8 +1,8 @@
 use Rattle.std.proofs.Common.{ℕ, Bool, ◌+◌, ◌-◌, refl, sym, ap, ◌∙◌, arith}
 use Rattle.std.specs.Prelude.{is_some}
-use Rattle.soft_queue.specs.Turn.{numbers}
-use Rattle.change_record.specs.Machine.{bfq_of}
-use Rattle.plain_machine.specs.Step.{with_first_times, for_each, of_sizes}
+use Rattle.dispatch_core.proofs.Words.{numbers, bfq_of}
+use Rattle.plain.specs.Steps.Switch.{with_first_times, for_each}
+use Rattle.plain.specs.Step.{of_sizes}
 use Rattle.dispatch_core.proofs.Begun.{numbers_more, numbers_none, count_more, count_none, trees_twice, grouped_same, room_at, room_within}
 use Rattle.dispatch_core.proofs.switch.begin_times.Goals as goal
 

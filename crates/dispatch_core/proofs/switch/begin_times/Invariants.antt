@@ -1,10 +1,10 @@
 use Rattle.std.proofs.Common.{◌≡◌, ◌+◌, ◌-◌, ◌≤◌, length}
 use Rattle.std.specs.Prelude.{count_by, is_some}
-use Rattle.change_record.specs.Machine.{bfq_of}
+use Rattle.dispatch_core.proofs.Words.{bfq_of, numbers}
 use Rattle.change_record.specs.Trail.{KeepsTrail}
 use Rattle.bfq_select.specs.Service.{IsSized, IsBounded}
-use Rattle.soft_queue.specs.Turn.{numbers}
-use Rattle.plain_machine.specs.Step.{with_first_times, for_each, of_sizes}
+use Rattle.plain.specs.Steps.Switch.{with_first_times, for_each}
+use Rattle.plain.specs.Step.{of_sizes}
 use Rattle.dispatch_core.proofs.switch.begin_times.Given as goal
 
 -- the entities that are left make of the tables what all make of the first ones

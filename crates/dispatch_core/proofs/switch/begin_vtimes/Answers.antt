@@ -1,7 +1,7 @@
 use Rattle.std.proofs.Common.{◌+◌, ◌-◌, sym, ap, ◌∙◌, arith}
-use Rattle.soft_queue.specs.Turn.{numbers}
-use Rattle.change_record.specs.Machine.{bfq_of}
-use Rattle.plain_machine.specs.Step.{with_first_vtime, for_each, of_sizes}
+use Rattle.dispatch_core.proofs.Words.{numbers, bfq_of}
+use Rattle.plain.specs.Steps.Switch.{with_first_vtime, for_each}
+use Rattle.plain.specs.Step.{of_sizes}
 use Rattle.dispatch_core.proofs.Begun.{numbers_more, numbers_none, trees_twice}
 use Rattle.dispatch_core.proofs.switch.begin_vtimes.Goals as goal
 

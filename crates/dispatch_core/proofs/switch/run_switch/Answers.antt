@@ -2,16 +2,14 @@ use Rattle.std.proofs.Common.{◌≡◌, ℕ, ◌+◌, ◌≤◌, List, true, fa
 use Rattle.std.specs.Prelude.{count_by}
 use Rattle.sector_core.specs.declared.config.Scheduler.{Scheduler}
 use Rattle.sector_core.specs.declared.config.Scheduler.TheVariants.{Bfq as BfqScheduler}
-use Rattle.soft_queue.specs.Turn.{numbers}
+use Rattle.dispatch_core.proofs.Words.{numbers, Tables, Bfq, bfq_of, meaning, WellFormed}
 use Rattle.change_record.specs.declared.change.Change.{Change}
-use Rattle.change_record.specs.Tables.{Tables}
 use Rattle.change_record.specs.Trail.{IsTrail}
-use Rattle.change_record.specs.Machine.{Bfq, bfq_of, meaning}
 use Rattle.bfq_select.specs.Service.{IsSized, IsBounded}
-use Rattle.plain_machine.specs.declared.answer.Answer.TheVariants.{Accepted}
-use Rattle.plain_machine.specs.declared.answer.Reply.TheVariants.{Done}
-use Rattle.plain_machine.specs.Step.{of_sizes, is_same, begun_again, switch}
-use Rattle.dispatch_core.specs.WellFormed.{WellFormed}
+use Rattle.plain.specs.declared.answer.Answer.TheVariants.{Accepted}
+use Rattle.plain.specs.declared.answer.Reply.TheVariants.{Done}
+use Rattle.plain.specs.Step.{of_sizes}
+use Rattle.plain.specs.Steps.Switch.{is_same, begun_again, switch}
 use Rattle.dispatch_core.specs.Counts.{switch_exchanges}
 use Rattle.dispatch_core.proofs.Decided.{Answers-err}
 use Rattle.dispatch_core.proofs.Recorded.{one_more}

@@ -1,6 +1,6 @@
 use Rattle.std.proofs.Common.{◌≡◌, ℕ, List, Option, Some, None, sym, ap, ◌∙◌, subst, arith}
 use Rattle.linked_rows.specs.declared.Ends.{Ends}
-use Rattle.group_tree.specs.Groups.{parent}
+use Rattle.plain.specs.Groups.{parent}
 use Rattle.group_tree.proofs.Kept.{first_is, first_small}
 use Rattle.group_tree.proofs.GroupTree.first_child.Goals as goal
 

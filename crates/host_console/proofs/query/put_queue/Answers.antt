@@ -1,5 +1,5 @@
 use Rattle.std.proofs.Common.{◌<◌, ◌++◌, length, sym, ap, ◌∙◌, append-nil, arith}
-use Rattle.plain_machine.specs.Keeper.{machine_of}
+use Rattle.plain.specs.Keeper.{machine_of}
 use Rattle.host_console.specs.Printed.{request_text}
 use Rattle.host_console.proofs.Queues.{begun, left-free, left-past, left-queued, one_more, told_free}
 use Rattle.host_console.proofs.query.put_queue.Goals as goal

@@ -1,5 +1,5 @@
 use Rattle.std.proofs.Common.{◌≡◌, ◌≤◌, ◌<◌, ◌^◌, ◌++◌, length}
-use Rattle.plain_machine.specs.Keeper.{machine_of}
+use Rattle.plain.specs.Keeper.{machine_of}
 use Rattle.host_console.specs.Printed.{queue_text}
 use Rattle.host_console.proofs.Queues.{left}
 use Rattle.host_console.proofs.query.put_queue.Given as goal

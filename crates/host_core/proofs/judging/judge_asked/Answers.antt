@@ -1,5 +1,5 @@
 use Rattle.std.proofs.Common.{sym, ap, ◌∙◌, subst}
-use Rattle.plain_machine.specs.Keeper.{replay}
+use Rattle.plain.specs.Headline.{replay}
 use Rattle.host_core.specs.Journal.{calls_of}
 use Rattle.host_core.specs.Takes.{TakeRule}
 use Rattle.host_core.specs.Judging.{JudgedBy, entered_at}

@@ -1,7 +1,7 @@
 use Rattle.std.proofs.Common.{[], ◌∷◌, ◌++◌, ap, ◌∙◌}
 use Rattle.host_calls.specs.declared.ring.RingReply.TheVariants.{Answer as Answered}
-use Rattle.plain_machine.specs.declared.answer.Answer.TheVariants.{Accepted}
-use Rattle.plain_machine.specs.declared.answer.Reply.TheVariants.{Taken}
+use Rattle.plain.specs.declared.answer.Answer.TheVariants.{Accepted}
+use Rattle.plain.specs.declared.answer.Reply.TheVariants.{Taken}
 use Rattle.host_core.specs.Seats.{collected}
 use Rattle.host_paths.proofs.Rounds.{asked, asked-told}
 use Rattle.host_paths.proofs.worker.work.Goals as goal

@@ -1,5 +1,5 @@
 use Rattle.std.proofs.Common.{ℕ, ◌+◌, ◌-◌, ◌<◌, ◌≤◌}
-use Rattle.overlay.specs.Runs.{IsStored}
+use Rattle.plain.specs.Runs.{IsStored}
 use Rattle.overlay.proofs.Overlay.count_from.Given as goal
 
 -- all before this one are stored

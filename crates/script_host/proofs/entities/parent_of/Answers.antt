@@ -1,6 +1,6 @@
 use Rattle.script_host.proofs.Told.{none_stands}
 use Rattle.script_host.proofs.entities.parent_of.Goals as goal
-use Rattle.change_record.specs.Machine.{Bfq}
+use Rattle.plain.specs.Machine.{Bfq}
 use Rattle.dispatch_core.specs.Running.{plain_of}
 
 pub returns-then-group-ge32 : goal.returns-then-group-ge32

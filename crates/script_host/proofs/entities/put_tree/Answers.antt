@@ -2,10 +2,10 @@ use Rattle.std.proofs.Common.{◌≡◌, ℕ, ◌+◌, List, [], ◌∷◌, ◌+
 use Rattle.std.specs.List.{flat_map}
 use Rattle.std.specs.Fmt.{decimal}
 use Rattle.sector_core.specs.declared.class.Class.TheVariants.{BestEffort}
-use Rattle.soft_queue.specs.Turn.{numbers}
-use Rattle.change_record.specs.Machine.{Plain}
+use Rattle.plain.specs.Lists.{numbers}
+use Rattle.plain.specs.Machine.{Plain}
 use Rattle.dispatch_core.specs.Running.{plain_of}
-use Rattle.change_record.specs.Rules.{vtime_of}
+use Rattle.plain.specs.Rules.{vtime_of}
 use Rattle.host_console.specs.Views.{parent_text, member_text, tree_look}
 use Rattle.script_host.proofs.Told.{on_ok, stands_of}
 use Rattle.script_host.proofs.entities.put_tree.Goals as goal

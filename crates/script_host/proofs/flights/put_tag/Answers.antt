@@ -1,6 +1,6 @@
 use Rattle.std.proofs.Common.{◌≡◌, ℕ, List, [], ◌∷◌, ◌++◌, None, Some, sym, ap, ◌∙◌, append_assoc, rules}
 use Rattle.std.specs.Fmt.{decimal}
-use Rattle.change_record.specs.Machine.{Plain}
+use Rattle.plain.specs.Machine.{Plain}
 use Rattle.dispatch_core.specs.Running.{plain_of}
 use Rattle.host_console.specs.Views.{owned_text, tag_text}
 use Rattle.script_host.proofs.Told.{on_ok}

@@ -1,6 +1,6 @@
 use Rattle.std.proofs.Common.{◌≡◌, ◌++◌, ◌-◌}
 use Rattle.std.specs.List.{flat_map}
-use Rattle.soft_queue.specs.Turn.{numbers}
+use Rattle.plain.specs.Lists.{numbers}
 use Rattle.dispatch_core.specs.Running.{plain_of}
 use Rattle.host_console.specs.Views.{tag_text}
 use Rattle.script_host.proofs.flights.put_tags.Given as goal

@@ -1,6 +1,6 @@
 use Rattle.std.proofs.Common.{◌≡◌, ℕ, List, [], ◌∷◌, ◌++◌, sym, ap, ◌∙◌, append_assoc, rules}
 use Rattle.dispatch_core.specs.Running.{plain_of}
-use Rattle.plain_machine.specs.Step.{seat_of}
+use Rattle.plain.specs.Steps.Finish.{seat_of}
 use Rattle.host_console.specs.Views.{owner_text, listed_text, owned_text}
 use Rattle.script_host.proofs.Told.{on_ok}
 use Rattle.script_host.proofs.requests.put_owned.Goals as goal

@@ -1,8 +1,8 @@
 use Rattle.std.proofs.Common.{◌≡◌, ℕ, Bool, true, false, ◌-◌, sym, ap, ◌∙◌, arith, rules}
 use Rattle.std.specs.List.{find}
-use Rattle.soft_queue.specs.Turn.{numbers}
+use Rattle.plain.specs.Lists.{numbers}
 use Rattle.soft_queue.proofs.Numbers.{find-numbers, find-numbers_here}
-use Rattle.plain_machine.specs.Step.{is_session}
+use Rattle.plain.specs.Sessions.{is_session}
 use Rattle.dispatch_core.specs.Running.{plain_of}
 use Rattle.script_host.proofs.requests.seat_of.Goals as goal
 use Rattle.script_host.proofs.requests.seat_of.Goals.{in-Some+else-entry-session, in_default}

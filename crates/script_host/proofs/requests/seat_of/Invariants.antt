@@ -1,7 +1,7 @@
 use Rattle.std.proofs.Common.{◌≡◌, ◌-◌}
 use Rattle.std.specs.List.{find}
-use Rattle.soft_queue.specs.Turn.{numbers}
-use Rattle.plain_machine.specs.Step.{is_session}
+use Rattle.plain.specs.Lists.{numbers}
+use Rattle.plain.specs.Sessions.{is_session}
 use Rattle.dispatch_core.specs.Running.{plain_of}
 use Rattle.script_host.proofs.requests.seat_of.Given as goal
 

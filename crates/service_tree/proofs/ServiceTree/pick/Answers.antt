@@ -1,6 +1,6 @@
 use Rattle.std.proofs.Common.{◌≡◌, sym, ◌∙◌, ap, subst, Option, ℕ, MatchOption, Some}
 use Rattle.service_tree.specs.Orders.{active_order}
-use Rattle.service_tree.specs.Members.{IsPicked, NoneEligible, Service, pick}
+use Rattle.plain.specs.Members.{IsPicked, NoneEligible, Service, pick}
 use Rattle.service_tree.proofs.Compared.{picked_law}
 use Rattle.service_tree.proofs.Answered.{picked_some, picked_nobody}
 use Rattle.service_tree.proofs.ServiceTree.pick.Goals as goal

@@ -1,8 +1,8 @@
 use Rattle.std.proofs.Common.{◌≡◌, Err, refl}
 use Rattle.sector_core.specs.declared.bio.BioResult.TheVariants.{Read}
 use Rattle.sector_core.specs.declared.bio.Op.TheVariants.{Fetch}
-use Rattle.plain_machine.specs.declared.answer.Answer.TheVariants.{Accepted}
-use Rattle.plain_machine.specs.declared.answer.Reply.TheVariants.{Completed}
+use Rattle.plain.specs.declared.answer.Answer.TheVariants.{Accepted}
+use Rattle.plain.specs.declared.answer.Reply.TheVariants.{Completed}
 use Rattle.host_calls.specs.declared.client.ClientCall.{ClientCall}
 use Rattle.host_calls.specs.declared.client.ClientCall.TheVariants.{Submit}
 use Rattle.host_calls.specs.declared.operator.OperatorCall.{OperatorCall}

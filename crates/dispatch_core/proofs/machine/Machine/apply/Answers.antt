@@ -1,13 +1,11 @@
 use Rattle.std.proofs.Common.{◌≡◌, ◌+◌, inr, List, [], ◌∷◌, ◌++◌, length, sym, ap, ◌∙◌, subst, refl, arith, rules}
 use Rattle.change_record.specs.declared.change.Change.{Change}
-use Rattle.change_record.specs.Tables.{Tables}
+use Rattle.dispatch_core.proofs.Words.{Tables, Plain, meaning, WellFormed}
 use Rattle.change_record.specs.Trail.{IsTrail}
-use Rattle.change_record.specs.Machine.{Plain, meaning}
-use Rattle.plain_machine.specs.Step.{of_sizes, step, MayGiveWay}
-use Rattle.plain_machine.specs.Whole.{AreWhole}
-use Rattle.plain_machine.specs.declared.answer.Answer.{Answer}
+use Rattle.plain.specs.Step.{of_sizes, step, MayGiveWay}
+use Rattle.plain_laws.specs.Whole.{AreWhole}
+use Rattle.plain.specs.declared.answer.Answer.{Answer}
 use Rattle.dispatch_core.specs.Relation.{Leaves}
-use Rattle.dispatch_core.specs.WellFormed.{WellFormed}
 use Rattle.dispatch_core.specs.Counts.{exchanges_of, rule_exchanges, IsCount}
 use Rattle.dispatch_core.specs.Running.{Running, IsFor, plain_of}
 use Rattle.dispatch_core.proofs.Laws.{WellFormed-later}

@@ -1,10 +1,8 @@
 use Rattle.std.proofs.Common.{◌≡◌, ap, ◌∙◌, sym, subst, arith}
-use Rattle.change_record.specs.Tables.{Loose, empty_tables}
-use Rattle.change_record.specs.Machine.{meaning}
-use Rattle.plain_machine.specs.Step.{of_sizes}
-use Rattle.plain_machine.specs.Whole.{AreWhole}
+use Rattle.dispatch_core.proofs.Words.{Loose, empty_tables, meaning, WellFormed}
+use Rattle.plain.specs.Step.{of_sizes}
+use Rattle.plain_laws.specs.Whole.{AreWhole}
 use Rattle.dispatch_core.specs.Running.{sizes_of}
-use Rattle.dispatch_core.specs.WellFormed.{WellFormed}
 use Rattle.dispatch_core.proofs.Opening.{opening_is, opening-well, for_limits}
 use Rattle.dispatch_core.proofs.Bounds.{opening-whole}
 use Rattle.dispatch_core.proofs.machine.Machine.new.Goals as goal

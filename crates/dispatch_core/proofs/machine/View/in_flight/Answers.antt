@@ -1,8 +1,6 @@
 use Rattle.std.proofs.Common.{◌≡◌, Some, ◌∙◌, ap, sym, subst, rules}
-use Rattle.request_pool.specs.declared.Request.{Request}
-use Rattle.plain_machine.specs.Step.{of_sizes}
-use Rattle.dispatch_core.specs.WellFormed.{at}
-use Rattle.dispatch_core.specs.Ranges.{HasFewSectors, first_start, total_count}
+use Rattle.dispatch_core.proofs.Words.{Request, at, HasFewSectors, first_start, total_count}
+use Rattle.plain.specs.Step.{of_sizes}
 use Rattle.dispatch_core.proofs.Sectors.{few_sectors_of}
 use Rattle.dispatch_core.proofs.Looks.{shown_flight}
 use Rattle.dispatch_core.proofs.machine.View.in_flight.Goals as goal

@@ -1,6 +1,6 @@
 use Rattle.std.proofs.Common.{length, ◌∙◌, ap}
 use Rattle.change_record.specs.Machine.{outbox_at}
-use Rattle.plain_machine.specs.Step.{of_sizes}
+use Rattle.plain.specs.Step.{of_sizes}
 use Rattle.dispatch_core.proofs.Looks.{length-outbox}
 use Rattle.dispatch_core.proofs.machine.View.outbox_len.Goals as goal
 

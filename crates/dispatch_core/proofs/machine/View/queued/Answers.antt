@@ -1,9 +1,7 @@
 use Rattle.std.proofs.Common.{◌≡◌, None, Some, ◌∙◌, ap, sym, rules}
 use Rattle.std.specs.Option.{option_and_then}
-use Rattle.change_record.specs.Machine.{whole_at}
-use Rattle.change_record.specs.Tables.{Tables}
-use Rattle.process_queue.specs.Queue.{nth_slot}
-use Rattle.plain_machine.specs.Step.{of_sizes}
+use Rattle.dispatch_core.proofs.Words.{whole_at, Tables, nth_slot}
+use Rattle.plain.specs.Step.{of_sizes}
 use Rattle.dispatch_core.proofs.Listing.{queued_at}
 use Rattle.dispatch_core.proofs.Places.{short_queue}
 use Rattle.dispatch_core.proofs.machine.View.queued.Goals as goal

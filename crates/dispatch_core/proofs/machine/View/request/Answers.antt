@@ -1,12 +1,7 @@
 use Rattle.std.proofs.Common.{◌≡◌, None, Some, ◌∙◌, ap, sym, subst, rules}
-use Rattle.change_record.specs.declared.change.Seat.{Seat}
-use Rattle.change_record.specs.Tables.{Tables}
-use Rattle.request_pool.specs.declared.Request.{Request}
-use Rattle.plain_machine.specs.Step.{of_sizes}
-use Rattle.plain_machine.specs.declared.view.RequestView.TheVariants.{Queued}
-use Rattle.process_queue.specs.Queue.{nth_slot}
-use Rattle.dispatch_core.specs.WellFormed.{at}
-use Rattle.dispatch_core.specs.Ranges.{HasFewSectors, first_start, total_count}
+use Rattle.dispatch_core.proofs.Words.{Seat, Tables, Request, nth_slot, at, HasFewSectors, first_start, total_count}
+use Rattle.plain.specs.Step.{of_sizes}
+use Rattle.plain.specs.declared.view.RequestView.TheVariants.{Queued}
 use Rattle.dispatch_core.proofs.Sectors.{few_sectors_of}
 use Rattle.dispatch_core.proofs.Places.{request_view-past, request_view-none, request_view-queued, short_queue}
 use Rattle.dispatch_core.proofs.QueueFacts.{some_of}

@@ -1,8 +1,8 @@
 use Rattle.std.proofs.Common.{true, ◌≡◌, nat_lt, [], ◌∷◌, ◌++◌, length, refl, sym, ap, ◌∙◌, arith}
-use Rattle.plain_machine.specs.declared.call.Call.TheVariants.{Hold}
-use Rattle.plain_machine.specs.declared.answer.Answer.TheVariants.{Accepted}
-use Rattle.plain_machine.specs.declared.answer.Reply.TheVariants.{Moved}
-use Rattle.plain_machine.specs.Keeper.{State}
+use Rattle.plain.specs.declared.call.Call.TheVariants.{Hold}
+use Rattle.plain.specs.declared.answer.Answer.TheVariants.{Accepted}
+use Rattle.plain.specs.declared.answer.Reply.TheVariants.{Moved}
+use Rattle.plain.specs.Keeper.{State}
 use Rattle.history.specs.Keeping.{state_of}
 use Rattle.history.proofs.Calls.{keeper-more, hold-done}
 use Rattle.history.proofs.keeper.Keeper.hold.Goals as goal

@@ -1,11 +1,12 @@
 use Rattle.std.proofs.Common.{true, false, ◌≡◌, ℕ, ◌+◌, ◌==◌, nat_lt, [], ◌∷◌, ◌++◌, length, sym, ap, ◌∙◌, refl, subst, arith, rules}
-use Rattle.plain_machine.specs.declared.call.Call.TheVariants.{Redo}
-use Rattle.plain_machine.specs.declared.answer.Answer.TheVariants.{Accepted, Refused}
-use Rattle.plain_machine.specs.declared.answer.Reply.TheVariants.{Moved}
-use Rattle.plain_machine.specs.declared.answer.Code.TheVariants.{OutOfMemory}
-use Rattle.plain_machine.specs.Keeper.{State, MayCall}
+use Rattle.plain.specs.declared.call.Call.TheVariants.{Redo}
+use Rattle.plain.specs.declared.answer.Answer.TheVariants.{Accepted, Refused}
+use Rattle.plain.specs.declared.answer.Reply.TheVariants.{Moved}
+use Rattle.plain.specs.declared.answer.Code.TheVariants.{OutOfMemory}
+use Rattle.plain.specs.Keeper.{State}
+use Rattle.plain.specs.Headline.{MayCall}
 use Rattle.history.specs.Keeping.{state_of}
-use Rattle.plain_machine.specs.Step.{of_sizes}
+use Rattle.plain.specs.Step.{of_sizes}
 use Rattle.history.proofs.Calls.{keeper-same, keeper-more, redo-done, redo-wants}
 use Rattle.history.proofs.keeper.Keeper.redo.Goals as goal
 

@@ -1,8 +1,8 @@
 use Rattle.std.proofs.Common.{true, false, ◌≡◌, nat_lt, [], ◌∷◌, ◌++◌, length, refl, sym, ap, ◌∙◌, arith}
-use Rattle.plain_machine.specs.declared.call.Call.TheVariants.{Release}
-use Rattle.plain_machine.specs.declared.answer.Answer.TheVariants.{Accepted}
-use Rattle.plain_machine.specs.declared.answer.Reply.TheVariants.{Done}
-use Rattle.plain_machine.specs.Keeper.{State}
+use Rattle.plain.specs.declared.call.Call.TheVariants.{Release}
+use Rattle.plain.specs.declared.answer.Answer.TheVariants.{Accepted}
+use Rattle.plain.specs.declared.answer.Reply.TheVariants.{Done}
+use Rattle.plain.specs.Keeper.{State}
 use Rattle.history.specs.Keeping.{state_of}
 use Rattle.history.proofs.Calls.{keeper-more, release-done}
 use Rattle.history.proofs.keeper.Keeper.release.Goals as goal

@@ -1,8 +1,8 @@
 use Rattle.std.proofs.Common.{◌≡◌, ℕ, ◌+◌, List, [], ◌∷◌, ◌++◌, take, sym, ap, ◌∙◌, subst}
 use Rattle.std.proofs.lemmas.List.{take_more, take_all}
-use Rattle.plain_machine.specs.Keeper.{MayRun}
-use Rattle.plain_machine.specs.declared.call.Call.{Call}
-use Rattle.plain_machine.specs.declared.answer.Answer.{Answer}
+use Rattle.plain.specs.Headline.{MayRun}
+use Rattle.plain.specs.declared.call.Call.{Call}
+use Rattle.plain.specs.declared.answer.Answer.{Answer}
 use Rattle.history.specs.Turns.{KeptRun}
 use Rattle.history.proofs.Runs.{run-more, kept-more}
 use Rattle.history.proofs.keeper.Keeper.run.Goals as goal

@@ -1,5 +1,5 @@
 use Rattle.std.proofs.Common.{take}
-use Rattle.plain_machine.specs.Keeper.{MayRun}
+use Rattle.plain.specs.Headline.{MayRun}
 use Rattle.history.specs.Turns.{KeptRun}
 use Rattle.history.proofs.keeper.Keeper.run.Given as goal
 

@@ -1,12 +1,12 @@
-use Rattle.std.proofs.Common.{true, ◌≡◌, ◌+◌, ◌≤◌, nat_lt, [], ◌∷◌, ◌++◌, length, take, sym, ap, ◌∙◌, subst, arith}
-use Rattle.plain_machine.specs.declared.call.Call.TheVariants.{Do}
-use Rattle.plain_machine.specs.declared.answer.Answer.TheVariants.{Accepted, Refused, NotYet}
-use Rattle.plain_machine.specs.Keeper.{State, MayCall}
+use Rattle.std.proofs.Common.{true, ◌≡◌, ◌+◌, ◌≤◌, nat_lt, [], ◌∷◌, ◌++◌, length, take, sym, ap, ◌∙◌, subst, arith, Option, IfSome, vec_len, vec_capacity}
+use Rattle.plain.specs.declared.call.Call.TheVariants.{Do}
+use Rattle.plain.specs.declared.answer.Answer.TheVariants.{Accepted, Refused, NotYet}
+use Rattle.plain.specs.Keeper.{State}
+use Rattle.plain.specs.Headline.{MayCall}
 use Rattle.history.specs.Keeping.{state_of}
 use Rattle.history.proofs.Calls.{keeper-same, keeper-more, may-refuse, may-wait, same-refused, same-notyet, adds-accepted, did-it, room-needed}
-use Rattle.std.proofs.Common.{Option, IfSome, vec_len, vec_capacity}
 use Rattle.std.proofs.lemmas.List.{length-append, length-take-le}
-use Rattle.plain_machine.specs.declared.call.Call.{Call}
+use Rattle.plain.specs.declared.call.Call.{Call}
 use Rattle.history.proofs.keeper.Keeper.take_step.Goals as goal
 
 pub invariant_of-self : goal.invariant_of-self

@@ -1,10 +1,10 @@
 use Rattle.std.proofs.Common.{true, false, ◌≡◌, ℕ, ◌-◌, ◌==◌, nat_lt, [], ◌∷◌, ◌++◌, length, sym, ap, ◌∙◌, arith, rules}
-use Rattle.plain_machine.specs.declared.call.Call.TheVariants.{Undo}
-use Rattle.plain_machine.specs.declared.answer.Answer.TheVariants.{Accepted}
-use Rattle.plain_machine.specs.declared.answer.Reply.TheVariants.{Moved}
-use Rattle.plain_machine.specs.Keeper.{State}
+use Rattle.plain.specs.declared.call.Call.TheVariants.{Undo}
+use Rattle.plain.specs.declared.answer.Answer.TheVariants.{Accepted}
+use Rattle.plain.specs.declared.answer.Reply.TheVariants.{Moved}
+use Rattle.plain.specs.Keeper.{State}
 use Rattle.history.specs.Keeping.{state_of}
-use Rattle.plain_machine.specs.Step.{of_sizes}
+use Rattle.plain.specs.Step.{of_sizes}
 use Rattle.history.proofs.Calls.{keeper-more, undo-done}
 use Rattle.history.proofs.keeper.Keeper.undo.Goals as goal
 

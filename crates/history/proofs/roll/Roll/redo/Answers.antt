@@ -1,5 +1,4 @@
-use Rattle.std.proofs.Common.{ℕ, suc, ◌+◌, ◌<◌, ◌%◌, ◌^◌, [], length, get_or, sym, ap, ◌∙◌, subst, arith}
-use Rattle.std.proofs.Common.{map}
+use Rattle.std.proofs.Common.{ℕ, suc, ◌+◌, ◌<◌, ◌%◌, ◌^◌, [], length, get_or, sym, ap, ◌∙◌, subst, arith, map}
 use Rattle.std.proofs.Math.Seq.{map-set_same}
 use Rattle.std.proofs.lemmas.List.{get_or-map}
 use Rattle.change_record.specs.Tape.{step_at}

@@ -1,14 +1,13 @@
-use Rattle.std.proofs.Common.{◌≡◌, ℕ, suc, ◌+◌, ◌-◌, ◌≤◌, List, [], ◌∷◌, ◌++◌, length, take, set, refl, sym, ap, ◌∙◌, subst, arith}
-use Rattle.plain_machine.specs.declared.answer.Answer.TheVariants.{Accepted, Refused, NotYet}
-use Rattle.plain_machine.specs.declared.answer.Code.TheVariants.{OutOfMemory}
-use Rattle.std.proofs.Common.{true, map, length-set}
+use Rattle.std.proofs.Common.{◌≡◌, ℕ, suc, ◌+◌, ◌-◌, ◌≤◌, List, [], ◌∷◌, ◌++◌, length, take, set, refl, sym, ap, ◌∙◌, subst, arith, true, map, length-set}
+use Rattle.plain.specs.declared.answer.Answer.TheVariants.{Accepted, Refused, NotYet}
+use Rattle.plain.specs.declared.answer.Code.TheVariants.{OutOfMemory}
 use Rattle.change_record.specs.declared.change.Change.{Change}
-use Rattle.change_record.specs.Machine.{Plain}
+use Rattle.plain.specs.Machine.{Plain}
 use Rattle.change_record.specs.Tape.{step_at}
-use Rattle.plain_machine.specs.declared.sizes.Sizes.{Sizes}
-use Rattle.plain_machine.specs.declared.call.Stamped.{Stamped}
+use Rattle.plain.specs.declared.sizes.Sizes.{Sizes}
+use Rattle.plain.specs.declared.call.Stamped.{Stamped}
 use Rattle.dispatch_core.specs.WellFormed.{IsSound}
-use Rattle.plain_machine.specs.Step.{of_sizes, step as plain_step}
+use Rattle.plain.specs.Step.{of_sizes, step as plain_step}
 use Rattle.std.specs.List.{take-map}
 use Rattle.std.proofs.lemmas.List.{map-append}
 use Rattle.dispatch_core.specs.Counts.{IsCount}

@@ -2,8 +2,8 @@ use Rattle.std.proofs.Common.{List, ℕ, inr, subst}
 use Rattle.std.specs.Prelude.{OnErr}
 use Rattle.std.proofs.lemmas.Result.{on_err_weaker}
 use Rattle.sector_core.specs.declared.bio.Outcome.{Outcome}
-use Rattle.plain_machine.specs.declared.step.Step.TheVariants as step
-use Rattle.plain_machine.specs.declared.call.Call.TheVariants as call
+use Rattle.plain.specs.declared.step.Step.TheVariants as step
+use Rattle.plain.specs.declared.call.Call.TheVariants as call
 use Rattle.host_console.specs.Printed.{AnswersOver}
 use Rattle.host_console.proofs.teller.Teller.finish.Goals as goal
 

@@ -2,7 +2,7 @@ use Rattle.std.proofs.Common.{ℕ, List, inr, sym, ◌∙◌, subst}
 use Rattle.std.specs.Prelude.{Option, None, Some, ◌≡◌}
 use Rattle.std.proofs.lemmas.Result.{on_ok_weaker, on_err_weaker}
 use Rattle.script_line.specs.declared.line.Line.{Line}
-use Rattle.plain_machine.specs.declared.call.Call.{Call}
+use Rattle.plain.specs.declared.call.Call.{Call}
 use Rattle.host_console.specs.Printed.{Desk, AnswersOver, Looks, Prints, asked}
 use Rattle.host_console.proofs.teller.Teller.run_line.Goals as goal
 

@@ -1,9 +1,9 @@
 use Rattle.std.proofs.Common.{List, ℕ, inr, subst, sym}
 use Rattle.std.proofs.lemmas.Result.{on_err_weaker}
 use Rattle.base_image.specs.Image.{Disk}
-use Rattle.plain_machine.specs.declared.call.Call.TheVariants as call
-use Rattle.plain_machine.specs.Keeper.{State, machine_of}
-use Rattle.plain_machine.specs.Device.{work_in_flight}
+use Rattle.plain.specs.declared.call.Call.TheVariants as call
+use Rattle.plain.specs.Keeper.{State, machine_of}
+use Rattle.plain.specs.Device.{work_in_flight}
 use Rattle.host_console.specs.Printed.{Answers, StepOfWork}
 use Rattle.host_console.proofs.teller.Teller.work.Goals as goal
 

@@ -1,7 +1,7 @@
 use Rattle.std.proofs.Common.{◌≤◌, ◌^◌, sym, subst}
-use Rattle.class_trees.specs.declared.Vtimes.{Vtimes}
-use Rattle.class_trees.specs.Classes.{time_of}
-use Rattle.class_trees.proofs.Times.{same_most}
+use Rattle.plain.specs.declared.member.Vtimes.{Vtimes}
+use Rattle.plain.specs.Classes.{time_of}
+use Rattle.class_laws.proofs.Times.{same_most}
 use Rattle.table_tests.proofs.Opening.{sized_timed, bounded_timed}
 use Rattle.table_tests.proofs.host.Host.set_vtime.Goals as goal
 

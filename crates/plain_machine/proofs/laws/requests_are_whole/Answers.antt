@@ -1,5 +1,0 @@
-use Rattle.plain_machine.proofs.Wholes.{requests-whole}
-use Rattle.plain_machine.proofs.laws.requests_are_whole.Goals as goal
-
-pub returns : goal.returns
-returns c = requests-whole
