@@ -19,8 +19,10 @@ VERSION := $(shell cat VERSION)
 PROGRAMS := bfqhost bfqctl
 BUILT := $(foreach name,$(PROGRAMS),crates/$(name)/out/$(name))
 # A tool has a name of its own where it is installed, as `step` and `export` are those of others.
-TOOLS := compare expect export futures iolog plot step why
+TOOLS := compare expect export futures iolog page plot step top why
 SHARED := $(wildcard tools/*.py)
+# The page that tools/page puts scripts into.
+WEB := web/bfqhost.html
 # bfqclient_build.py is read by pip alone.
 CLIENT := $(filter-out clients/bfqclient_build.py,$(wildcard clients/*.py))
 PAGES := $(wildcard man/*.[1-8])
@@ -52,10 +54,11 @@ quick:
 # First it asks for the programs, so that nothing is written if there are none.
 install:
 	@set -eu; for name in $(PROGRAMS); do program=$$($(WHICH) $$name); test -x "$$program"; done
-	$(INSTALL) -d "$(BIN)" "$(OWN)/tools" "$(OWN)/clients" "$(COMPLETION)"
+	$(INSTALL) -d "$(BIN)" "$(OWN)/tools" "$(OWN)/clients" "$(OWN)/web" "$(COMPLETION)"
 	set -eu; for name in $(PROGRAMS); do $(INSTALL) -m 755 "$$($(WHICH) $$name)" "$(OWN)/$$name"; done
 	$(INSTALL) -m 644 $(SHARED) "$(OWN)/tools"
 	$(INSTALL) -m 644 $(CLIENT) "$(OWN)/clients"
+	$(INSTALL) -m 644 $(WEB) "$(OWN)/web"
 	set -eu; for name in $(TOOLS); do $(INSTALL) -m 755 tools/$$name "$(OWN)/tools/bfq-$$name"; done
 	set -eu; put() { $(INSTALL) -m 755 /dev/null "$(BIN)/$$2"; sed "s/@NAME@/$$2/g" packaging/$$1 > "$(BIN)/$$2"; }; \
 	for name in $(PROGRAMS); do put program $$name; done; put client bfqclient; for name in $(TOOLS); do put tool bfq-$$name; done

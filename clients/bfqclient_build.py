@@ -1,8 +1,8 @@
 """Makes the wheel and the source archive of the client, for `pip install ./clients`. It needs Python alone.
 
 It has the two calls that pip asks of a build backend, `build_wheel` and `build_sdist` (PEP 517). The same sources give the same bytes:
-each file has the same time and mode, and a wheel is not compressed. In the wheel `bfqclient.py` becomes a package of one file, since type
-hints of a module that is no package are not found by those who install it (PEP 561).
+each file has the same time and mode, and a wheel is not compressed. In the wheel each module of the library becomes a package of one file,
+since type hints of a module that is no package are not found by those who install it (PEP 561).
 """
 
 import base64
@@ -17,8 +17,10 @@ from typing import Dict, Optional
 
 HERE = os.path.dirname(os.path.abspath(__file__))
 NAME, TAG = "bfqclient", "py3-none-any"
-# What the client is made of, and what builds it.
-SOURCES = ["bfqclient.py", "bfqclient_command.py", "bfqclient_build.py", "pyproject.toml"]
+# What the library is made of; its command; and what builds it.
+LIBRARY = [NAME, *(f"{NAME}_{part}" for part in ("base", "moments", "operator", "record", "serve", "session"))]
+COMMAND = f"{NAME}_command.py"
+SOURCES = [*(f"{module}.py" for module in LIBRARY), COMMAND, "bfqclient_build.py", "pyproject.toml"]
 # A zip archive has no time before this one: 1980-01-01, in seconds since 1970 and by its parts.
 SECONDS, PARTS = 315_532_800, (1980, 1, 1, 0, 0, 0)
 MODE = 0o644
@@ -60,8 +62,8 @@ def record(files: Dict[str, bytes], own: str) -> bytes:
 def build_wheel(wheel_directory: str, config_settings: Optional[Dict[str, object]] = None, metadata_directory: Optional[str] = None) -> str:
     """Writes the wheel into a folder, and gives its name."""
     info = f"{stem()}.dist-info"
-    texts = {f"{NAME}/__init__.py": source("bfqclient.py"), f"{NAME}/__main__.py": MAIN, f"{NAME}/py.typed": "",
-             "bfqclient_command.py": source("bfqclient_command.py"), f"{info}/METADATA": metadata(),
+    texts = {**{f"{module}/__init__.py": source(f"{module}.py") for module in LIBRARY}, **{f"{module}/py.typed": "" for module in LIBRARY},
+             f"{NAME}/__main__.py": MAIN, COMMAND: source(COMMAND), f"{info}/METADATA": metadata(),
              f"{info}/WHEEL": f"Wheel-Version: 1.0\nGenerator: {stem()}\nRoot-Is-Purelib: true\nTag: {TAG}\n",
              f"{info}/entry_points.txt": "[console_scripts]\nbfqclient = bfqclient_command:main\n"}
     files = {name: text.encode() for name, text in texts.items()}

@@ -429,7 +429,7 @@ GOOD_WORDS = [
     Case("help", ["--help"], has=[b"bfqhost sim [OPTION]", b"bfq or none (bfq)"]),
     Case("help names each option", ["--help"], has=[
         b"--scheduler", b"--nr-requests", b"--tags", b"--first-budget", b"--max-budget", b"--timeout", b"--history",
-        b"--first-vtime", b"--sectors", b"--image", b"--help", b"--version", b"the scheduler: bfq or none (bfq)",
+        b"--first-vtime", b"--sectors", b"--image", b"--no-inspect", b"--help", b"--version", b"the scheduler: bfq or none (bfq)",
     ]),
     Case("help names each step", ["--help"], has=[
         b"attach SEAT", b"read SEAT", b"write SEAT", b"reap SEAT", b"leave SEAT", b"dispatch", b"finish TAG", b"work TAG",

@@ -57,6 +57,8 @@ class Run:
     begins: bool = False
     # Standard output is /dev/full, so that each write fails.
     writes_to_full: bool = False
+    # The name of the server's socket, which stands in the folder of PATH.
+    at: str = "operator"
 
 
 def call(words, asked, answer=DID, text=b"done\n", status=DONE):
@@ -169,8 +171,32 @@ WORDS = [
     "group-drop 256", "group-drop 1 1", "group-drop 01", "drop 1", "set-weight 1", "set-weight 256 1", "set-weight 1 65536",
     "set-weight 1 1 1", "weight 1 100", "freeze 1", "freeze ", "Freeze", "thaw 0", "thaws", "switch", "switch kyber", "switch Bfq",
     "switch bfq none", "switch 1", "tick 1", "ticks", "hold 1", "hold ", "holds", "release 1", "stop 1", "stop ", "stops", "attach 0 0 4",
-    "read 0 1 0 1", "dispatch", "finish 0 1 stored", "queue 0", "line", "help", "leave",
-]]
+    "read 0 1 0 1", "dispatch", "finish 0 1 stored", "help", "leave", "leave 0", "work 0 3", "line 1", "Line", "line ", "queue", "queue 256",
+    "sector 05", "show", "show host 1", "show  host", "show seat", "vtime 0 bee", "# line",
+]] + [refused("a look in one word", "--socket", "PATH", "show flight"), refused("a look of two lines", "--socket", "PATH", "line\nline")]
+
+def look(words, answer, text, status=DONE, stderr=b"", **more):
+    """A look, which is a line of its own, and what the server at `inspect` answers."""
+    return Run(f"{words}: {answer}", ["--socket", "PATH", *words.split()], words.encode() + b"\n", answer, text, stderr, status, at="inspect", **more)
+
+
+LOOKS = [look(words, [f"{words} is told\n".encode()], f"{words} is told\n".encode()) for words in [
+    "sector 18446744073709551615", "queue 255", "vtime 0", "vtime 0 rt", "entity 3", "class 3", "line", "show seat 0", "show outbox 1",
+    "show queue 2", "show requeued", "show flight", "show service", "show tree 31", "show host", "show stored 0", "show step 4294967295",
+]] + [
+    look("line", [b"line ", b"1 2 3", b"\n"], b"line 1 2 3\n"),
+    look("line", [b"line 1 2 3\nline 4 5 6\n"], b"line 1 2 3\n"),
+    look("sector 5", [b"sector 5 overlay " + 1024 * b"0" + b"\n"], b"sector 5 overlay " + 1024 * b"0" + b"\n"),
+    look("show requeued", [b"requeued" + 10_000 * b" 0:store:5+1:2" + b"\n"], b"requeued" + 10_000 * b" 0:store:5+1:2" + b"\n"),
+    look("show flight", [b"bad line 1\n"], b"bad line 1\n", NOT_DONE),
+    look("line", [b"line 1 2"], b"", NO_ANSWER, FRAME, ends=True),
+    look("line", [], b"", NO_ANSWER, FRAME, ends=True),
+    look("show host", [b"host bfq\n"], b"", WRITE_FAULT, writes_to_full=True),
+    Run("a look at a server that hangs up", ["--socket", "PATH", "line"], b"", [], b"", SOCKET, NO_ANSWER, hangs_up=True, at="inspect"),
+    Run("a look where there is no inspect", ["--socket", "PATH", "line"], stderr=SOCKET, status=NO_ANSWER),
+    Run("a look at a path in no folder", ["--socket", "operator", "line"], stderr=SOCKET, status=NO_ANSWER),
+    Run("a look, by a path of another name", ["--socket=PATH-of-another", "line"], b"line\n", [b"line 0 0 0\n"], b"line 0 0 0\n", at="inspect"),
+]
 
 OTHERS = [
     Run("the path behind an equals sign", ["--socket=PATH", "undo", "2"], UNDO, [MOVED], b"moved 3 5\n"),
@@ -236,10 +262,10 @@ class Server(threading.Thread):
 
 def meet(program, run, folder, limit=resource.RLIM_INFINITY):
     """What the program writes to standard output and standard error, its status, and what the server read; within so much memory."""
-    path = os.path.join(folder, "operator")
+    path = os.path.join(folder, run.at)
     server = Server(path, run)
     server.start()
-    words = [word.replace("PATH", path) for word in run.words]
+    words = [word.replace("PATH", os.path.join(folder, "operator")) for word in run.words]
     stdout = open("/dev/full", "wb") if run.writes_to_full else subprocess.PIPE
     try:
         ended = subprocess.run([program, *words], stdin=subprocess.DEVNULL, stdout=stdout, stderr=subprocess.PIPE, timeout=SECONDS,
@@ -286,7 +312,7 @@ def with_little_memory(program, folder):
 def operator_runs(program):
     """The name of each run with what was wrong with it."""
     with tempfile.TemporaryDirectory() as folder:
-        runs = [(run.name, functools.partial(faults_of, program, run, folder)) for run in [*COMMANDS, *ANSWERS, *WORDS, *OTHERS]]
+        runs = [(run.name, functools.partial(faults_of, program, run, folder)) for run in [*COMMANDS, *ANSWERS, *WORDS, *LOOKS, *OTHERS]]
         for name, faults in [*runs, ("little memory", functools.partial(with_little_memory, program, folder))]:
             try:
                 yield f"bfqctl: {name}", faults()

@@ -27,7 +27,7 @@ import bfqclient_build  # noqa: E402
 
 SECONDS = 300
 # What others import: its types are those that it says.
-TYPED = [(CLIENTS, ["bfqclient.py", "bfqclient_command.py", "bfqclient_build.py"]), (TOOLS, ["host.py", "grammar.py"])]
+TYPED = [(CLIENTS, [*bfqclient_build.SOURCES[:-1]]), (TOOLS, ["host.py", "grammar.py"])]
 # A program that uses each call, with the types that it may count on.
 USER = '''import pathlib
 from typing import List, Optional
@@ -43,6 +43,12 @@ def copied(path: pathlib.Path, count: int) -> bytes:
             number: int = bio + io.start + io.count
             if data is not None:
                 found.append(data)
+        operator = bfqclient.Operator(path.parent, timeout=2)
+        moved: bfqclient.Moved = operator.hold()
+        text: str = operator.look("line") + str(moved.cursor)
+        with bfqclient.serve(path, program="bfqhost", options=[text]) as host:
+            step: bfqclient.Step = host.until("stored sector 5")
+            found += [state.over(b"") for state in host.states("stored") if state.step.serial < step.serial]
         try:
             return session.read(0, count, timeout=1) + b"".join(found)
         except bfqclient.Refused as refused:
@@ -51,7 +57,8 @@ def copied(path: pathlib.Path, count: int) -> bytes:
             return f"{code} {refused.name} {where}".encode()
 '''
 # Lines behind it that are wrong, each in its type.
-WRONG = ["bfqclient.Session(5)", "bfqclient.Io.read('0', 8)", "bfqclient.Session('x').read(0, 1) + ''", "bfqclient.Refused('x')"]
+WRONG = ["bfqclient.Session(5)", "bfqclient.Io.read('0', 8)", "bfqclient.Session('x').read(0, 1) + ''", "bfqclient.Refused('x')",
+         "bfqclient.Operator('x').undo('1')", "bfqclient.serve('x').until(5)"]
 
 
 def python_of_mypy():
@@ -71,7 +78,7 @@ def version_and_names(_):
     for name in bfqclient.__all__:
         value = getattr(bfqclient, name)
         same(f"whether {name} is told", isinstance(value, (int, dict)) or bool(value.__doc__), True)
-    for kind in (bfqclient.Session, bfqclient.Io):
+    for kind in (bfqclient.Session, bfqclient.Io, bfqclient.Operator, bfqclient.Served, bfqclient.State):
         for name, value in vars(kind).items():
             if callable(value) and not name.startswith("_"):
                 same(f"whether {name} is told", bool(value.__doc__), True)

@@ -33,6 +33,8 @@ VALUES = [
     (["bfqctl", "--socket", "=", "dir/operator", "re"], {"redo", "release"}),
     (["bfqctl", "--socket", "dir/operator", "switch", ""], {"none", "bfq"}),
     (["bfqctl", "--socket", "dir/operator", "undo", ""], set()),
+    (["bfqctl", "--socket", "dir/operator", "show", "f"], {"flight"}),
+    (["bfqctl", "--socket", "dir/operator", "sector", ""], set()),
     (["bfqctl", "--help", ""], set()),
     (["bfqclient", "d"], {"disk.img", "dir"}),
     (["bfqclient", "--group", "1", "d"], {"disk.img", "dir"}),
@@ -79,12 +81,13 @@ def differences(words, folder, wanted):
 def of_bfqhost(program, folder):
     """The subcommands, and the options of each."""
     text = help_of(program)
-    both, sim, serve = (options_in(part(text, head)) - ALONE
-                        for head in ("OPTIONS of sim and serve", "OPTION of sim", "OPTIONS of serve"))
+    both, sim, serve, replay = (options_in(part(text, head)) - ALONE
+                                for head in ("OPTIONS of sim and serve", "OPTION of sim", "OPTIONS of serve", "OPTIONS of replay"))
     named = {*re.findall(r"(?m)^    bfqhost ([a-z-]+)", part(text, "SYNOPSIS"))} | options_in(text)
-    yield from differences(["bfqhost", ""], folder, {it for it in named if it in {"sim", "serve"} | HELP | ALONE})
+    yield from differences(["bfqhost", ""], folder, {it for it in named if it in {"sim", "serve", "replay"} | HELP | ALONE})
     yield from differences(["bfqhost", "sim", ""], folder, both | sim)
     yield from differences(["bfqhost", "serve", ""], folder, both | serve)
+    yield from differences(["bfqhost", "replay", ""], folder, replay | HELP)
 
 
 def of_bfqctl(operator, folder):
@@ -92,7 +95,8 @@ def of_bfqctl(operator, folder):
     text = help_of(operator)
     yield from differences(["bfqctl", ""], folder, options_in(text))
     commands = {row.split()[0] for row in part(text, "COMMANDS").splitlines() if row.strip()}
-    yield from differences(["bfqctl", "--socket", "dir/operator", ""], folder, commands)
+    looks = {*re.findall("[a-z]+", part(text, "LOOKS.*?"))}
+    yield from differences(["bfqctl", "--socket", "dir/operator", ""], folder, commands | looks)
 
 
 def of_bfqclient(folder):

@@ -24,7 +24,7 @@ HEADLINE = ("MayCall", "MayRun", "replay")
 # Whose types the definitions may speak of.
 TYPES_OF = ("plain", "sector_core")
 ORIGINS = ("blk-mq", "bfq", "B-WF2Q+", "our profile")
-WITH_FIELDS = {"WholeRequest", "Flight", "Bfq", "Plain", "Limits", "State"}
+WITH_FIELDS = {"WholeRequest", "Flight", "Bfq", "Plain", "Limits", "State", "Service", "Classes"}
 # Fewer words than these are a name and no sentence.
 LEAST_WORDS = 3
 

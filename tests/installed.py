@@ -4,7 +4,6 @@ import contextlib
 import os
 import shutil
 import subprocess
-import sys
 import tempfile
 from pathlib import Path
 
@@ -18,15 +17,15 @@ VERSION = (TOP / "VERSION").read_text(encoding="ascii").strip()
 SECONDS = 60
 PREFIX = "usr"
 COMMANDS = ["bfqclient", "bfqctl", "bfqhost"]
-TOOLS = ["bfq-compare", "bfq-expect", "bfq-export", "bfq-futures", "bfq-iolog", "bfq-plot", "bfq-step", "bfq-why"]
+TOOLS = ["bfq-compare", "bfq-expect", "bfq-export", "bfq-futures", "bfq-iolog", "bfq-page", "bfq-plot", "bfq-step", "bfq-top", "bfq-why"]
 PAGES = ["man1/bfqctl.1", "man1/bfqhost.1", "man5/bfqhost-script.5", "man7/bfqhost-protocol.7", "man7/bfqhost-serve.7"]
+# What the tools share.
+MODULES = ("dials drawn driving future_checks future_clients future_contents future_observers future_search future_states grammar host image "
+           "live live_stepper logs measured narrow reasons recorded sentences shares shown stepper ways").split()
 # What must stand under PREFIX, but for the client's modules.
 FILES = {*(f"bin/{name}" for name in [*COMMANDS, *TOOLS]), "libexec/bfqhost/bfqhost", "libexec/bfqhost/bfqctl",
-         *(f"libexec/bfqhost/tools/{name}" for name in [*TOOLS, "drawn.py", "driving.py", "future_checks.py", "future_clients.py",
-                                                        "future_contents.py", "future_observers.py", "future_search.py", "future_states.py",
-                                                        "grammar.py", "host.py", "image.py", "measured.py", "narrow.py", "reasons.py",
-                                                        "sentences.py", "shares.py", "shown.py"]),
-         *(f"share/man/{page}" for page in PAGES), *(f"share/bash-completion/completions/{name}" for name in COMMANDS)}
+         *(f"libexec/bfqhost/tools/{name}" for name in [*TOOLS, *(f"{name}.py" for name in MODULES)]),
+         "libexec/bfqhost/web/bfqhost.html", *(f"share/man/{page}" for page in PAGES), *(f"share/bash-completion/completions/{name}" for name in COMMANDS)}
 CLIENT = "libexec/bfqhost/clients/"
 # A run of each tool, with the files that it finds, its words and input, and what it must print.
 IMAGE = 1024 * b"A"
@@ -37,6 +36,7 @@ RUNS = {
     "bfq-export": ({"image": IMAGE}, ["image", "out"], b"", b"out: 0 sectors stored over image, 0 of 0 steps stand\n"),
     "bfq-futures": ({"clients": b"seat 0\n"}, ["clients"], b"", b"states 1 edges 0 contents 1 steps 0: complete\n"),
     "bfq-iolog": ({"log": head(2).encode()}, ["log"], b"", totals(0, met=[no_request(1)]).encode()),
+    "bfq-page": ({"script": b"attach 0 0 4\n"}, ["script"], b"", b""),
     "bfq-plot": ({"script": b"attach 0 0 4\nread 0 1 0 1\ndispatch\n"}, ["script", "--csv", "csv"], b"", b""),
     "bfq-step": ({}, ["--", "--scheduler", "none"], b"line\n", b"line 0 0 0\n"),
     "bfq-why": ({"script": b"attach 0 0 4\n"}, ["script"], b"", b"0 choices, 0 otherwise than worked out\n"),

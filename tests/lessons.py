@@ -71,7 +71,7 @@ class Shell:
         # In the folder of this run a launcher has the name of its program, without what may stand behind a dot of how it was built.
         here = os.path.join(folder, "here")
         os.mkdir(here)
-        for linked in [*programs, *(os.path.join(TOP, name) for name in ("clients", "crates", "examples", "release", "tests"))]:
+        for linked in [*programs, *(os.path.join(TOP, name) for name in ("clients", "crates", "examples", "release", "tests", "web"))]:
             os.symlink(linked, os.path.join(here, os.path.basename(linked).partition(".")[0]))
         # A tool starts the program that stands beside its folder, wherever that really is.
         shutil.copytree(os.path.join(TOP, "tools"), os.path.join(here, "tools"), ignore=shutil.ignore_patterns("__pycache__"))

@@ -214,8 +214,8 @@ def of_serving(program):
     page = Page("bfqhost-serve.7")
     paths = {plain(path).replace(" and so on", "") for path, _ in table("| path | who is met there |", formats())}
     yield from differences("sockets", {*page.items("DESCRIPTION")}, paths)
-    own = {re.match("--[a-z]+", it)[0] for it in options_of(part(helped(program), "OPTIONS of serve"))}
-    yield from differences("own options", {*re.findall(r"--[a-z]+", plain(page.parts["OPTIONS"]))}, own)
+    own = {re.match("--[a-z-]+", it)[0] for it in options_of(part(helped(program), "OPTIONS of serve"))}
+    yield from differences("own options", {*re.findall(r"--[a-z-]+", plain(page.parts["OPTIONS"]))}, own)
     statuses = {row[0] for row in table("| status | meaning | standard error |", formats())}
     yield from (f"there is no status {it}" for it in page.items("EXIT STATUS") if it not in statuses)
 

@@ -9,10 +9,15 @@ call finds none, or there is none for the bytes that are read. Whatever the limi
   one to each;
 - the status is 0 with nothing on standard error, or 5 with `memory: none`.
 
+Between the limits at which there is no memory for the host and those at which it runs there may be a few, some 32 KiB in all, at which the
+system gives no page for the stack to grow, and ends the process by SIGSEGV. No program can answer that. It may come at one limit in a row,
+before anything is printed.
+
 The expected texts come from the rules of scripts, and not from the program's own output.
 """
 
 import resource
+import signal
 import subprocess
 from dataclasses import dataclass
 from typing import Callable
@@ -105,7 +110,7 @@ def no_memory(program, kind):
     lines = [text for line, _ in kind.calls() for text in (line, "line")]
     script = "".join(f"{line}\n" for line in lines).encode()
     answers = [answer for _, answer in kind.calls()]
-    begun, at_start, without = False, False, set()
+    begun, at_start, without, has_no_stack = False, False, set(), False
     for limit in range(STEP, MOST, STEP):
         try:
             stdout, stderr, status = limited(program, script, limit)
@@ -115,6 +120,9 @@ def no_memory(program, kind):
             continue
         begun = begun or status in (0, 5)
         if not begun:
+            continue
+        if not has_no_stack and (status, stdout, stderr) == (-signal.SIGSEGV, "", b""):
+            has_no_stack = True
             continue
         faults = faults_of_run(answers, stdout, stderr, status)
         if faults:

@@ -2,7 +2,7 @@
 """The programs of release/: that they are those of this checkout's sources, byte for byte as the gate has built them.
 
     tests/release.py             compares
-    tests/release.py --renew     takes over what `./test` has built last, and writes release/BUILT
+    tests/release.py --renew     takes over what `./test` has built last, and writes release/BUILT; and makes web/bfqhost.html anew
 
 release/BUILT has lines of a word and what it tells: `kit`, the toolchain by `rt version`; `crates`, those that the programs are made of;
 `sources`, a digest of crates.txt and of the .rt files of these crates; and for each program its SHA-256. The digest is the SHA-256 of the
@@ -19,6 +19,7 @@ from pathlib import Path
 
 from checkout import TOP, below, crate_lines
 from libraries import PROGRAMS, changed
+from page import take_over
 
 RELEASE = TOP / "release"
 # What the launcher needs of the system; a system may have neither python3 nor rt.
@@ -155,7 +156,7 @@ def renew():
         shutil.copyfile(by_gate(name), program(RELEASE, name))
         program(RELEASE, name).chmod(0o755)
     (RELEASE / "BUILT").write_text(text_of(RELEASE, kit(), crates, digest(TOP, crates)))
-    return None
+    return f"tests/release.py: {fault}" if (fault := take_over()) else None
 
 
 def main():

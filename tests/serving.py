@@ -31,7 +31,10 @@ WORDS = [
     ("no image", ["serve", "--dir", "DIR"], REFUSED),
     ("no folder", ["serve", "--image", "IMAGE"], REFUSED),
     ("sectors", [*GOOD, "--sectors", "10"], REFUSED),
-    ("another option", [*GOOD, "--record", "x"], REFUSED),
+    ("another option", [*GOOD, "--recorder", "x"], REFUSED),
+    ("a record with no name", [*GOOD, "--record"], REFUSED),
+    ("two records", [*GOOD, "--record", "x", "--record", "y"], REFUSED),
+    ("a record of sim", ["sim", "--record", "x"], REFUSED),
     ("an option twice", [*GOOD, "--dir", "DIR"], REFUSED),
     ("clients with a leading zero", [*GOOD, "--clients", "04"], REFUSED),
     ("clients with a sign", [*GOOD, "--clients", "+4"], REFUSED),
@@ -41,6 +44,11 @@ WORDS = [
     ("two dashes behind", [*GOOD, "--"], REFUSED),
     ("another scheduler", [*GOOD, "--scheduler", "kyber"], REFUSED),
     ("clients of sim", ["sim", "--clients", "4"], REFUSED),
+    ("no path for looks, of sim", ["sim", "--no-inspect"], REFUSED),
+    ("no path for looks, twice", [*GOOD, "--no-inspect", "--no-inspect"], REFUSED),
+    ("no path for looks, with a value", [*GOOD, "--no-inspect=1"], REFUSED),
+    ("a path for looks", [*GOOD, "--inspect"], REFUSED),
+    ("a client's option with no path for looks", [*GOOD, "--no-inspect", "--clients", "0"], b"config: clients\n"),
     ("no clients", [*GOOD, "--clients", "0"], b"config: clients\n"),
     ("17 clients", [*GOOD, "--clients", "17"], b"config: clients\n"),
     ("2^64 - 1 clients", [*GOOD, "--clients", str(2**64 - 1)], b"config: clients\n"),
@@ -313,10 +321,11 @@ def restarted(program, image, folder):
 
 def owner_alone(host):
     """Only the owner may use the sockets."""
-    for name in ("operator", "client0", "client1", "client2", "client3"):
+    names = ["client0", "client1", "client2", "client3", "inspect", "operator"]
+    for name in names:
         found = os.stat(host.path(name)).st_mode
         same(f"the mode of {name}", (stat.S_ISSOCK(found), stat.S_IMODE(found)), (True, 0o600))
-    same("the folder", sorted(os.listdir(host.folder)), ["client0", "client1", "client2", "client3", "operator"])
+    same("the folder", sorted(os.listdir(host.folder)), names)
     host.stop()
 
 
@@ -346,7 +355,7 @@ def sockets_left_behind(program, image, folder):
     with Served(program, image, folder) as first:
         first.process.send_signal(signal.SIGTERM)
         same("the status after SIGTERM", first.process.wait(SECONDS), -signal.SIGTERM)
-        same("the folder", sorted(os.listdir(folder)), ["client0", "client1", "client2", "client3", "operator"])
+        same("the folder", sorted(os.listdir(folder)), ["client0", "client1", "client2", "client3", "inspect", "operator"])
     with Served(program, image, folder) as host, host.talk(0) as client:
         client.asks((ATTACH, attached(1)))
         fails(program, image, folder)
@@ -363,7 +372,7 @@ def fails(program, image, folder, *words, status=SOCKET_FAULT, said=NO_SOCKET, l
 
 def paths_of_the_user(program, image, folder):
     """A file, a folder, a link or a FIFO at a path stays as it is, and all sockets of the run are removed."""
-    for name in ("operator", "client2"):
+    for name in ("operator", "client2", "inspect"):
         path = os.path.join(folder, name)
         with open(path, "w", encoding="ascii") as file:
             file.write("mine")
@@ -398,7 +407,7 @@ def clients_of_another(program, image, folder):
         host.lets_go(before)
         operator.asks((HOLD, moved(2, 2)), (undo(1), moved(1, 2)), (RELEASE, DONE))
         fails(program, image, folder, "--clients", "16")
-        same("the folder", sorted(os.listdir(folder)), ["client0", "operator"])
+        same("the folder", sorted(os.listdir(folder)), ["client0", "inspect", "operator"])
         with host.talk(0) as client:
             client.asks((ATTACH, TAKEN))
         operator.asks((STOP, CLOSED))

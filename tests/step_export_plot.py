@@ -262,6 +262,7 @@ PICTURE running, free; 1 of 3
 - cursor: 1 of 3 steps stand
 2 serial 2: write 0 1 5 1 65
 3 serial 3: dispatch
+warning: if this is accepted 2 undone steps are dropped, serials 2 to 3
 queued 4
 PICTURE running, free; 2 of 2
 1 serial 1: attach 0 0 4
@@ -481,7 +482,7 @@ def one_by_one(program, folder):
 
 
 @contextlib.contextmanager
-def terminal(program, folder):
+def terminal(program, folder, *words):
     """The stepper at a terminal of 80 columns: the run, the terminal's other end, and its own end."""
     with contextlib.ExitStack() as stack:
         try:
@@ -497,8 +498,9 @@ def terminal(program, folder):
             fcntl.ioctl(0, termios.TIOCSCTTY, 0)
             signal.signal(signal.SIGINT, signal.default_int_handler)
 
-        run = stack.enter_context(subprocess.Popen([os.path.join(TOOLS, "step"), "--program", program], cwd=folder, stdin=its, stdout=its,
-                                                   stderr=its, env={**os.environ, **QUIET}, start_new_session=True, preexec_fn=owned))
+        run = stack.enter_context(subprocess.Popen(
+            [os.path.join(TOOLS, "step"), "--program", program, *words], cwd=folder, stdin=its, stdout=its, stderr=its,
+            env={**os.environ, **QUIET}, start_new_session=True, preexec_fn=owned))
         stack.callback(run.kill)
         yield run, ours, its
 
@@ -721,7 +723,7 @@ def export_of_no_image(program, folder):
                           (["--at", "1"], "there must be OUT, or --each stored and --into DIR\n"),
                           (["out", "--into", "states"], "--each stored and --into DIR go together\n"),
                           (["out", "--each", "stored"], "--each stored and --into DIR go together\n"),
-                          (["--each=stored", "--into=states", "--at=1"], "--each and --at do not go together\n")]:
+                          (["--each=stored", "--into=states", "--at=1"], "--each, --at and --until do not go together\n")]:
         yield from exported(program, folder, "", words, "", {"out": None, "states": None}, stderr, BAD_INPUT)
     written(folder, "image", IMAGE)
     for words, why in [(["--at", "x"], "argument --at: SERIAL is no number: 'x'"),
@@ -1021,6 +1023,7 @@ def odd_answers(program, folder):
 def not_built(program, folder):
     """With no word of a program, and none built, each tool says so."""
     shutil.copytree(TOOLS, os.path.join(folder, "tools"))
+    os.symlink(os.path.join(os.path.dirname(TOOLS), "clients"), os.path.join(folder, "clients"))
     written(folder, "script", "line\n")
     written(folder, "image", IMAGE)
     for tool, asking in ASKING.items():

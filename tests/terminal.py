@@ -22,7 +22,7 @@ BAD_WORDS, NO_SOCKET, NOT_DONE, OPERATORS_BAD_WORDS, NO_ANSWER = 6, 7, 1, 2, 3
 # Words of bfqhost, the two lines and the status. IMAGE is a good image, DIR a good folder, and NONE a path at which nothing is.
 SERVE = "serve --image IMAGE --dir DIR"
 HOST = [
-    ("", REFUSED, f"neither sim nor serve is named{HELP}", BAD_WORDS),
+    ("", REFUSED, f"neither sim, serve nor replay is named{HELP}", BAD_WORDS),
     ("simulate", REFUSED, f"unexpected simulate{HELP}", BAD_WORDS),
     ("--version sim", REFUSED, f"unexpected --version{HELP}", BAD_WORDS),
     ("sim --client 4", REFUSED, f"unexpected --client{HELP}", BAD_WORDS),
@@ -51,6 +51,7 @@ HOST = [
     ("serve --image IMAGE --dir=", SOCKET, "--dir names no folder", NO_SOCKET),
     ("serve --image IMAGE --dir SERVED", SOCKET, "SERVED/operator: another host serves there", NO_SOCKET),
     ("serve --image IMAGE --dir TAKEN", SOCKET, "TAKEN/client1: a file that is no socket stands there", NO_SOCKET),
+    ("serve --image IMAGE --dir OTHERS", SOCKET, "OTHERS/inspect: a file that is no socket stands there", NO_SOCKET),
 ]
 # Words of bfqctl behind the option, what it prints, the lines of standard error, and the status. The host is a new one, frozen once.
 OPERATOR = [
@@ -63,13 +64,18 @@ OPERATOR = [
     ("thaw", "notyet 41", ["41 Held: the host is held; it takes no step, a completion neither, until it is released"], NOT_DONE),
     ("undo 2", "refused 31", ["31 NothingToUndo: fewer steps stand than are to be undone"], NOT_DONE),
     ("undo 1", "moved 0 1", [], 0),
+    ("line", "line 0 1 1", [], 0),
+    ("show flight now", "", [REFUSED, f"no command is spelled so: show flight now{OPERATORS_HELP}"], OPERATORS_BAD_WORDS),
 ]
+NO_INSPECT = "inspect: there is no inspect: no host serves there, or it is an older one or has --no-inspect"
 # And whole words of bfqctl.
 OPERATORS_WORDS = [
     ("", [REFUSED, f"it takes --socket PATH, and then a command{OPERATORS_HELP}"], OPERATORS_BAD_WORDS),
     ("--sockets NONE hold", [REFUSED, f"it takes --socket PATH, and then a command{OPERATORS_HELP}"], OPERATORS_BAD_WORDS),
     ("--socket NONE hold", [SOCKET, "NONE: No such file or directory (os error 2)"], NO_ANSWER),
     ("--socket LEFT hold", [SOCKET, "LEFT: Connection refused (os error 111)"], NO_ANSWER),
+    ("--socket DIR/operator show flight", [SOCKET, f"DIR/{NO_INSPECT}"], NO_ANSWER),
+    ("--socket LEFT/operator line", [SOCKET, "LEFT/inspect: Not a directory (os error 20)"], NO_ANSWER),
 ]
 
 
@@ -136,18 +142,19 @@ def left_socket(path):
 def terminal_runs(program, operator):
     """The name of each run, and what it did in another way than wanted."""
     with tempfile.TemporaryDirectory(prefix="bfq-") as folder:
-        paths = {"IMAGE": image_of(folder), **{name: os.path.join(folder, name.lower()) for name in ("NONE", "DIR", "SERVED", "TAKEN", "LEFT")}}
-        for name in ("DIR", "SERVED", "TAKEN"):
+        paths = {"IMAGE": image_of(folder), **{name: os.path.join(folder, name.lower()) for name in ("NONE", "DIR", "SERVED", "TAKEN", "OTHERS", "LEFT")}}
+        for name in ("DIR", "SERVED", "TAKEN", "OTHERS"):
             os.mkdir(paths[name])
-        with open(os.path.join(paths["TAKEN"], "client1"), "w", encoding="utf-8"):
-            pass
+        for name, file in (("TAKEN", "client1"), ("OTHERS", "inspect")):
+            with open(os.path.join(paths[name], file), "w", encoding="utf-8"):
+                pass
         left_socket(paths["LEFT"])
         try:
             with Served(program, paths["IMAGE"], paths["SERVED"]) as host:
                 host.operates((FREEZE, DONE))
                 for name, faults in [*host_runs(program, paths), *operator_runs(operator, paths)]:
                     yield f"terminal: {name}", faults
-                same("what is left beside a file in the way", os.listdir(paths["TAKEN"]), ["client1"])
+                same("what is left beside a file in the way", os.listdir(paths["TAKEN"]) + os.listdir(paths["OTHERS"]), ["client1", "inspect"])
                 same("what a refused host leaves", os.listdir(paths["DIR"]), [])
                 host.stop()
         except (OSError, Wrong, subprocess.SubprocessError) as fault:

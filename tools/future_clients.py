@@ -3,8 +3,8 @@
 import collections
 
 import grammar
-from driving import MOST_SECTORS
 from host import BadInput, BadLine, Ended, Host, bad_line, read_lines
+from logs import MOST_SECTORS
 from shown import SEATS
 
 FORMS = [form.split() for form in ["seat SEAT", "write START COUNT BYTE", "read START COUNT", "reap", "sync"]]

@@ -6,7 +6,7 @@ each issue that of the step that made it. What a read found is left out too, as 
 
 import itertools
 
-from driving import SEATS
+from logs import SEATS
 from shown import BEST_EFFORT, tree_of
 
 GROUPS = 32

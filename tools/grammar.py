@@ -33,6 +33,12 @@ FORMS = [form.split() for form in [
 # The first words of lines that are no steps. They take no serial.
 NO_STEPS = {"hold", "release", "undo", "redo", "sector", "queue", "vtime", "class", "entity", "line", "show"}
 
+# The first words of lines that ask and change nothing.
+QUERIES = {"sector", "queue", "vtime", "class", "entity", "line", "show"}
+# What names a moment of a line of steps; and what stands between a look and what it must answer, which names one too.
+MOMENTS = [form.split() for form in ["stored sector NUMBER", "issued seat SEAT", "serial SERIAL"]]
+EQUALS = " = "
+
 NAMES = {
     1: "BadSeat", 2: "SeatTaken", 3: "NoSession", 4: "StaleSession", 5: "NoGroup", 6: "RootGroup", 7: "BadWeight", 8: "BadPrio",
     9: "TooDeep", 10: "GroupsFull", 11: "GroupInUse", 12: "BadCount", 13: "BadLength", 14: "OutOfRange", 15: "TooManyBios",
@@ -76,6 +82,14 @@ def why_bad(line: str, forms: Sequence[Sequence[str]] = FORMS) -> Optional[str]:
     if is_silent(line):
         return None
     return why_not_joined(line) or why_other_words(line.split(" "), forms)
+
+
+def why_no_moment(text: str) -> Optional[str]:
+    """Why a text names no moment; None if it names one."""
+    look, equals, _ = text.partition(EQUALS)
+    if (why := why_not_joined(text)) or not equals:
+        return why or why_other_words(text.split(" "), MOMENTS)
+    return why_bad(look) if look.split(" ")[0] in QUERIES else f"no look stands before =: {look!r}"
 
 
 def why_not_joined(text: str) -> Optional[str]:

@@ -84,14 +84,16 @@ def program_of(given: Optional[str]) -> str:
 
 
 class Host:
-    """A run of `bfqhost sim`, which answers lines one at a time."""
+    """A run of `bfqhost sim`, which answers lines one at a time; or of `bfqhost replay`, behind what is recorded in a file."""
 
-    def __init__(self, given: Optional[str], options: Sequence[str]) -> None:
+    def __init__(self, given: Optional[str], options: Sequence[str], record: Optional[str] = None) -> None:
         self.program = program_of(given)
         # The last line that the program said on standard error.
         self.said = ""
+        self.record = record
+        words = ["sim"] if record is None else ["replay", os.path.abspath(record)]
         try:
-            self.process = subprocess.Popen([self.program, "sim", *options], stdin=subprocess.PIPE, stdout=subprocess.PIPE,
+            self.process = subprocess.Popen([self.program, *words, *options], stdin=subprocess.PIPE, stdout=subprocess.PIPE,
                                             stderr=subprocess.PIPE)
         except OSError as fault:
             raise Ended(f"{self.program} does not start: {fault.strerror}") from None
@@ -175,6 +177,9 @@ class Host:
             raise Ended(f"{self.program} gives an answer that bfqhost does not give: {fault}") from None
         if fault is None and status:
             raise self.ended()
+        if fault is None and self.record is not None and self.said:
+            # The last entry of the file was cut, and is left out.
+            tell(f"{self.record}: {self.said}")
 
 
 def read_lines(path: str, ends: bool = False) -> Iterator[Tuple[int, str]]:
@@ -274,8 +279,12 @@ def told_with(path: str) -> Iterator[None]:
         raise BadInput(f"{path}: {fault.strerror}") from None
 
 
+# What the tools say of a record.
+RECORD: Tuple[str, Dict[str, Any]] = ("--record", {"metavar": "FILE", "help": "goes on behind what bfqhost serve --record has written"})
+
+
 def words_of(description: Optional[str], usage: str, *places: Tuple[str, Dict[str, Any]]) -> Tuple[argparse.Namespace, List[str]]:
-    """The words of a tool: its own, with these places beside `--program`, and after `--` the options of sim."""
+    """The words of a tool: its own, with these places beside `--program`, and after `--` the options of sim, or of replay."""
     words = sys.argv[1:]
     own = os.path.basename(sys.argv[0])
     if own.startswith(INSTALLED):

@@ -420,6 +420,20 @@ def limits_of(options):
     return {name: int(given.get(name, default)) for name, default in DEFAULTS.items()}
 
 
+class Plain:
+    """A host of which nothing but answers is asked, so that any program will do that has these."""
+
+    # No choice is worked out.
+    others = 0
+
+    def __init__(self, host):
+        self.host = host
+
+    def ask(self, line):
+        """A line's answer, with no reason."""
+        return Asked(self.host.ask(line), None, [])
+
+
 class Reasons:
     """The reasons of a run's choices, each of which is compared with what the host does."""
 

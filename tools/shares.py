@@ -10,6 +10,7 @@ import grammar
 from host import answers_to
 from reasons import Looks, look
 from shown import OF_GROUPS, ROOT, classes_of, tree_of, vtimes_of
+from ways import while_held
 
 # A session at a seat.
 Client = collections.namedtuple("Client", "seat session")
@@ -45,6 +46,21 @@ class Run:
         for _ in answers_to(script, self):
             pass
 
+    def play_line(self):
+        """Goes along the line of a host that has gone some way, which is held meanwhile, from its start to where it stands."""
+        while_held(self.host, self.along)
+
+    def along(self, line):
+        """Each step that stands is redone, and what came of it is kept. At the end the host stands where it stood."""
+        last = line.cursor
+        line.go(0)
+        for step in line.steps(range(1, last + 1)):
+            before = look(self.host) if self.of_clients and step.line == "dispatch" else None
+            if before and len(self.standing()) == 1:
+                self.points[0] = self.point(BEFORE, 0)
+            line.go(step.place)
+            self.step(before, *answer_of(self.looks, step), step.serial)
+
     def lines(self):
         """The futures so far, each with the place from which on it is another than the one before. The last is the line as it is."""
         return [*self.futures, (self.begins, [point for point in self.points if point])]
@@ -66,8 +82,8 @@ class Run:
             self.step(before, word, rest)
         return answer
 
-    def step(self, before, word, rest):
-        """A step that was accepted."""
+    def step(self, before, word, rest, serial=None):
+        """A step that was accepted: the last one, or the one of this serial."""
         last = self.standing()[-1]
         if self.cursor < len(self.points) - 1:
             self.futures.append((self.begins, [point for point in self.points if point]))
@@ -75,7 +91,8 @@ class Run:
         point = None
         if word in ("issued", "finished"):
             count = int(rest[-1]) if word == "issued" else 0
-            point = self.point(last._replace(total=last.total + count), int(self.looks.ask("line").split(" ")[3]))
+            serial = int(self.looks.ask("line").split(" ")[3]) if serial is None else serial
+            point = self.point(last._replace(total=last.total + count), serial)
             if count and before:
                 point = self.with_service(point, before, rest[0], count)
             self.all.append(point)
@@ -104,6 +121,16 @@ class Run:
         due = {client: point.entitled.get(client, 0.0) + count * shares.get(at, 0.0) for at, client in clients.items()}
         entitled = {**point.entitled, **due}
         return point._replace(sent=sent, entitled=entitled, served=clients[seat])
+
+
+def answer_of(looks, step):
+    """The first word of the answer that a step had, and the others as far as they are known behind it: those of what it has sent."""
+    if step.line == "dispatch":
+        for item in looks.ask("show flight").split(" ")[1:]:
+            tag, issue, _, operation, sectors, _ = item.split(":")
+            if issue == str(step.serial):
+                return "issued", [tag, issue, operation, *sectors.split("+")]
+    return ("finished" if step.line.startswith("finish ") else ""), []
 
 
 def shares_of(machine):

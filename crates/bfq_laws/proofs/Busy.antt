@@ -24,7 +24,7 @@ use Rattle.plain.specs.Entities.{is_bfq, with_entity, without_entity}
 use Rattle.plain.specs.Steps.Attach.{attached}
 use Rattle.plain.specs.Steps.Submit.{new_bio, with_bio, change_first, queue_with, submitted, woken}
 use Rattle.plain.specs.Requests.{range_of, shape}
-use Rattle.plain.specs.Steps.Dispatch.{with_budget_in, with_slot, without_empty, sent_by_bfq}
+use Rattle.plain.specs.Steps.Dispatch.{with_budget_in, with_selected, without_empty, sent_by_bfq}
 use Rattle.plain.specs.Steps.Tick.{older}
 use Rattle.plain_laws.proofs.Puts.{put_here, put_other, some_is, map_is}
 use Rattle.plain_laws.proofs.Leads.{made}
@@ -242,8 +242,8 @@ pub no_slot : (o : Option InService) → is_none o ≡ true → o ≡ None
 no_slot None e = refl
 no_slot (Some slot) e = cc
 
-pub with_slot-busy : (seats : ℕ → Option Seat) (queue : ℕ → List WholeRequest) (b : Bfq) → Busy seats queue b → Busy seats queue (with_slot b)
-with_slot-busy seats queue b h = elim (is_none b.in_service) as (λ t. is_none b.in_service ≡ t → Busy seats queue (cond t (select b) b)) [
+pub with_selected-busy : (seats : ℕ → Option Seat) (queue : ℕ → List WholeRequest) (b : Bfq) → Busy seats queue b → Busy seats queue (with_selected b)
+with_selected-busy seats queue b h = elim (is_none b.in_service) as (λ t. is_none b.in_service ≡ t → Busy seats queue (cond t (select b) b)) [
   | true ↦ λ none.
       let choice : Choice seats (idle b) (select b) =
       select-choice seats (idle b) b (record { tree = h.tree; same = λ e lt. refl; chosen = λ slot at. let no : Some slot ≡ None = sym at ∙ no_slot b.in_service none in cc }) in
@@ -280,8 +280,8 @@ without_empty-busy l seats queue k rest b c its slot at h e =
 pub sent_by_bfq-tidy : (l : Limits) (m : Plain) (n tag : ℕ) (o : Plain × Reply) → sent_by_bfq l m n tag ≡ Some o → Tidy m → Tidy o.0
 sent_by_bfq-tidy l m n tag o e h =
     let s = sent-is l m n tag o e in
-    let b : Bfq = with_slot s.ready in
-    let ready : Busy m.seat m.queue b = with_slot-busy m.seat m.queue s.ready (with_budget_in-busy l m m.bfq.in_service s.ready s.readies h.busy) in
+    let b : Bfq = with_selected s.ready in
+    let ready : Busy m.seat m.queue b = with_selected-busy m.seat m.queue s.ready (with_budget_in-busy l m m.bfq.in_service s.ready s.readies h.busy) in
     let k : ℕ = s.slot.seat in
     let r : WholeRequest = s.request in
     let size : ℕ = (range_of r.bios).count in

@@ -9,7 +9,7 @@ use Rattle.plain.specs.Groups.{climb, path}
 use Rattle.plain.specs.declared.seat.InService.{InService}
 use Rattle.plain.specs.Machine.{Bfq, put}
 use Rattle.plain.specs.Rules.{group_of, is_idle, picked, jumped, in_service, on_pick, taken, class_in, chosen_in, on_class, select_from, select}
-use Rattle.plain.specs.Steps.Dispatch.{with_slot}
+use Rattle.plain.specs.Steps.Dispatch.{with_selected}
 use Rattle.plain_laws.proofs.Puts.{put_here, put_other, some_is}
 use Rattle.plain_laws.proofs.Placed.{placed}
 use Rattle.plain_laws.proofs.Rules.{jumped-keeps}
@@ -169,8 +169,8 @@ selects b h none =
     chooses h.above h.levels 5 0 0 h.st b refl h.levels.root (omega arith, λ ne. absurd (ne refl)) h.at h.up h.down (λ ne. absurd (ne refl)) none
     (λ x s. let on = h.serving x s in let bad : Some on.0 ≡ None = sym on.1 ∙ none in cc) (λ x i. absurd (climb-none h.above (Some 0) x i))
 
-pub with_slot-alive : (b : Bfq) → Alive b → (slot : InService) → (with_slot b).in_service ≡ Some slot → Alive (with_slot b)
-with_slot-alive b h slot = elim (is_none b.in_service) as (λ t. is_none b.in_service ≡ t → (cond t (select b) b).in_service ≡ Some slot → Alive (cond t (select b) b)) [
+pub with_selected-alive : (b : Bfq) → Alive b → (slot : InService) → (with_selected b).in_service ≡ Some slot → Alive (with_selected b)
+with_selected-alive b h slot = elim (is_none b.in_service) as (λ t. is_none b.in_service ≡ t → (cond t (select b) b).in_service ≡ Some slot → Alive (cond t (select b) b)) [
   | true ↦ λ none is.
       let d : Done h.above (select b) slot = (selects b h (no_slot b.in_service none)).done slot is in
       record {
@@ -198,7 +198,7 @@ some_slot None e = cc
 some_slot (Some slot) e = refl
 
 -- where an entity is not idle, a queue is in service then
-pub slot-found : (b : Bfq) → Alive b → (k : ℕ) → idle b k ≡ false → is_some (with_slot b).in_service ≡ true
+pub slot-found : (b : Bfq) → Alive b → (k : ℕ) → idle b k ≡ false → is_some (with_selected b).in_service ≡ true
 slot-found b h k awake = elim (is_none b.in_service) as (λ t. is_none b.in_service ≡ t → is_some (cond t (select b) b).in_service ≡ true) [
   | true ↦ λ is.
       let none : b.in_service ≡ None = no_slot b.in_service is in

@@ -8,7 +8,7 @@ use Rattle.plain.specs.Rules.{member_of, is_idle}
 use Rattle.plain.specs.declared.call.Call.{Call}
 use Rattle.plain.specs.Opening.{Limits}
 use Rattle.plain.specs.Entities.{is_bfq}
-use Rattle.plain.specs.Steps.Dispatch.{with_slot}
+use Rattle.plain.specs.Steps.Dispatch.{with_selected}
 use Rattle.plain.specs.Keeper.{machine_of}
 use Rattle.plain.specs.Headline.{replay}
 use Rattle.bfq_laws.specs.Found.{DispatchFindsARequest, EachDispatchFindsARequest}
@@ -16,7 +16,7 @@ use Rattle.bfq_laws.specs.Busy.{BusySessionsWaitOrAreServed}
 use Rattle.bfq_laws.specs.Members.{AreMembers, EntitiesAreMembers}
 use Rattle.bfq_laws.specs.Queues.{QueuesAreOfTheirSessions}
 use Rattle.bfq_laws.proofs.Tree.{idle}
-use Rattle.bfq_laws.proofs.Busy.{Busy, Tidy, with_budget_in-busy, with_slot-busy}
+use Rattle.bfq_laws.proofs.Busy.{Busy, Tidy, with_budget_in-busy, with_selected-busy}
 use Rattle.bfq_laws.proofs.Shape.{parent-at}
 use Rattle.bfq_laws.proofs.Calm.{Calm, calm-tidy}
 use Rattle.bfq_laws.proofs.Choosing.{slot-found}
@@ -40,8 +40,8 @@ finds l m h under some b e =
     ] refl in
     let busy : Busy m.seat m.queue b = with_budget_in-busy l m m.bfq.in_service b e tidy.busy in
     let awake : idle b k ≡ false = busy.rests k next.1 taken ∙ full in
-    let slot = some_slot (with_slot b).in_service (slot-found b (with_budget_in-alive l m m.bfq.in_service b e tidy h.alive) k awake) in
-    let ready : Busy m.seat m.queue (with_slot b) = with_slot-busy m.seat m.queue b busy in
+    let slot = some_slot (with_selected b).in_service (slot-found b (with_budget_in-alive l m m.bfq.in_service b e tidy h.alive) k awake) in
+    let ready : Busy m.seat m.queue (with_selected b) = with_selected-busy m.seat m.queue b busy in
     (slot.0, slot.1, next-some m slot.0.seat (ready.serves slot.0 slot.1).2)
 
 -- the laws

@@ -16,7 +16,7 @@ use Rattle.plain.specs.Machine.{Bfq, Plain}
 use Rattle.plain.specs.Rules.{absent, class_in, class_of, chosen_in, group_of, in_service, jumped, member_in, on_class, on_pick, picked, select, select_from, taken}
 use Rattle.plain.specs.declared.call.Call.{Call}
 use Rattle.plain.specs.Opening.{Limits}
-use Rattle.plain.specs.Steps.Dispatch.{with_slot}
+use Rattle.plain.specs.Steps.Dispatch.{with_selected}
 use Rattle.plain.specs.Keeper.{machine_of}
 use Rattle.plain.specs.Headline.{replay}
 use Rattle.bfq_laws.specs.Order.{GoesFirst, SelectsInOrder, DispatchesInOrder, ClassesAreInOrder}
@@ -166,7 +166,7 @@ all-in P (x ∷ xs) each = All-cons P x xs (each x (inl refl)) (all-in P xs (λ 
 
 select-ordered : (b : Bfq) → Alive b → SelectsInOrder b
 select-ordered b h none slot at =
-    let same : with_slot b ≡ select b = ap (λ (o : Option InService). cond (is_none o) (select b) b) none in
+    let same : with_selected b ≡ select b = ap (λ (o : Option InService). cond (is_none o) (select b) b) none in
     let made : (select b).in_service ≡ Some slot = ap (λ (c : Bfq). c.in_service) (sym same) ∙ at in
     all-in (GoesFirst b) (path b.parent slot.seat) (λ x i.
     elim (ordered h.above h.levels 5 0 0 b b slot x h.levels.root h.at.parents h.at.places.known none (λ j le. refl)

@@ -24,7 +24,7 @@ use Rattle.plain.specs.Steps.Switch.{begun_again}
 use Rattle.plain.specs.Requests.{is_gone, range_of}
 use Rattle.plain.specs.Steps.Attach.{prio_weight, attached}
 use Rattle.plain.specs.Steps.Submit.{submitted, woken}
-use Rattle.plain.specs.Steps.Dispatch.{with_budget_in, with_slot, without_empty, sent_by_bfq}
+use Rattle.plain.specs.Steps.Dispatch.{with_budget_in, with_selected, without_empty, sent_by_bfq}
 use Rattle.plain.specs.Keeper.{machine_of}
 use Rattle.plain.specs.Headline.{replay}
 use Rattle.plain_laws.proofs.Puts.{put_here, put_other, some_is, map_is}
@@ -36,14 +36,14 @@ use Rattle.bfq_laws.proofs.Quiet.{activate-quiet, charge-slot}
 use Rattle.bfq_laws.proofs.Walk.{Keeps, machine-keeps}
 use Rattle.bfq_laws.proofs.Tree.{Over-same, idle, idle-over, Tree, charge-over}
 use Rattle.bfq_laws.proofs.Overdue.{overdue}
-use Rattle.bfq_laws.proofs.Busy.{Busy, Tidy, attached-tidy, entered-tidy, away-from, gone-tidy, ticked-tidy, over-tidy, made-over, dropped-over, with_budget_in-busy, with_slot-busy, opening-tidy, opening-none}
+use Rattle.bfq_laws.proofs.Busy.{Busy, Tidy, attached-tidy, entered-tidy, away-from, gone-tidy, ticked-tidy, over-tidy, made-over, dropped-over, with_budget_in-busy, with_selected-busy, opening-tidy, opening-none}
 use Rattle.bfq_laws.proofs.Owned.{Owned, session-sits, gone-empty, keeps-owned}
 use Rattle.bfq_laws.proofs.Known.{Known}
 use Rattle.bfq_laws.proofs.Calm.{under, Calm, calm-tidy, empty-seen, woken-calm, turned-calm, sent-calm, switched-calm}
 use Rattle.bfq_laws.proofs.Shape.{In, Levels, Places, At, state, parent-at, own-at, vtime-at}
 use Rattle.bfq_laws.proofs.Alive.{Alive, activate-alive, charge-at}
 use Rattle.bfq_laws.proofs.Expiring.{expire-alive}
-use Rattle.bfq_laws.proofs.Choosing.{with_slot-alive}
+use Rattle.bfq_laws.proofs.Choosing.{with_selected-alive}
 use Rattle.bfq_laws.proofs.Standing.{session-alive, made-alive, dropped-alive, left-alive}
 use Rattle.plain.specs.Classes.{same_times}
 
@@ -134,10 +134,10 @@ sent_by_bfq-alive : (l : Limits) (m : Plain) (n tag : ℕ) (o : Plain × Reply) 
 sent_by_bfq-alive l m n tag o e tidy h =
     let s = sent-is l m n tag o e in
     let a : Bfq = s.ready in
-    let b : Bfq = with_slot a in
-    let ready : Busy m.seat m.queue b = with_slot-busy m.seat m.queue a (with_budget_in-busy l m m.bfq.in_service a s.readies tidy.busy) in
+    let b : Bfq = with_selected a in
+    let ready : Busy m.seat m.queue b = with_selected-busy m.seat m.queue a (with_budget_in-busy l m m.bfq.in_service a s.readies tidy.busy) in
     let k : ℕ = s.slot.seat in
-    let alive : Alive b = with_slot-alive a (with_budget_in-alive l m m.bfq.in_service a s.readies tidy h) s.slot s.serves in
+    let alive : Alive b = with_selected-alive a (with_budget_in-alive l m m.bfq.in_service a s.readies tidy h) s.slot s.serves in
     let r : WholeRequest = s.request in
     let size : ℕ = (range_of r.bios).count in
     let rest : List WholeRequest = rest_of m k r in

@@ -15,20 +15,20 @@ use Rattle.plain.specs.Machine.{Bfq, Plain}
 use Rattle.plain.specs.Rules.{absent, class_of, group_of, service_in, vtime_of, wsum, is_idle}
 use Rattle.plain.specs.declared.call.Call.{Call}
 use Rattle.plain.specs.Opening.{Limits}
-use Rattle.plain.specs.Steps.Dispatch.{with_slot}
+use Rattle.plain.specs.Steps.Dispatch.{with_selected}
 use Rattle.plain.specs.Keeper.{machine_of}
 use Rattle.plain.specs.Headline.{replay}
 use Rattle.bfq_laws.specs.Weights.{WeighEnough}
 use Rattle.bfq_laws.specs.Sums.{SumsArePositiveIn, SumsArePositive}
 use Rattle.plain_laws.proofs.Puts.{some_is}
 use Rattle.plain_laws.proofs.Placed.{places_of}
-use Rattle.plain_laws.proofs.Rules.{Changes, with_slot-keeps, with_budget_in-keeps}
+use Rattle.plain_laws.proofs.Rules.{Changes, with_selected-keeps, with_budget_in-keeps}
 use Rattle.bfq_laws.proofs.Walk.{machine-keeps}
 use Rattle.bfq_laws.proofs.Tree.{idle}
-use Rattle.bfq_laws.proofs.Busy.{Busy, Tidy, with_budget_in-busy, with_slot-busy}
+use Rattle.bfq_laws.proofs.Busy.{Busy, Tidy, with_budget_in-busy, with_selected-busy}
 use Rattle.bfq_laws.proofs.Shape.{In, member-at}
 use Rattle.bfq_laws.proofs.Alive.{Alive, not_idle}
-use Rattle.bfq_laws.proofs.Choosing.{with_slot-alive}
+use Rattle.bfq_laws.proofs.Choosing.{with_selected-alive}
 use Rattle.bfq_laws.proofs.Calm.{calm-tidy}
 use Rattle.bfq_laws.proofs.Sound.{awake-slot, with_budget_in-alive, opening-sound}
 use Rattle.bfq_laws.proofs.Weighing.{Weighs, keeps-weighs, opening-weighs, path-awake, InGroup, WeighAt, weigh_at-changes, weigh_at-alive}
@@ -94,12 +94,12 @@ sums-in l m h under =
     let alive : Alive m.bfq = h.1.alive in (
       λ slot is. sums-there m.bfq alive h.0 slot (awake-slot m.seat m.queue m.bfq tidy.busy slot is).1,
       λ b e slot is.
-          let ready : Busy m.seat m.queue (with_slot b) = with_slot-busy m.seat m.queue b (with_budget_in-busy l m m.bfq.in_service b e tidy.busy) in
-          let served : Alive (with_slot b) = with_slot-alive b (with_budget_in-alive l m m.bfq.in_service b e tidy alive) slot is in
+          let ready : Busy m.seat m.queue (with_selected b) = with_selected-busy m.seat m.queue b (with_budget_in-busy l m m.bfq.in_service b e tidy.busy) in
+          let served : Alive (with_selected b) = with_selected-alive b (with_budget_in-alive l m m.bfq.in_service b e tidy alive) slot is in
           let changes : Changes l.max_budget (InGroup alive.above) (WeighAt alive.above) = weigh_at-changes l.max_budget alive.above alive.levels in
-          let weigh : WeighAt alive.above (with_slot b) =
-          with_slot-keeps (WeighAt alive.above) changes.selects b (with_budget_in-keeps l (InGroup alive.above) (WeighAt alive.above) changes m m.bfq.in_service b e (weigh_at-alive m.bfq alive h.0)) in
-          sums-there (with_slot b) served weigh.weigh slot (awake-slot m.seat m.queue (with_slot b) ready slot is).1,
+          let weigh : WeighAt alive.above (with_selected b) =
+          with_selected-keeps (WeighAt alive.above) changes.selects b (with_budget_in-keeps l (InGroup alive.above) (WeighAt alive.above) changes m m.bfq.in_service b e (weigh_at-alive m.bfq alive h.0)) in
+          sums-there (with_selected b) served weigh.weigh slot (awake-slot m.seat m.queue (with_selected b) ready slot is).1,
     )
 
 -- the law

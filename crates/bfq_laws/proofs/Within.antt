@@ -22,7 +22,7 @@ use Rattle.plain.specs.Entities.{is_bfq, with_entity}
 use Rattle.plain.specs.Steps.Attach.{attached}
 use Rattle.plain.specs.Steps.Submit.{submitted, woken}
 use Rattle.plain.specs.Requests.{size_of, range_of, shape}
-use Rattle.plain.specs.Steps.Dispatch.{next_request, next_size, with_budget_in, with_slot, without_empty, sent_by_bfq}
+use Rattle.plain.specs.Steps.Dispatch.{next_request, next_size, with_budget_in, with_selected, without_empty, sent_by_bfq}
 use Rattle.plain.specs.Steps.Tick.{older}
 use Rattle.plain.specs.Steps.Switch.{switched}
 use Rattle.plain_laws.specs.Whole.{IsWhole, AreWhole}
@@ -165,8 +165,8 @@ no_slot : (o : Option InService) → is_none o ≡ true → o ≡ None
 no_slot None e = refl
 no_slot (Some slot) e = cc
 
-with_slot-room : (m : Plain) (b : Bfq) → AreWhole m → HasRoom m b → HasRoom m (with_slot b)
-with_slot-room m b whole h =
+with_selected-room : (m : Plain) (b : Bfq) → AreWhole m → HasRoom m b → HasRoom m (with_selected b)
+with_selected-room m b whole h =
     elim (is_none b.in_service) as (λ t. is_none b.in_service ≡ t → HasRoom m (cond t (select b) b)) [
       | true ↦ λ free.
           let begins : Begins m.seat (select b) =
@@ -200,8 +200,8 @@ without_empty-within l most seats queue b c e enough known served =
 sent_by_bfq-within : (l : Limits) → 256 ≤ l.max_budget → (m : Plain) (n tag : ℕ) (o : Plain × Reply) → AreWhole m → sent_by_bfq l m n tag ≡ Some o → Within m → Within o.0
 sent_by_bfq-within l most m n tag o whole e h =
     let s = sent-is l m n tag o e in
-    let b : Bfq = with_slot s.ready in
-    let has : HasRoom m b = with_slot-room m s.ready whole (with_budget_in-room l most m m.bfq.in_service s.ready refl s.readies h) in
+    let b : Bfq = with_selected s.ready in
+    let has : HasRoom m b = with_selected-room m s.ready whole (with_budget_in-room l most m m.bfq.in_service s.ready refl s.readies h) in
     let seat : ℕ = s.slot.seat in
     let r : WholeRequest = s.request in
     let size : ℕ = (range_of r.bios).count in

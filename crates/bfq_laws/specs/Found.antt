@@ -5,7 +5,7 @@ use Rattle.plain.specs.Machine.{Bfq, Plain}
 use Rattle.plain.specs.declared.call.Call.{Call}
 use Rattle.plain.specs.Opening.{Limits}
 use Rattle.plain.specs.Entities.{is_bfq}
-use Rattle.plain.specs.Steps.Dispatch.{next_queue, next_request, with_budget_in, with_slot}
+use Rattle.plain.specs.Steps.Dispatch.{next_queue, next_request, with_budget_in, with_selected}
 use Rattle.plain.specs.Keeper.{machine_of}
 use Rattle.plain.specs.Headline.{replay}
 
@@ -14,7 +14,7 @@ use Rattle.plain.specs.Headline.{replay}
 abbrev pub DispatchFindsARequest : Limits → Plain → Type 0
 DispatchFindsARequest l m =
     is_bfq m.scheduler ≡ true → is_some (next_queue m) ≡ true → (b : Bfq) → with_budget_in l m m.bfq.in_service ≡ Some b
-    → (slot : InService) × ((with_slot b).in_service ≡ Some slot) × (is_some (next_request m slot.seat) ≡ true)
+    → (slot : InService) × ((with_selected b).in_service ≡ Some slot) × (is_some (next_request m slot.seat) ≡ true)
 
 -- so it is on the machine of every keeper that a journal makes
 abbrev pub EachDispatchFindsARequest : Limits → ℕ → List Call → Type 0

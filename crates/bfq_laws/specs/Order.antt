@@ -10,7 +10,7 @@ use Rattle.plain.specs.Rules.{class_of, group_of}
 use Rattle.plain.specs.declared.call.Call.{Call}
 use Rattle.plain.specs.Opening.{Limits}
 use Rattle.plain.specs.Entities.{is_bfq}
-use Rattle.plain.specs.Steps.Dispatch.{with_budget_in, with_slot}
+use Rattle.plain.specs.Steps.Dispatch.{with_budget_in, with_selected}
 use Rattle.plain.specs.Keeper.{machine_of}
 use Rattle.plain.specs.Headline.{replay}
 
@@ -20,7 +20,7 @@ GoesFirst b entity = (n : ℕ) (m : Member) → IsActiveAt (b.service (group_of 
 
 -- if nobody is in service, whoever is selected goes first, as things stand before that: the session, and each group above it
 abbrev pub SelectsInOrder : Bfq → Type 0
-SelectsInOrder b = b.in_service ≡ None → (slot : InService) → (with_slot b).in_service ≡ Some slot → All (GoesFirst b) (path b.parent slot.seat)
+SelectsInOrder b = b.in_service ≡ None → (slot : InService) → (with_selected b).in_service ≡ Some slot → All (GoesFirst b) (path b.parent slot.seat)
 
 -- so it is if a dispatch selects
 abbrev pub DispatchesInOrder : Limits → Plain → Type 0

@@ -7,7 +7,7 @@ use Rattle.plain.specs.Machine.{Bfq, Plain}
 use Rattle.plain.specs.declared.call.Call.{Call}
 use Rattle.plain.specs.Opening.{Limits}
 use Rattle.plain.specs.Entities.{is_bfq}
-use Rattle.plain.specs.Steps.Dispatch.{with_budget_in, with_slot}
+use Rattle.plain.specs.Steps.Dispatch.{with_budget_in, with_selected}
 use Rattle.plain.specs.Keeper.{machine_of}
 use Rattle.plain.specs.Headline.{replay}
 
@@ -19,7 +19,7 @@ SumsAreThere b = (slot : InService) → b.in_service ≡ Some slot → All (λ e
 -- so it is under bfq, and where a dispatch has a queue in service, before it charges
 abbrev pub SumsArePositiveIn : Limits → Plain → Type 0
 SumsArePositiveIn l m =
-    is_bfq m.scheduler ≡ true → SumsAreThere m.bfq × ((b : Bfq) → with_budget_in l m m.bfq.in_service ≡ Some b → SumsAreThere (with_slot b))
+    is_bfq m.scheduler ≡ true → SumsAreThere m.bfq × ((b : Bfq) → with_budget_in l m m.bfq.in_service ≡ Some b → SumsAreThere (with_selected b))
 
 -- so it is on the machine of every keeper that a journal makes
 abbrev pub SumsArePositive : Limits → ℕ → List Call → Type 0

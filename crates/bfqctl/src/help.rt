@@ -16,6 +16,7 @@ NAME
 
 SYNOPSIS
     bfqctl --socket PATH COMMAND
+    bfqctl --socket PATH LOOK
     bfqctl --help | --version
 
 EXAMPLE
@@ -40,6 +41,9 @@ COMMANDS
     redo K                       the next K steps that were undone are redone
     stop                         the host ends
 
+LOOKS: lines of a script that change nothing, as `bfqhost --help` has them; they are asked at inspect in the folder of PATH
+    sector, queue, vtime, entity, class, line, show
+
 OPTIONS
     --socket PATH        the host's socket for its operator
     --help, -h           print this help
@@ -51,6 +55,7 @@ ANSWERS: one line
     done                 any other call was accepted
     refused N, notyet N  nothing has changed; `bfqhost --help` has the numbers, and at a terminal the sentence follows
     closed               the host has ended
+    a look's text        what a script prints for it; bad line 1 if the host does not know it
 
 EXIT STATUS
     0 accepted, or closed after stop    1 refused, not yet, or closed after another call

@@ -4,6 +4,7 @@ ghost use Rattle.bfqctl.specs.Status.{IsStatus};
 ghost use Rattle.operator_asking.specs.Ending.{status_of};
 
 use crate::help::{help_text, version_line};
+use crate::looking::ask_look;
 use crate::words::{Reason, Request, request_of};
 use host_calls::OperatorCall;
 use host_options::meaning_of;
@@ -27,6 +28,9 @@ pub fn start(rt: &(impl Env + Net + AllocGlobal + Print + Eprint), at_terminal: 
         Ok(Request::Help) => print(rt, help_text()),
         Ok(Request::Version) => print(rt, version_line()),
         Ok(Request::Call { socket, call }) => call_at(rt, socket.as_str(), call, at_terminal),
+        Ok(Request::Look { socket, line }) => {
+            look_at(rt, socket.as_str(), line.as_bytes(), at_terminal)
+        }
         Err(Reason::OutOfMemory) => tell(rt, CallEnd::OutOfMemory),
         Err(reason) => {
             let _ = rt.eprintln("words: refused");
@@ -67,6 +71,47 @@ fn print(rt: &impl Print, text: &str) -> u8
     } else {
         status(CallEnd::WriteFault)
     }
+}
+
+// Looks at the host whose socket for looks is at the path, prints what it tells, and gives the status.
+fn look_at(
+    rt: &(impl Net + AllocGlobal + Print + Eprint),
+    path: &str,
+    line: &[u8],
+    at_terminal: bool,
+) -> u8
+    ensures { IsStatus result }
+{
+    let stream = match UnixStream::connect(rt, path) {
+        Ok(stream) => stream,
+        Err(error) if error.kind() == ErrorKind::OutOfMemory => return tell(
+            rt,
+            CallEnd::OutOfMemory,
+        ),
+        Err(error) => {
+            let status = tell(rt, CallEnd::Socket);
+            if at_terminal {
+                say_no_inspect(rt, path, error);
+            }
+            return status;
+        }
+    };
+    let mut answer = Vec::new(rt.alloc());
+    let end = ask_look(&mut &stream, &mut &stream, line, &mut answer);
+    if !answer.is_empty() && !write_flushed(&mut io::writer(rt), answer.as_slice()) {
+        return tell(rt, CallEnd::WriteFault);
+    }
+    tell(rt, end)
+}
+
+// Tells a person why nobody can look there.
+fn say_no_inspect(rt: &impl Eprint, path: &str, error: io::Error) {
+    let _ = match error.kind() {
+        ErrorKind::NotFound => eprintln!(rt;
+            "{path}: there is no inspect: no host serves there, or it is an older one or has --no-inspect"
+        ),
+        _ => eprintln!(rt; "{path}: {error}"),
+    };
 }
 
 // Makes the call to the host whose socket is at the path, prints its answer, and gives the status.

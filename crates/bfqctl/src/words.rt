@@ -4,6 +4,7 @@ use clap::{Arg, ArgAction, Command, Error};
 use host_calls::OperatorCall;
 use host_options::grammar_text;
 use operator_words::{WordFault, words_to_call};
+use script_line::{is_query, line_of};
 use std::alloc::{AllocError, Global};
 
 /// What the words ask for.
@@ -19,6 +20,13 @@ pub enum Request {
         socket: String,
         /// The call.
         call: OperatorCall,
+    },
+    /// Look.
+    Look {
+        /// The path of the host's socket for looks.
+        socket: String,
+        /// The line, with its end.
+        line: String,
     },
 }
 
@@ -90,12 +98,39 @@ pub fn request_of(alloc: Global, words: &[String]) -> Result<Request, Reason> {
     };
     let call = match words_to_call(call) {
         Ok(call) => call,
-        Err(WordFault::Usage) => return Err(no_call(alloc, call)),
+        Err(WordFault::Usage) => return look_of(alloc, socket, call),
         Err(WordFault::OutOfMemory) => return Err(Reason::OutOfMemory),
     };
     match String::from_str(alloc, socket) {
         Ok(socket) => Ok(Request::Call { socket, call }),
         Err(_) => Err(Reason::OutOfMemory),
+    }
+}
+
+// The look that the words spell, as a script does, at the socket beside the operator's.
+fn look_of(alloc: Global, socket: &str, words: &[&str]) -> Result<Request, Reason> {
+    // The words are joined by one space, so none has one.
+    if words.iter().any(|word| word.contains(' ')) {
+        return Err(no_call(alloc, words));
+    }
+    let Ok(mut text) = joined(alloc, words) else {
+        return Err(Reason::OutOfMemory);
+    };
+    match line_of(text.as_bytes()) {
+        Some(line) if is_query(&line) => {}
+        _ => return Err(no_call(alloc, words)),
+    }
+    let (Ok(()), Ok(socket)) = (text.push('\n'), beside(alloc, socket)) else {
+        return Err(Reason::OutOfMemory);
+    };
+    Ok(Request::Look { socket, line: text })
+}
+
+// The socket for looks in the folder of the operator's.
+fn beside(alloc: Global, socket: &str) -> Result<String, AllocError> {
+    match socket.rsplit_once('/') {
+        Some((dir, _)) => format!(in alloc; "{dir}/inspect"),
+        None => String::from_str(alloc, "inspect"),
     }
 }
 

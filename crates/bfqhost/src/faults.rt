@@ -1,7 +1,7 @@
 // The statuses, and what is said on standard error: of each fault one line for a program, and at a terminal a second one for a person.
 ghost use Rattle.std.specs.Prelude.{◌≡◌};
 
-use host_rings::DoorFault;
+use host_rings::{Door, DoorFault};
 use sector_core::ConfigFault;
 use std::fmt;
 use std::io::{self, ErrorKind};
@@ -21,10 +21,10 @@ pub const WRITE_FAULT: u8 = 4;
 /// No memory.
 pub const NO_MEMORY: u8 = 5;
 
-/// Bad words, configuration or image.
+/// Bad words, configuration, image, or record that is to be replayed.
 pub const REFUSED: u8 = 6;
 
-/// A socket or a thread cannot be had.
+/// A socket, a thread or the file of a record cannot be had.
 pub const NO_SOCKET: u8 = 7;
 
 /// A field that is out of its limits.
@@ -111,6 +111,56 @@ pub fn no_image(rt: &impl Eprint, path: &str, error: io::Error, at_terminal: boo
     REFUSED
 }
 
+/// Says that the image is not that of a record, and to a person how many sectors that has.
+pub fn other_image(rt: &impl Eprint, path: &str, sectors: u64, at_terminal: bool) -> u8
+    ensures { result ≡ REFUSED }
+{
+    let _ = rt.eprintln("image: cannot be read");
+    if at_terminal {
+        let _ = eprintln!(rt; "{path}: not of {sectors} sectors, as the record has it");
+    }
+    REFUSED
+}
+
+/// Says that the file of a record cannot be made, and to a person why.
+pub fn no_record(rt: &impl Eprint, path: &str, error: io::Error, at_terminal: bool) -> u8
+    ensures { result ≡ NO_SOCKET }
+{
+    let _ = match error.kind() {
+        ErrorKind::AlreadyExists => rt.eprintln("record: exists"),
+        _ => rt.eprintln("record: failed"),
+    };
+    if at_terminal {
+        let _ = eprintln!(rt; "{path}: {error}");
+    }
+    NO_SOCKET
+}
+
+/// Says that a record cannot be read, and to a person which.
+pub fn unread_record(rt: &impl Eprint, path: &str, at_terminal: bool) -> u8
+    ensures { result ≡ REFUSED }
+{
+    let _ = rt.eprintln("record: cannot be read");
+    if at_terminal {
+        let _ = eprintln!(rt; "{path}: no file that can be read");
+    }
+    REFUSED
+}
+
+/// Says which entry of a record is none, or has a call that is not accepted; and to a person what that means.
+pub fn bad_entry(rt: &impl Eprint, number: u64, at_terminal: bool) -> u8
+    ensures { result ≡ REFUSED }
+{
+    let _ = eprintln!(rt; "record: bad entry {number}");
+    if at_terminal {
+        let _ = match number {
+            0 => rt.eprintln("the first line is none of a record"),
+            _ => rt.eprintln("it is no entry, or its call is not accepted there"),
+        };
+    }
+    REFUSED
+}
+
 /// Says that there is no memory.
 pub fn no_memory(rt: &impl Eprint) -> u8
     ensures { result ≡ NO_MEMORY }
@@ -132,7 +182,7 @@ pub fn no_socket(rt: &impl Eprint, dir: &str, fault: Option<DoorFault>, at_termi
 
 // Why a socket or a thread cannot be had.
 fn say_why(rt: &impl Eprint, dir: &str, fault: Option<DoorFault>) {
-    let Some(DoorFault { client, error }) = fault else {
+    let Some(DoorFault { door, error }) = fault else {
         let _ = rt.eprintln("the system gives no further thread");
         return;
     };
@@ -140,9 +190,10 @@ fn say_why(rt: &impl Eprint, dir: &str, fault: Option<DoorFault>) {
         let _ = rt.eprintln("--dir names no folder");
         return;
     }
-    let _ = match client {
-        None => eprint!(rt; "{dir}/operator: "),
-        Some(number) => eprint!(rt; "{dir}/client{number}: "),
+    let _ = match door {
+        Door::Operator => eprint!(rt; "{dir}/operator: "),
+        Door::Client(number) => eprint!(rt; "{dir}/client{number}: "),
+        Door::Inspect => eprint!(rt; "{dir}/inspect: "),
     };
     let _ = match (error.kind(), error.raw_os_error()) {
         (ErrorKind::AddrInUse, None) => rt.eprintln("another host serves there"),

@@ -1,11 +1,12 @@
 #![tactic(auto)]
-//! `bfqhost`: a block I/O host whose every step can be undone, run from a script (`script_host`), or served over sockets
-//! (`host_rings`).
+//! `bfqhost`: a block I/O host whose every step can be undone, run from a script (`script_host`), served over sockets
+//! (`host_rings`), or replayed from a record (`run_replay`).
 //!
 //! ```text
 //! bfqhost sim < SCRIPT
 //! bfqhost sim --image FILE < SCRIPT
 //! bfqhost serve --image FILE --dir DIR
+//! bfqhost replay RECORD < SCRIPT
 //! ```
 //!
 //! | status | |
@@ -15,12 +16,13 @@
 //! | 3 | a read of standard input failed |
 //! | 4 | a write to standard output failed |
 //! | 5 | no memory |
-//! | 6 | bad words, configuration or image; standard output is empty |
-//! | 7 | a socket or a thread cannot be had |
+//! | 6 | bad words, configuration, image, or record that is to be replayed; standard output is empty |
+//! | 7 | a socket, a thread or the file of a record cannot be had |
 //!
 //! Of each fault one line is told. If standard error is a terminal a second line says more of it.
 
 mod faults;
+mod replaying;
 mod serving;
 mod start;
 

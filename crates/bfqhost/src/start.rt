@@ -8,9 +8,11 @@ use crate::faults::{
     BAD_LINE, DONE, Field, NO_MEMORY, READ_FAULT, WRITE_FAULT, bad_field, bad_words, no_image,
     no_memory,
 };
-use crate::serving::serve;
+use crate::replaying::{Replaying, replay};
+use crate::serving::{Serving, serve};
 use base_image::{Image, ZeroImage, file_image};
 use host_options::{Request, WordFault, help_text, reason_of, request_of, version_line};
+use run_replay::Asked;
 use script_host::run_script;
 use script_line::ScriptEnd;
 use sector_core::{Config, ConfigDraft};
@@ -26,8 +28,8 @@ use std::time::Clock;
 // The most sectors of a device of zeros.
 const MOST_SECTORS: u64 = 65_536;
 
-// Standard output is written in pieces of this size.
-const OUTPUT_BYTES: usize = 65_536;
+/// Standard output is written in pieces of this size.
+pub const OUTPUT_BYTES: usize = 65_536;
 
 /// Does what the words ask for, and gives the status. At a terminal a fault is told to a person, too.
 pub fn start<R>(rt: &R, at_terminal: bool) -> u8
@@ -57,22 +59,51 @@ where
                 dir,
                 clients,
                 workers,
+                inspect,
+                record,
             },
-        ) => serve(
-            rt,
-            draft,
-            image.as_str(),
-            dir.as_str(),
-            clients,
-            workers,
-            at_terminal,
-        ),
+        ) => {
+            let serving = Serving {
+                image: image.as_str(),
+                dir: dir.as_str(),
+                clients,
+                workers,
+                inspect,
+                record: text_in(&record),
+            };
+            serve(rt, draft, serving, at_terminal)
+        }
+        Ok(
+            Request::Replay {
+                file,
+                image,
+                history,
+                to,
+                list,
+            },
+        ) => {
+            let replaying = Replaying {
+                file: file.as_str(),
+                image: text_in(&image),
+                asked: Asked { history, to },
+                list,
+            };
+            replay(rt, replaying, at_terminal)
+        }
         Err(WordFault::Usage) if at_terminal => match reason_of(rt.alloc(), words.as_slice()) {
             Ok(why) => bad_words(rt, Some(why.as_str())),
             Err(_) => bad_words(rt, None),
         },
         Err(WordFault::Usage) => bad_words(rt, None),
         Err(WordFault::OutOfMemory) => no_memory(rt),
+    }
+}
+
+// The text of an option that may not be given.
+fn text_in(option: &Option<String>) -> Option<&str> {
+    match option {
+        Some(text) => Some(text.as_str()),
+        None => None,
     }
 }
 
@@ -158,7 +189,8 @@ fn simulate<I: Image + Drop>(
     status(rt, end)
 }
 
-fn status(rt: &impl Eprint, end: ScriptEnd) -> u8
+/// The status of the end of a script.
+pub fn status(rt: &impl Eprint, end: ScriptEnd) -> u8
     ensures { result ≡ status_of end }
 {
     match end {

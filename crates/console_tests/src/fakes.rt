@@ -17,6 +17,10 @@ pub struct Counter {
 impl Console for Counter {
     ghost prints = { λ before line text after. text ≡ codes "call " ++ (decimal after.calls ++ 10 ∷ []) };
 
+    fn runs(_line: &Line) -> bool {
+        true
+    }
+
     fn run(&mut self, alloc: Global, _line: Line, out: &mut Vec<u8>) -> Result<(), OutOfMemory> {
         if self.calls.wrapping_add(1) == self.refused {
             return Err(OutOfMemory);

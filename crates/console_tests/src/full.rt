@@ -3,7 +3,7 @@ ghost use Rattle.std.specs.Prelude.{true};
 ghost use Rattle.sector_core.specs.declared.config.Scheduler.TheVariants.{Plain};
 ghost use Rattle.plain.specs.Keeper.{opened};
 
-use host_console::Keeps;
+use host_console::{Keeps, Shows};
 use plain::{Answer, Call, Cause, Code, EntityView, RequestView, SectorView, Work};
 use script_line::Look;
 use sector_core::Class;
@@ -17,20 +17,8 @@ pub struct Full {
     pub calls: u64,
 }
 
-impl Keeps for Full {
+impl Shows for Full {
     ghost state = { λ full. record (opened (record { sectors = full.sectors; requests = 1; tags = 1; scheduler = Plain; first_budget = 256; max_budget = 256; timeout = 8; first_vtime = 7 }) 0) { held = true } };
-
-    fn call(&mut self, _alloc: Global, call: &Call) -> Answer {
-        self.calls = self.calls.wrapping_add(1);
-        match call {
-            Call::Do(_) => Answer::NotYet(Cause::Held),
-            Call::Hold => Answer::Refused(Code::AlreadyHeld),
-            Call::Release => Answer::Refused(Code::HistoryFull),
-            Call::Undo { k: 0 } | Call::Redo { k: 0 } => Answer::Refused(Code::ZeroCount),
-            Call::Undo { .. } => Answer::Refused(Code::NothingToUndo),
-            Call::Redo { .. } => Answer::Refused(Code::NothingToRedo),
-        }
-    }
 
     fn work(&self, _tag: u8, _issue: u64) -> Option<Work> {
         None
@@ -71,5 +59,19 @@ impl Keeps for Full {
 
     fn last_serial(&self) -> u64 {
         0
+    }
+}
+
+impl Keeps for Full {
+    fn call(&mut self, _alloc: Global, call: &Call) -> Answer {
+        self.calls = self.calls.wrapping_add(1);
+        match call {
+            Call::Do(_) => Answer::NotYet(Cause::Held),
+            Call::Hold => Answer::Refused(Code::AlreadyHeld),
+            Call::Release => Answer::Refused(Code::HistoryFull),
+            Call::Undo { k: 0 } | Call::Redo { k: 0 } => Answer::Refused(Code::ZeroCount),
+            Call::Undo { .. } => Answer::Refused(Code::NothingToUndo),
+            Call::Redo { .. } => Answer::Refused(Code::NothingToRedo),
+        }
     }
 }

@@ -141,7 +141,7 @@ fn words_that_ask_for_the_version(rt: HostRuntime) -> Result<(), Fail> {
 
 // Lines that ask for nothing, and what a person is told of each.
 const FAULTS: [(&str, &str); 15] = [
-    ("bfqhost", "neither sim nor serve is named"),
+    ("bfqhost", "neither sim, serve nor replay is named"),
     ("bfqhost --version sim", "unexpected --version"),
     ("bfqhost --version --version", "unexpected --version"),
     ("bfqhost sim --version", "unexpected --version"),

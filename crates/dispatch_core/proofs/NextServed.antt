@@ -8,7 +8,7 @@ use Rattle.plain.specs.declared.seat.Expiry.TheVariants.{Emptying}
 use Rattle.bfq_select.specs.Service.{IsSized, IsBounded, OnlyServes}
 use Rattle.plain.specs.declared.answer.Reply.{Reply}
 use Rattle.plain.specs.declared.answer.Reply.TheVariants.{Issued}
-use Rattle.plain.specs.Steps.Dispatch.{next_request, next_size, with_budget_in, with_slot, without_first, without_empty, sent_next, sent_in, sent_by_bfq}
+use Rattle.plain.specs.Steps.Dispatch.{next_request, next_size, with_budget_in, with_selected, without_first, without_empty, sent_next, sent_in, sent_by_bfq}
 use Rattle.dispatch_core.proofs.Sectors.{range_is, request_taken}
 use Rattle.dispatch_core.proofs.QueueLists.{queue_empty}
 use Rattle.dispatch_core.proofs.QueueFacts.{whole_with, linked_some}
@@ -183,12 +183,12 @@ module _ (l : Limits) (n tag : ℕ) (t : Tables) where
 
   -- where no room could be made nothing is sent
   pub bfq_full : with_budget_in l (meaning t) t.in_service ≡ None → sent_by_bfq l (meaning t) n tag ≡ None
-  bfq_full none = ap (option_and_then (λ b. sent_in l (meaning t) n tag (with_slot b))) none
+  bfq_full none = ap (option_and_then (λ b. sent_in l (meaning t) n tag (with_selected b))) none
 
-  module _ (b c : Bfq) (made : with_budget_in l (meaning t) t.in_service ≡ Some b) (chosen : with_slot b ≡ c) where
+  module _ (b c : Bfq) (made : with_budget_in l (meaning t) t.in_service ≡ Some b) (chosen : with_selected b ≡ c) where
     -- room was made, and a queue chosen
     by_slot : sent_by_bfq l (meaning t) n tag ≡ sent_in l (meaning t) n tag c
-    by_slot = ap (option_and_then (λ b. sent_in l (meaning t) n tag (with_slot b))) made ∙ ap (sent_in l (meaning t) n tag) chosen
+    by_slot = ap (option_and_then (λ b. sent_in l (meaning t) n tag (with_selected b))) made ∙ ap (sent_in l (meaning t) n tag) chosen
 
     -- nor where no queue is in service
     pub bfq_idle : c.in_service ≡ None → sent_by_bfq l (meaning t) n tag ≡ None
@@ -211,9 +211,9 @@ refused_by P Q (Ok a) e q = absurd (search rules)
 refused_by P Q (Err w) e q = q
 
 -- a slot that is there is kept
-pub slot_kept : (b : Bfq) → is_none b.in_service ≡ false → with_slot b ≡ b
+pub slot_kept : (b : Bfq) → is_none b.in_service ≡ false → with_selected b ≡ b
 slot_kept b there = ap (λ e. cond e (select b) b) there
 
 -- and else a queue is selected
-pub slot_chosen : (b : Bfq) → is_none b.in_service ≡ true → with_slot b ≡ select b
+pub slot_chosen : (b : Bfq) → is_none b.in_service ≡ true → with_selected b ≡ select b
 slot_chosen b none = ap (λ e. cond e (select b) b) none

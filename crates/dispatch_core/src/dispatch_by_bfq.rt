@@ -6,7 +6,7 @@ ghost use Rattle.change_record.specs.Trail.{KeepsTrail};
 ghost use Rattle.change_record.specs.Machine.{bfq_of, meaning};
 ghost use Rattle.bfq_select.specs.Service.{OnlyServes};
 ghost use Rattle.plain.specs.Tests.{accepted_if};
-ghost use Rattle.plain.specs.Steps.Dispatch.{sent_by_bfq, sent_in, sent_next, with_budget_in, with_slot, next_size, next_request};
+ghost use Rattle.plain.specs.Steps.Dispatch.{sent_by_bfq, sent_in, sent_next, with_budget_in, with_selected, next_size, next_request};
 ghost use Rattle.plain.specs.Step.{of_sizes};
 ghost use Rattle.plain_laws.specs.Whole.{AreWhole};
 ghost use Rattle.dispatch_core.specs.Changes.{sent_next_tables};

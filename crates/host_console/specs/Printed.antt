@@ -141,10 +141,6 @@ Answers before c text after = (answer : Answer) × MayCall before c answer after
 abbrev pub AnswersOver : Desk → Call → List ℕ → Desk → Type 0
 AnswersOver before c text after = Answers before.keeper c text after.keeper × (after.disk ≡ before.disk)
 
--- nothing is called or read, and something is printed
-abbrev pub Shows : Desk → List ℕ → List ℕ → Desk → Type 0
-Shows before shown text after = (after ≡ before) × (text ≡ ended shown)
-
 -- the call that a line makes, whatever the keeper is; none where the line asks the keeper or the device first, or only looks
 -- (our profile)
 abbrev pub asked : Line → Option Call
@@ -178,6 +174,18 @@ asked (Entity number) = None
 asked (Class number) = None
 asked (Show look) = None
 
+-- what a query prints at a keeper, with its end; no other line prints anything by itself
+abbrev pub Tells : State → Line → List ℕ → Type 0
+Tells k (Sector number) text = text ≡ ended (sector_text k number)
+Tells k (Queue seat) text = text ≡ ended (queue_text k seat)
+Tells k Cursor text = text ≡ ended (cursor_text k)
+Tells k (Vtime group) text = text ≡ ended (group_text k group)
+Tells k (ClassVtime group named) text = text ≡ ended (group_class_text k group named)
+Tells k (Entity number) text = text ≡ ended (known_text k number)
+Tells k (Class number) text = text ≡ ended (class_of_text k number)
+Tells k (Show look) text = (shown : List ℕ) × Looked k look shown × (text ≡ ended shown)
+Tells k line text = ⊥
+
 -- what such a line as makes no call of its own may print at a keeper over an image, and what both are then: only a `work` line
 -- reads the image (our profile)
 abbrev pub Looks : Desk → Line → List ℕ → Desk → Type 0
@@ -185,15 +193,7 @@ Looks before (Finish tag issue ending) text after = AnswersOver before (call.Do 
 Looks before (Work tag issue) text after =
     (made : Step) × StepOfWork before.disk tag issue (work_in_flight (machine_of before.keeper) tag issue) made after.disk
     × Answers before.keeper (call.Do made) text after.keeper
-Looks before (Sector number) text after = Shows before (sector_text before.keeper number) text after
-Looks before (Queue seat) text after = Shows before (queue_text before.keeper seat) text after
-Looks before Cursor text after = Shows before (cursor_text before.keeper) text after
-Looks before (Vtime group) text after = Shows before (group_text before.keeper group) text after
-Looks before (ClassVtime group named) text after = Shows before (group_class_text before.keeper group named) text after
-Looks before (Entity number) text after = Shows before (known_text before.keeper number) text after
-Looks before (Class number) text after = Shows before (class_of_text before.keeper number) text after
-Looks before (Show look) text after = (shown : List ℕ) × Looked before.keeper look shown × Shows before shown text after
-Looks before line text after = ⊥
+Looks before line text after = (after ≡ before) × Tells before.keeper line text
 
 -- what a line may print at a keeper over an image, and what both are then: its call is made once, and answered; or it has none
 -- of its own

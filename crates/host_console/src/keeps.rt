@@ -13,14 +13,10 @@ use sector_core::Class;
 use std::alloc::Global;
 use std::io;
 
-/// A keeper: it answers calls, and can be looked at.
-pub trait Keeps {
+/// A keeper that can be looked at.
+pub trait Shows {
     /// The keeper as the rules see it.
     ghost state: { Self → State };
-
-    /// Answers a call; a call that is not accepted changes nothing.
-    fn call(&mut self, alloc: Global, call: &Call) -> Answer
-        ensures { MayCall (state self.old) call.now result (state self.new) };
 
     /// The request in flight under this tag with this issue, if there is one.
     fn work(&self, tag: u8, issue: u64) -> Option<Work>
@@ -58,4 +54,11 @@ pub trait Keeps {
     /// The last serial that was given.
     fn last_serial(&self) -> u64
         ensures { result ≡ (state self.now).last };
+}
+
+/// A keeper that can be looked at, and answers calls.
+pub trait Keeps: Shows {
+    /// Answers a call; a call that is not accepted changes nothing.
+    fn call(&mut self, alloc: Global, call: &Call) -> Answer
+        ensures { MayCall (Self.state self.old) call.now result (Self.state self.new) };
 }

@@ -6,7 +6,8 @@
 //! | `Teller::run` | a line is one call, and prints its answer; or it is a query, which changes nothing; a `work` line reads the image first |
 //! | `run_keeper` | the lines of a script run at a keeper over an image, one after the other |
 //! | `put_answer` | the text of an answer |
-//! | `Keeps` | what a keeper must offer to be run from a script |
+//! | `tell` | what a query prints at a keeper, which is not changed |
+//! | `Shows`, `Keeps` | what a keeper must offer to be looked at, and to be run from a script |
 //!
 //! The rules stand in `specs/`: `Printed` says for each line which call it is and what it prints, and `Texts` has
 //! the texts of groups and of entities. `Looks` says what a line that begins with `show` prints, and `Views` has the texts of what a
@@ -34,9 +35,11 @@ mod run;
 mod steps;
 mod submit;
 mod teller;
+mod telling;
 mod work;
 
 pub use host_calls::put_answer;
-pub use keeps::Keeps;
+pub use keeps::{Keeps, Shows};
 pub use run::run_keeper;
 pub use teller::Teller;
+pub use telling::tell;

@@ -3,7 +3,7 @@ ghost use Rattle.std.specs.Prelude.{◌≡◌, ◌∷◌, ◌++◌, OnOk};
 ghost use Rattle.host_console.specs.Printed.{sector_text, shown_text, request_text, queue_text, cursor_text, group_text, group_class_text, known_text, class_of_text};
 ghost use Rattle.host_console.specs.Texts.{state_text, class_text, entity_text};
 
-use crate::Keeps;
+use crate::Shows;
 use plain::{EntityView, RequestView, SectorView, State};
 use sector_core::{Class, Range};
 use sector_text::put_hex;
@@ -13,7 +13,7 @@ use std::io::{self, Write};
 const MOST_REQUESTS: usize = 65536;
 
 /// Appends what a sector has. It fails only for want of memory.
-pub fn put_sector<K: Keeps>(keeper: &K, number: u64, out: &mut Vec<u8>) -> io::Result<()>
+pub fn put_sector<K: Shows>(keeper: &K, number: u64, out: &mut Vec<u8>) -> io::Result<()>
     ensures { OnOk result (out.new.items ≡ out.old.items ++ sector_text (K.state keeper.now) number) }
 {
     put_content(number, keeper.sector(number), out)
@@ -35,7 +35,7 @@ fn put_content(number: u64, content: SectorView<'_>, out: &mut Vec<u8>) -> io::R
 }
 
 /// Appends the queued requests of a seat, in order of insertion. It fails only for want of memory.
-pub fn put_queue<K: Keeps>(keeper: &K, seat: u8, out: &mut Vec<u8>) -> io::Result<()>
+pub fn put_queue<K: Shows>(keeper: &K, seat: u8, out: &mut Vec<u8>) -> io::Result<()>
     ensures { OnOk result (out.new.items ≡ out.old.items ++ queue_text (K.state keeper.now) seat) }
 {
     write!(out, "queue")?;
@@ -58,7 +58,7 @@ fn put_request(range: Range, bios: u32, out: &mut Vec<u8>) -> io::Result<()>
 }
 
 /// Appends where the line stands, and the last serial. It fails only for want of memory.
-pub fn put_cursor<K: Keeps>(keeper: &K, out: &mut Vec<u8>) -> io::Result<()>
+pub fn put_cursor<K: Shows>(keeper: &K, out: &mut Vec<u8>) -> io::Result<()>
     ensures { OnOk result (out.new.items ≡ out.old.items ++ cursor_text (K.state keeper.now)) }
 {
     let cursor = keeper.cursor();
@@ -68,7 +68,7 @@ pub fn put_cursor<K: Keeps>(keeper: &K, out: &mut Vec<u8>) -> io::Result<()>
 }
 
 /// Appends the best effort time of a group. It fails only for want of memory.
-pub fn put_vtime<K: Keeps>(keeper: &K, group: u8, out: &mut Vec<u8>) -> io::Result<()>
+pub fn put_vtime<K: Shows>(keeper: &K, group: u8, out: &mut Vec<u8>) -> io::Result<()>
     ensures { OnOk result (out.new.items ≡ out.old.items ++ group_text (K.state keeper.now) group) }
 {
     match keeper.vtime(group, Class::BestEffort) {
@@ -78,7 +78,7 @@ pub fn put_vtime<K: Keeps>(keeper: &K, group: u8, out: &mut Vec<u8>) -> io::Resu
 }
 
 /// Appends the virtual time of a class of a group. It fails only for want of memory.
-pub fn put_class_vtime<K: Keeps>(
+pub fn put_class_vtime<K: Shows>(
     keeper: &K,
     group: u8,
     class: Class,
@@ -94,14 +94,14 @@ pub fn put_class_vtime<K: Keeps>(
 }
 
 /// Appends what is known of an entity. It fails only for want of memory.
-pub fn put_entity<K: Keeps>(keeper: &K, number: u8, out: &mut Vec<u8>) -> io::Result<()>
+pub fn put_entity<K: Shows>(keeper: &K, number: u8, out: &mut Vec<u8>) -> io::Result<()>
     ensures { OnOk result (out.new.items ≡ out.old.items ++ known_text (K.state keeper.now) number) }
 {
     put_known(number, keeper.entity(number), out)
 }
 
 /// Appends the class of an entity. It fails only for want of memory.
-pub fn put_class<K: Keeps>(keeper: &K, number: u8, out: &mut Vec<u8>) -> io::Result<()>
+pub fn put_class<K: Shows>(keeper: &K, number: u8, out: &mut Vec<u8>) -> io::Result<()>
     ensures { OnOk result (out.new.items ≡ out.old.items ++ class_of_text (K.state keeper.now) number) }
 {
     match keeper.entity(number) {

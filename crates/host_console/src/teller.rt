@@ -1,20 +1,17 @@
 // A keeper over an image, run from a script.
 ghost use Rattle.std.specs.Prelude.{◌≡◌, ℕ, List, ◌++◌, None, IfOk, OnOk, OnErr, ◌⊎◌};
 ghost use Rattle.script_line.specs.Script.{MayHaveRun};
-ghost use Rattle.host_console.specs.Looks.{Looked};
-ghost use Rattle.host_console.specs.Printed.{AnswersOver, Looks, Prints, asked, outcome_of, sectors_in_flight, ended, sector_text, queue_text, cursor_text, group_text, group_class_text, known_text, class_of_text};
+ghost use Rattle.host_console.specs.Printed.{AnswersOver, Looks, Prints, asked, outcome_of, sectors_in_flight};
 
 use crate::Keeps;
 use crate::asked::call_of;
 use crate::filled::sectors_of;
-use crate::query::{
-    put_class, put_class_vtime, put_cursor, put_entity, put_queue, put_sector, put_vtime,
-};
+use crate::telling::tell;
 use base_image::Image;
 use host_calls::put_answer;
 use plain::{Call, Step};
-use script_line::{Console, Ending, Line, Look};
-use sector_core::{Class, FailKind, OutOfMemory, Outcome};
+use script_line::{Console, Ending, Line};
+use sector_core::{FailKind, OutOfMemory, Outcome};
 use std::alloc::Global;
 use std::marker::Model;
 
@@ -37,6 +34,10 @@ impl<K: Keeps, I: Image> Model for Teller<K, I> {
 
 impl<K: Keeps, I: Image> Console for Teller<K, I> {
     ghost prints = { Prints };
+
+    fn runs(_line: &Line) -> bool {
+        true
+    }
 
     fn run(&mut self, alloc: Global, line: Line, out: &mut Vec<u8>) -> Result<(), OutOfMemory> {
         self.run_line(alloc, line, out)
@@ -64,16 +65,8 @@ impl<K: Keeps, I: Image> Teller<K, I> {
         match line {
             Line::Finish { tag, issue, ending } => self.finish(alloc, tag, issue, ending, out),
             Line::Work { tag, issue } => self.work(alloc, tag, issue, out),
-            Line::Sector { number } => self.tell_sector(number, out),
-            Line::Queue { seat } => self.tell_queue(seat, out),
-            Line::Cursor => self.tell_cursor(out),
-            Line::Vtime { group } => self.tell_vtime(group, out),
-            Line::ClassVtime { group, class } => self.tell_class_vtime(group, class, out),
-            Line::Entity { number } => self.tell_entity(number, out),
-            Line::Class { number } => self.tell_class(number, out),
-            Line::Show { look } => self.tell_look(look, out),
-            // Each other line makes its call.
-            _ => unreachable!(),
+            // Each other line makes its call, or is a query.
+            _ => tell(&self.keeper, line, out),
         }
     }
 
@@ -156,74 +149,5 @@ impl<K: Keeps, I: Image> Teller<K, I> {
             Some(work) => work.range.count,
             None => 0,
         }
-    }
-
-    fn tell_sector(&self, number: u64, out: &mut Vec<u8>) -> Result<(), OutOfMemory>
-        ensures { OnOk result (out.new.items ≡ out.old.items ++ ended (sector_text self.now.keeper number)) }
-    {
-        put_sector(&self.keeper, number, out).map_err(|_| OutOfMemory)?;
-        out.push(b'\n')?;
-        Ok(())
-    }
-
-    fn tell_queue(&self, seat: u8, out: &mut Vec<u8>) -> Result<(), OutOfMemory>
-        ensures { OnOk result (out.new.items ≡ out.old.items ++ ended (queue_text self.now.keeper seat)) }
-    {
-        put_queue(&self.keeper, seat, out).map_err(|_| OutOfMemory)?;
-        out.push(b'\n')?;
-        Ok(())
-    }
-
-    fn tell_cursor(&self, out: &mut Vec<u8>) -> Result<(), OutOfMemory>
-        ensures { OnOk result (out.new.items ≡ out.old.items ++ ended (cursor_text self.now.keeper)) }
-    {
-        put_cursor(&self.keeper, out).map_err(|_| OutOfMemory)?;
-        out.push(b'\n')?;
-        Ok(())
-    }
-
-    fn tell_vtime(&self, group: u8, out: &mut Vec<u8>) -> Result<(), OutOfMemory>
-        ensures { OnOk result (out.new.items ≡ out.old.items ++ ended (group_text self.now.keeper group)) }
-    {
-        put_vtime(&self.keeper, group, out).map_err(|_| OutOfMemory)?;
-        out.push(b'\n')?;
-        Ok(())
-    }
-
-    fn tell_class_vtime(
-        &self,
-        group: u8,
-        class: Class,
-        out: &mut Vec<u8>,
-    ) -> Result<(), OutOfMemory>
-        ensures { OnOk result (out.new.items ≡ out.old.items ++ ended (group_class_text self.now.keeper group class)) }
-    {
-        put_class_vtime(&self.keeper, group, class, out).map_err(|_| OutOfMemory)?;
-        out.push(b'\n')?;
-        Ok(())
-    }
-
-    fn tell_entity(&self, number: u8, out: &mut Vec<u8>) -> Result<(), OutOfMemory>
-        ensures { OnOk result (out.new.items ≡ out.old.items ++ ended (known_text self.now.keeper number)) }
-    {
-        put_entity(&self.keeper, number, out).map_err(|_| OutOfMemory)?;
-        out.push(b'\n')?;
-        Ok(())
-    }
-
-    fn tell_class(&self, number: u8, out: &mut Vec<u8>) -> Result<(), OutOfMemory>
-        ensures { OnOk result (out.new.items ≡ out.old.items ++ ended (class_of_text self.now.keeper number)) }
-    {
-        put_class(&self.keeper, number, out).map_err(|_| OutOfMemory)?;
-        out.push(b'\n')?;
-        Ok(())
-    }
-
-    fn tell_look(&self, look: Look, out: &mut Vec<u8>) -> Result<(), OutOfMemory>
-        ensures { OnOk result ((shown : List ℕ) × Looked self.now.keeper look shown × (out.new.items ≡ out.old.items ++ ended shown)) }
-    {
-        self.keeper.put_look(look, out).map_err(|_| OutOfMemory)?;
-        out.push(b'\n')?;
-        Ok(())
     }
 }

@@ -5,9 +5,10 @@
 //! |---|---|
 //! | [`open_core`] | a core and its seats, to which nothing has come |
 //! | [`Core::turn`] | at most one call is answered, then one Dispatch is tried; the calls and answers of every seat fit the one journal; after the end nothing changes |
-//! | [`Core::run`] | it is a number of turns, and the core has ended; `run_watched` shows whoever keeps the journal after each turn |
+//! | [`Core::run`] | it is a number of turns, and the core has ended; `run_watched` shows whoever keeps the journal after each turn, and says if the core is about to sleep |
 //! | [`Core::finish`], [`settle`] | what a seat staged is what was taken and then what is left; what it collected are the first of what it was given |
 //! | [`Core::book`] | whoever keeps the journal: the accounts of all seats fit it |
+//! | [`Core::bell`] | the bell on which it sleeps, for who is no seat and yet has something for it |
 //! | [`Core::entry`] | the entry of a number, from 0 |
 //!
 //! Each seat has two rings, one for its calls and one for its replies. Between the core and the seats stands no lock: a seat may work

@@ -26,11 +26,12 @@ impl<B: Judges> Core<B> {
         ensures shut { AreShut (seats_of self.new) }
         ensures desks { SameSeats self.old self.new }
     {
-        self.run_watched(rt, alloc, |_| {})
+        self.run_watched(rt, alloc, |_, _| {})
     }
 
-    /// The same, and shows whoever keeps the journal after each turn, and so before each sleep.
-    pub fn run_watched<R: Wait, W: FnMut(&B)>(&mut self, rt: &R, alloc: Global, mut watch: W)
+    /// The same, and shows whoever keeps the journal after each turn. It says if the core is about to sleep: then nothing changes until a
+    /// bell rings.
+    pub fn run_watched<R: Wait, W: FnMut(&B, bool)>(&mut self, rt: &R, alloc: Global, mut watch: W)
         requires { W.IsAlwaysCallable watch }
         ensures turns { (n : ℕ) × AreTurns n self.old self.new }
         ensures ended { has_ended self.new ≡ true }
@@ -41,18 +42,20 @@ impl<B: Judges> Core<B> {
         let mut looks = 0;
         for _ in rt.forever() {
             let report = self.turn(alloc);
-            watch(&self.book);
+            let did_nothing = !report.ended && report.answered.is_none() && !report.dispatched;
+            let is_idle = did_nothing && !self.starved;
+            watch(&self.book, is_idle && looks >= IDLE_TURNS);
             if report.ended {
                 return;
             }
-            if report.answered.is_some() || report.dispatched {
-                looks = 0;
-            } else if self.starved {
+            if is_idle {
+                self.bell.rest(rt, looks, IDLE_TURNS);
+                looks = looks.saturating_add(1);
+            } else if did_nothing {
                 // No bell tells when there is memory again.
                 thread::yield_now();
             } else {
-                self.bell.rest(rt, looks, IDLE_TURNS);
-                looks = looks.saturating_add(1);
+                looks = 0;
             }
         }
         unreachable!()

@@ -11,7 +11,7 @@ use crate::judges::Judges;
 use crate::turn::{TurnReport, Turned, take_turn};
 use host_calls::SeatName;
 use plain::Call;
-use std::alloc::Global;
+use std::alloc::{AllocError, Global};
 
 /// The core of a host: whoever keeps its journal, and the desks of all seats.
 pub struct Core<B: Judges> {
@@ -92,6 +92,15 @@ impl<B: Judges> Core<B> {
         ensures shut { has_ended self.now ≡ true → AreShut (seats_of self.now) }
     {
         &self.book
+    }
+
+    /// The bell on which the core sleeps. Who rings it has the core take a turn, and so look at what it watches.
+    ///
+    /// # Errors
+    ///
+    /// It is shared too often to count.
+    pub fn bell(&self) -> Result<Bell, AllocError> {
+        self.bell.shared()
     }
 
     /// The journal's entry of a number, from 0: whose it is, and the call.

@@ -2,7 +2,7 @@
 use clap::{Arg, ArgAction, Command};
 use std::alloc::{AllocError, Global};
 
-// The options of a configuration, which each subcommand has.
+// The options of a configuration.
 const CONFIGURATION: [&str; 9] = [
     "scheduler",
     "nr-requests",
@@ -15,40 +15,77 @@ const CONFIGURATION: [&str; 9] = [
     "image",
 ];
 
-// The subcommands, and the options that each has besides.
-const SUBCOMMANDS: [(&str, &[&str]); 2] = [
-    ("sim", &["sectors"]),
-    ("serve", &["dir", "clients", "workers"]),
+// A record has its configuration itself.
+const REPLAY: [&str; 3] = ["image", "history", "to"];
+
+// The words of a subcommand: its name, the words that it has by their places, options that it shares, its own, and words with no value.
+type Words = (
+    &'static str,
+    &'static [&'static str],
+    &'static [&'static str],
+    &'static [&'static str],
+    &'static [&'static str],
+);
+
+const SUBCOMMANDS: [Words; 3] = [
+    ("sim", &[], &CONFIGURATION, &["sectors"], &[]),
+    (
+        "serve",
+        &[],
+        &CONFIGURATION,
+        &["dir", "clients", "workers", "record"],
+        &["no-inspect"],
+    ),
+    ("replay", &["file"], &REPLAY, &[], &["list"]),
 ];
 
-// Adds options that are given at most once, with exactly one value: without a number of values `Set` takes one.
+// Adds options that are given at most once. `Set` takes exactly one value, and `SetTrue` none.
 fn add_options<'a>(
+    alloc: Global,
+    options: &mut Vec<Arg<'a>>,
+    names: &[&'a str],
+    action: ArgAction,
+) -> Result<(), AllocError> {
+    for name in names {
+        options.push(Arg::new(alloc, name).long(name).action(action))?;
+    }
+    Ok(())
+}
+
+// Adds words that stand by their places alone.
+fn add_places<'a>(
     alloc: Global,
     options: &mut Vec<Arg<'a>>,
     names: &[&'a str],
 ) -> Result<(), AllocError> {
     for name in names {
-        options.push(Arg::new(alloc, name).long(name).action(ArgAction::Set))?;
+        options.push(Arg::new(alloc, name))?;
     }
     Ok(())
 }
 
-// A subcommand with the options of a configuration, and after them with options of its own.
+// A subcommand: the words that it has by their places, the options that it shares with others, options of its own, and words with no
+// value.
 fn subcommand<'a>(
     alloc: Global,
     name: &'a str,
+    places: &'a [&'a str],
+    shared: &'a [&'a str],
     own: &'a [&'a str],
+    flags: &'a [&'a str],
 ) -> Result<Command<'a>, AllocError> {
     let mut options = Vec::new(alloc);
-    add_options(alloc, &mut options, &CONFIGURATION)?;
-    add_options(alloc, &mut options, own)?;
+    add_places(alloc, &mut options, places)?;
+    add_options(alloc, &mut options, shared, ArgAction::Set)?;
+    add_options(alloc, &mut options, own, ArgAction::Set)?;
+    add_options(alloc, &mut options, flags, ArgAction::SetTrue)?;
     Command::new(alloc, name).args(options)
 }
 
 fn subcommands<'a>(alloc: Global) -> Result<Vec<Command<'a>>, AllocError> {
     let mut subcommands = Vec::new(alloc);
-    for (name, own) in &SUBCOMMANDS {
-        subcommands.push(subcommand(alloc, name, own)?)?;
+    for (name, places, shared, own, flags) in &SUBCOMMANDS {
+        subcommands.push(subcommand(alloc, name, places, shared, own, flags)?)?;
     }
     Ok(subcommands)
 }

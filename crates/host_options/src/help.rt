@@ -31,6 +31,7 @@ NAME
 SYNOPSIS
     bfqhost sim [OPTION]... < SCRIPT
     bfqhost serve --image FILE --dir DIR [OPTION]...
+    bfqhost replay RECORD [OPTION]... < SCRIPT
     bfqhost --help | --version
 
 EXAMPLE
@@ -58,14 +59,23 @@ OPTION of sim
     --sectors N          sectors of a device of zeros, 0 to 65536 (1024); not used if there is an image
 
 OPTIONS of serve
-    --dir DIR            the folder of the sockets: client0, client1 and so on, and operator
+    --dir DIR            the folder of the sockets: client0, client1 and so on, operator and inspect
     --clients N          clients that have a socket, 1 to 16 (4)
     --workers N          workers of the device, 1 to 4 (2)
+    --no-inspect         no socket inspect
+    --record FILE        every accepted call goes to FILE, which must not be there
+
+OPTIONS of replay
+    --image FILE         the device of the script is this file; else it is of zeros
+    --history N          accepted calls at most, in place of the record's number
+    --to N               stop before entry N, from 1
+    --list               list the entries, and read no script
 
 SERVE
     It serves until the operator stops it (bfqctl --socket DIR/operator stop). Each read or write makes four calls:
     so the usual history holds 16384 of them, and then nothing more is accepted. Say --history 16777216 for a long run.
     A line on standard error says when it serves, another when nine tenths of the history are used, and one when it is full.
+    At DIR/inspect lines of a script that only look (sector, queue, vtime, entity, class, line, show) are answered as there.
 
 SCRIPT: one call a line, words joined by one space; an empty line or one that begins with # is skipped
     attach SEAT GROUP PRIO [rt|be|idle]  read SEAT SESSION START COUNT
@@ -126,5 +136,5 @@ CAUSES: what 'notyet N' says; nothing has changed, and the same line may be acce
 
 EXIT STATUS
     0 end of input, or the operator's stop    2 bad line    3 read fault    4 write fault    5 no memory
-    6 bad words, configuration or image       7 a socket or a thread cannot be had
+    6 bad words, configuration, image or record    7 a socket, a thread or a record cannot be had
 ";

@@ -3,7 +3,7 @@
 //!
 //! | call | what it answers |
 //! |---|---|
-//! | `request_of` | help; the version; or a run of a script or a server, with a configuration and numbers that are still to be checked, and files |
+//! | `request_of` | help; the version; or a run of a script, a server or a record, with a configuration and numbers that are still to be checked, and files |
 //! | `reason_of` | what a person is told of words that ask for nothing |
 //! | `grammar_text` | what a person is told of an error of `clap` |
 //! | `help_text` | what `--help` prints |
@@ -19,6 +19,7 @@
 //! bfqhost sim --first-budget 512
 //! bfqhost sim --image disk.img
 //! bfqhost serve --image disk.img --dir /run/bfq --clients 2
+//! bfqhost replay run.record --list
 //! ```
 
 mod command;

@@ -19,6 +19,8 @@ pub enum Reason<'a> {
     NoScheduler(&'a str),
     /// An option that `serve` needs.
     Missing(&'a str),
+    /// No record is named for `replay`.
+    NoRecord,
 }
 
 impl<'a> Reason<'a> {
@@ -46,6 +48,7 @@ impl<'a> Reason<'a> {
                 format!(in alloc; "--scheduler is bfq or none, and not {text}")
             }
             Reason::Missing(option) => format!(in alloc; "serve needs --{option}"),
+            Reason::NoRecord => String::from_str(alloc, "replay needs a record"),
         }
     }
 }
@@ -60,7 +63,10 @@ pub fn grammar_text(alloc: Global, error: &Error) -> Result<String, AllocError> 
             let word = quoted(line);
             format!(in alloc; "unexpected {word}")
         }
-        ErrorKind::MissingSubcommand => String::from_str(alloc, "neither sim nor serve is named"),
+        ErrorKind::MissingSubcommand => String::from_str(
+            alloc,
+            "neither sim, serve nor replay is named",
+        ),
         _ => String::from_str(alloc, line),
     }
 }

@@ -35,6 +35,23 @@ pub enum Request {
         clients: u64,
         /// How many workers the device has; not yet checked.
         workers: u64,
+        /// Whether there is a path for looks.
+        inspect: bool,
+        /// The file of the record, if one is to be made.
+        record: Option<String>,
+    },
+    /// Replay a record, and then run a script or list its entries.
+    Replay {
+        /// The file of the record.
+        file: String,
+        /// The file that is the image of the device, where one is named.
+        image: Option<String>,
+        /// How many calls the history is to hold, where that is given; not yet checked.
+        history: Option<u64>,
+        /// The number of the entry before which it stops, where one is given.
+        to: Option<u64>,
+        /// Whether the entries are listed, in place of a script.
+        list: bool,
     },
 }
 
@@ -96,8 +113,11 @@ fn found_in<'a>(
     if let Some(options) = found.subcommand_matches("sim") {
         return sim(alloc, options);
     }
-    match found.subcommand_matches("serve") {
-        Some(options) => serve(alloc, options),
+    if let Some(options) = found.subcommand_matches("serve") {
+        return serve(alloc, options);
+    }
+    match found.subcommand_matches("replay") {
+        Some(options) => replay(alloc, options),
         None => Err(Reason::Unexpected("words")),
     }
 }
@@ -135,12 +155,32 @@ fn serve<'a>(alloc: Global, options: &ArgMatches<'a>) -> Result<Request, Reason<
     let workers = number_or(options, "workers", 2)?;
     let image = text_of(alloc, options, "image")?.ok_or(Reason::Missing("image"))?;
     let dir = text_of(alloc, options, "dir")?.ok_or(Reason::Missing("dir"))?;
+    let inspect = !options.get_flag("no-inspect");
+    let record = text_of(alloc, options, "record")?;
     Ok(Request::Serve {
         draft,
         image,
         dir,
         clients,
         workers,
+        inspect,
+        record,
+    })
+}
+
+// A replay needs a record.
+fn replay<'a>(alloc: Global, options: &ArgMatches<'a>) -> Result<Request, Reason<'a>> {
+    let history = number_of(options, "history")?;
+    let to = number_of(options, "to")?;
+    let image = text_of(alloc, options, "image")?;
+    let file = text_of(alloc, options, "file")?.ok_or(Reason::NoRecord)?;
+    let list = options.get_flag("list");
+    Ok(Request::Replay {
+        file,
+        image,
+        history,
+        to,
+        list,
     })
 }
 
@@ -171,8 +211,16 @@ fn scheduler_or<'a>(options: &ArgMatches<'a>, usual: Scheduler) -> Result<Schedu
 
 // The number of an option, or this one where the option is not given.
 fn number_or<'a>(options: &ArgMatches<'a>, name: &'a str, usual: u64) -> Result<u64, Reason<'a>> {
+    Ok(number_of(options, name)?.unwrap_or(usual))
+}
+
+// The number of an option, where it is given.
+fn number_of<'a>(options: &ArgMatches<'a>, name: &'a str) -> Result<Option<u64>, Reason<'a>> {
     match options.get_str(name) {
-        Some(text) => number(text.as_bytes()).ok_or(Reason::NoNumber(name, text)),
-        None => Ok(usual),
+        Some(text) => match number(text.as_bytes()) {
+            Some(number) => Ok(Some(number)),
+            None => Err(Reason::NoNumber(name, text)),
+        },
+        None => Ok(None),
     }
 }

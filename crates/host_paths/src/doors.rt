@@ -20,19 +20,33 @@ pub struct Doors {
     pub operator: UnixListener,
     /// The clients', in the order of their seats.
     pub clients: Vec<UnixListener>,
+    /// That of who looks, if there is to be one.
+    pub inspect: Option<UnixListener>,
+}
+
+/// Whose path it is.
+#[derive(Clone, Copy, Debug, PartialEq, Eq)]
+pub enum Door {
+    /// The operator's.
+    Operator,
+    /// A client's, by its seat.
+    Client(u8),
+    /// That of who looks.
+    Inspect,
 }
 
 /// Why a path of a server cannot be had.
 #[derive(Clone, Copy)]
 pub struct DoorFault {
-    /// The client whose path it is, by its seat; none is the operator's.
-    pub client: Option<u8>,
+    /// Which path it is.
+    pub door: Door,
     /// What the system said. `AddrInUse` with no number of the system's: a server is met there; `AlreadyExists`: a file that is no socket.
     pub error: io::Error,
 }
 
-/// Opens the socket of the operator and those of so many clients in a folder. Each file that is made is noted, also if a later one
-/// fails. The operator's path comes first: a running server is met there, and there alone its clients don't notice.
+/// Opens the socket of the operator, those of so many clients, and that of who looks, if there is to be one, in a folder. Each file that is
+/// made is noted, also if a later one fails. The operator's path comes first: a running server is met there, and there alone its clients
+/// don't notice.
 ///
 /// # Errors
 ///
@@ -42,44 +56,52 @@ pub fn open_doors<R: Files + Net>(
     alloc: Global,
     dir: &str,
     clients: u8,
+    inspect: bool,
     made: &mut Vec<String>,
     fault: &mut Option<DoorFault>,
 ) -> Result<Doors, ServeEnd> {
     // Else the sockets would stand at the root of all files.
     if dir.is_empty() {
         *fault = Some(DoorFault {
-            client: None,
+            door: Door::Operator,
             error: ErrorKind::InvalidInput.into(),
         });
         return Err(ServeEnd::Socket);
     }
     let operator = open_door(rt, format!(in alloc; "{dir}/operator"), made);
-    let operator = found(operator, None, fault)?;
+    let operator = found(operator, Door::Operator, fault)?;
     let mut listeners = Vec::new(alloc);
     for number in 0..clients {
         let listener = open_door(rt, format!(in alloc; "{dir}/client{number}"), made);
-        let listener = found(listener, Some(number), fault)?;
+        let listener = found(listener, Door::Client(number), fault)?;
         if listeners.push(listener).is_err() {
             return Err(ServeEnd::OutOfMemory);
         }
     }
+    let inspect = if inspect {
+        let listener = open_door(rt, format!(in alloc; "{dir}/inspect"), made);
+        Some(found(listener, Door::Inspect, fault)?)
+    } else {
+        None
+    };
     Ok(Doors {
         operator,
         clients: listeners,
+        inspect,
     })
 }
 
 // The socket, or the end of a server that cannot have it, with a note of why.
 fn found(
     opened: io::Result<UnixListener>,
-    client: Option<u8>,
+    door: Door,
     fault: &mut Option<DoorFault>,
 ) -> Result<UnixListener, ServeEnd> {
     match opened {
         Ok(listener) => Ok(listener),
         Err(error) if error.kind() == ErrorKind::OutOfMemory => Err(ServeEnd::OutOfMemory),
         Err(error) => {
-            *fault = Some(DoorFault { client, error });
+            *fault = Some(DoorFault { door, error });
             Err(ServeEnd::Socket)
         }
     }

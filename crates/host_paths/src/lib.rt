@@ -23,13 +23,14 @@
 //! |---|---|
 //! | `DIR/client0` to `DIR/client15` | a client, at the seat of that number |
 //! | `DIR/operator` | the operator |
+//! | `DIR/inspect` | who looks, by a thread of `host_rings` |
 //!
 //! A worker takes the work of its device's seat, does it from an image, and tells how it ended. It ends if the host has ended, if its image
 //! can count no more faults, or if the history is full, as then no work ever ends. Where memory was wanting, and after a busy read, it
 //! sleeps before it goes on. No rule reads a time.
 //!
 //! ```text
-//! let doors = open_doors(&rt, alloc, "/run/bfq", 4, &mut made, &mut fault)?;    // five sockets, and the paths of their files in `made`
+//! let doors = open_doors(&rt, alloc, "/run/bfq", 4, false, &mut made, &mut fault)?;    // five sockets, and the paths of their files in `made`
 //! let serving = start_paths(rt, alloc, doors, callers, operator)?;
 //! serving.join(&rt)                                                    // the connection of the operator, after his Stop
 //!
@@ -50,7 +51,7 @@ mod threads;
 mod worker;
 
 pub use asker::SeatAsker;
-pub use doors::{DoorFault, Doors, open_doors, remove_all};
+pub use doors::{Door, DoorFault, Doors, open_doors, remove_all};
 pub use end::ServeEnd;
 pub use operator::{serve_operator, tell_closed};
 pub use threads::{start_client, start_paths, start_workers};

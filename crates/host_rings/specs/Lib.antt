@@ -1,4 +1,5 @@
 pub mod Names
 pub mod Nearer
 pub mod Warning
+pub mod Watched
 pub mod Workers

@@ -83,6 +83,14 @@ impl Book {
         self.keeper.view()
     }
 
+    /// The keeper alone.
+    pub fn into_keeper(self) -> Keeper
+        ensures { result.state ≡ replay self.limits self.most (calls_of self.entries) }
+    {
+        let _replayed = self.keeper.journal_len();
+        self.keeper
+    }
+
     /// The entry of a number, from 0: whose it is, and the call.
     pub fn entry(&self, at: usize) -> Option<(SeatName, &Call)>
         ensures { option_map shown_entry result ≡ slice_get self.now.entries at }

@@ -1,9 +1,12 @@
-// A book as the core of a host knows it.
+// A book as the core of a host knows it, and as one who looks does.
+ghost use Rattle.host_rings.specs.Watched.{state_of};
 
 use crate::book::Book;
+use history::KeeperView;
 use host_calls::SeatName;
 use host_core::Judges;
 use plain::{Answer, Call};
+use script_host::Seen;
 use std::alloc::Global;
 
 impl Judges for Book {
@@ -19,5 +22,13 @@ impl Judges for Book {
 
     fn entry(&self, at: usize) -> Option<(SeatName, &Call)> {
         Book::entry(self, at)
+    }
+}
+
+impl Seen for Book {
+    ghost kept = { λ book. state_of book };
+
+    fn look(&self) -> KeeperView<'_> {
+        self.view()
     }
 }

@@ -35,31 +35,37 @@
 //!
 //! # A host that serves
 //!
-//! [`run_server`] ends once the operator has stopped the host; if a socket, a thread or memory is wanting, it says which. No clause
+//! [`run_host`] ends once the operator has stopped the host; if a socket, a thread or memory is wanting, it says which. No clause
 //! says that: none can name what a socket or a thread does. The calls that it puts together have theirs.
 //!
-//! The core has a thread, and so has each path and each device (`host_paths`). Between them stand the rings of the seats alone.
+//! The core has a thread, and so has each path and each device (`host_paths`). Between them stand the rings of the seats alone. If there
+//! is a path for looks, its thread asks at a seat of its own (`host_looks`), and the core tells between two turns what is asked there.
 //!
 //! ```text
-//! run_server(rt, alloc, config, images, ServeOptions { dir: "/run/bfq", clients: 4 }, &mut fault)   // Stopped, after the operator's Stop
+//! let options = ServeOptions { dir: "/run/bfq", clients: 4 };
+//! let watching = Watching { inspect: true, record: None };
+//! run_host(rt, alloc, config, images, options, watching, &mut fault)                     // Ok(Stopped), after the operator's Stop
+//! run_server(rt, alloc, config, images, options, &mut fault)                             // the same, with no path for looks
 //! ```
 
 mod book;
 mod judging;
 mod opening;
+mod recording;
 mod running;
 mod server;
 mod takes;
 mod taking;
 mod viewing;
 mod warning;
+mod watcher;
 
 pub use book::Book;
 pub use host_core::{
     Caller, DeviceSeat, NotSettled, OperatorSeat, SeatEnd, Settled, TurnReport, settle,
 };
-pub use host_paths::{DoorFault, ServeEnd};
+pub use host_paths::{Door, DoorFault, ServeEnd};
 pub use opening::{Core, CoreEnd, HostFault, host};
-pub use server::{ServeOptions, run_server};
+pub use server::{ServeOptions, Watching, run_host, run_server};
 pub use takes::take_work;
 pub use viewing::view;

@@ -2,14 +2,19 @@
 ghost use Rattle.std.specs.Prelude.{◌≤◌, length};
 
 use crate::opening::host;
-use crate::running::start_core;
+use crate::recording::open_record;
+use crate::running::{start_core, start_looks};
+use crate::warning::Warning;
+use crate::watcher::Watcher;
 use base_image::Image;
 use host_paths::{
     DoorFault, Doors, ServeEnd, open_doors, remove_all, start_paths, start_workers, tell_closed,
 };
+use run_record::Header;
+use run_recording::Recorder;
 use sector_core::Config;
 use std::alloc::Global;
-use std::io::Eprint;
+use std::io::{self, Eprint, Write};
 use std::net::Net;
 use std::os::unix::net::UnixStream;
 use std::rt::Files;
@@ -26,11 +31,16 @@ pub struct ServeOptions<'a> {
     pub clients: u8,
 }
 
-/// Serves a host over the images, one worker for each. The images are to tell one number of sectors; the host has as many as the first
-/// tells. Once the operator has stopped the host, the files of its sockets are removed, and then he is told: so he may start another host
-/// in the same folder. Threads that still meet a peer are left to the end of the process. If a path cannot be had `fault` tells why.
-///
-/// On standard error it says when it serves, once when nine tenths of the history are used, and once when it is full.
+/// Who sees a host that serves, beside its clients and its operator.
+#[derive(Clone, Copy)]
+pub struct Watching<'a> {
+    /// Whether there is a path for looks.
+    pub inspect: bool,
+    /// The file of the record, if one is to be made.
+    pub record: Option<&'a str>,
+}
+
+/// Serves a host over the images, one worker for each, and nobody sees it but its clients and its operator. See [`run_host`].
 pub fn run_server<
     R: Threads + Wait + Net + Files + Clock + Eprint + Copy + Drop + Send + 'static,
     I: Image + Drop + Send + 'static,
@@ -45,12 +55,86 @@ pub fn run_server<
     requires workers { 1 ≤ length images.items × length images.items ≤ 4 }
     requires clients { 1 ≤ options.clients × options.clients ≤ 16 }
 {
+    let ServeOptions { dir, clients } = options;
     let mut made = Vec::new(alloc);
-    let served = match open_doors(&rt, alloc, options.dir, options.clients, &mut made, fault) {
-        Ok(doors) => serve_at(rt, alloc, config, images, doors, options),
+    let served = match open_doors(&rt, alloc, dir, clients, false, &mut made, fault) {
+        Ok(doors) => serve_at(
+            rt,
+            alloc,
+            config,
+            images,
+            doors,
+            options,
+            None::<Recorder<Vec<u8>>>,
+        ),
         Err(end) => Err(end),
     };
-    remove_all(&rt, made.as_slice());
+    end_at(&rt, alloc, made, served)
+}
+
+/// Serves a host over the images, one worker for each. The images are to tell one number of sectors; the host has as many as the first
+/// tells. Once the operator has stopped the host, the files of its sockets are removed, and then he is told: so he may start another host
+/// in the same folder. Threads that still meet a peer are left to the end of the process. If a path cannot be had `fault` tells why.
+///
+/// A record is made once the sockets are there. It has the journal's entries, in order, also at the end.
+///
+/// On standard error it says when it serves, once when nine tenths of the history are used, once when it is full, and once that the record
+/// has failed and ends.
+///
+/// # Errors
+///
+/// The file of the record is there (`AlreadyExists`), or cannot be made. Then nothing was served, and the sockets are removed.
+pub fn run_host<
+    R: Threads + Wait + Net + Files + Clock + Eprint + Copy + Drop + Send + 'static,
+    I: Image + Drop + Send + 'static,
+>(
+    rt: R,
+    alloc: Global,
+    config: Config,
+    images: Vec<I>,
+    options: ServeOptions<'_>,
+    watching: Watching<'_>,
+    fault: &mut Option<DoorFault>,
+) -> io::Result<ServeEnd>
+where
+    R::File: Write + Drop + Send + 'static,
+    requires workers { 1 ≤ length images.items × length images.items ≤ 4 }
+    requires clients { 1 ≤ options.clients × options.clients ≤ 16 }
+{
+    let ServeOptions { dir, clients } = options;
+    let inspect = watching.inspect;
+    let mut made = Vec::new(alloc);
+    let served = match open_doors(&rt, alloc, dir, clients, inspect, &mut made, fault) {
+        Err(end) => Err(end),
+        Ok(doors) => {
+            let recorder = match watching.record {
+                None => None,
+                Some(path) => {
+                    let sectors = images[0].sectors();
+                    let header = Header { config, sectors };
+                    match open_record(&rt, alloc, path, &header) {
+                        Ok(recorder) => Some(recorder),
+                        Err(error) => {
+                            remove_all(&rt, made.as_slice());
+                            return Err(error);
+                        }
+                    }
+                }
+            };
+            serve_at(rt, alloc, config, images, doors, options, recorder)
+        }
+    };
+    Ok(end_at(&rt, alloc, made, served))
+}
+
+// The end of a host: its files are removed, and then the operator is told, if he waits for it.
+fn end_at(
+    rt: &impl Files,
+    alloc: Global,
+    made: Vec<String>,
+    served: Result<UnixStream, ServeEnd>,
+) -> ServeEnd {
+    remove_all(rt, made.as_slice());
     match served {
         Ok(stream) => {
             tell_closed(alloc, &mut &stream);
@@ -60,10 +144,12 @@ pub fn run_server<
     }
 }
 
-// Waits for the operator's thread of a host. Gives the connection on which he is to be told that the host has ended.
+// Waits for the operator's thread of a host, and then for the core's. Gives the connection on which he is to be told that the host has
+// ended.
 fn serve_at<
     R: Threads + Wait + Clock + Eprint + Copy + Drop + Send + 'static,
     I: Image + Drop + Send + 'static,
+    W: Write + Drop + Send + 'static,
 >(
     rt: R,
     alloc: Global,
@@ -71,27 +157,38 @@ fn serve_at<
     images: Vec<I>,
     doors: Doors,
     options: ServeOptions<'_>,
+    recorder: Option<Recorder<W>>,
 ) -> Result<UnixStream, ServeEnd>
     requires { length images.items ≤ 4 }
 {
     let workers = images.len();
-    let serving = start_host(rt, alloc, config, images, doors)?;
+    let Started { operator, core } = start_host(rt, alloc, config, images, doors, recorder)?;
     let ServeOptions { dir, clients } = options;
     let _ = eprintln!(rt; "serving {dir}, {clients} clients, {workers} workers");
-    Ok(serving.join(&rt))
+    let stream = operator.join(&rt);
+    core.join(&rt);
+    Ok(stream)
 }
 
-// Makes the host, and starts its threads. Gives the operator's.
+// The threads of a host that are waited for.
+struct Started {
+    operator: JoinHandle<UnixStream>,
+    core: JoinHandle<()>,
+}
+
+// Makes the host, and starts its threads.
 fn start_host<
     R: Threads + Wait + Clock + Eprint + Copy + Drop + Send + 'static,
     I: Image + Drop + Send + 'static,
+    W: Write + Drop + Send + 'static,
 >(
     rt: R,
     alloc: Global,
     config: Config,
     images: Vec<I>,
-    doors: Doors,
-) -> Result<JoinHandle<UnixStream>, ServeEnd>
+    mut doors: Doors,
+    recorder: Option<Recorder<W>>,
+) -> Result<Started, ServeEnd>
     requires { length images.items ≤ 4 }
 {
     let sectors = match images.first() {
@@ -102,7 +199,14 @@ fn start_host<
     let Ok((core, callers, devices, operator)) = host(alloc, config, sectors, workers) else {
         return Err(ServeEnd::OutOfMemory);
     };
-    start_core(rt, alloc, core, config.history_max)?;
+    let looks = start_looks(rt, alloc, &core, doors.inspect.take())?;
+    let watcher = Watcher {
+        warning: Warning::new(config.history_max),
+        recorder,
+        looks,
+    };
+    let core = start_core(rt, alloc, core, watcher)?;
     start_workers(rt, alloc, devices, images)?;
-    start_paths(rt, alloc, doors, callers, operator)
+    let operator = start_paths(rt, alloc, doors, callers, operator)?;
+    Ok(Started { operator, core })
 }

@@ -7,6 +7,7 @@
 //! | `book` | what calls of all kinds of seat are answered by the journal, whose entries there are, and which work a device takes |
 //! | `desks` | which calls are taken and when, what comes back, and what is asked at the seats of each kind |
 //! | `asking` | a seat and its desk in two threads, which look and sleep |
+//! | `looks` | a look wakes a core that sleeps, tells of its last turn, and of nothing once it has ended |
 //! | `operators` | a connection of the operator ends at its limit of frames, and what is behind it is not asked |
 //! | `runs` | how often a core that runs shows its journal, and how many workers a host may have |
 //! | `settling` | what is left of a seat that ends before all is answered and collected |
@@ -14,7 +15,7 @@
 //! | `workers` | what a client reads if a worker does the device's work in a thread of its own, from images whose first read fails or not |
 //! | `served` | two clients at once over two images, each with a worker; the operator's freeze and stop by the asking of his command |
 //!
-//! `opening` has the usual configuration and the hosts of `operators`, `runs`, `settling` and `threads`; `gate` the images of `served`,
+//! `opening` has the usual configuration and the hosts of `looks`, `operators`, `runs`, `settling` and `threads`; `gate` the images of `served`,
 //! and `peer` its clients. What a core answers to each call of each kind of seat, whom it answers and when it dispatches is compared by
 //! the scripts of `tests/rings`, which the program of `ring_bench` plays; clients in threads of their own are compared by the same
 //! program.
@@ -27,6 +28,8 @@ mod book;
 mod desks;
 #[cfg(test)]
 mod gate;
+#[cfg(test)]
+mod looks;
 #[cfg(test)]
 mod opening;
 #[cfg(test)]

@@ -32,7 +32,7 @@ fn shown<R: Wait>(rt: &R, alloc: Global) -> Result<(u64, u64, u32), Fail> {
     let _staged = operator.stage(OperatorCall::Stop);
     let mut times = 0u64;
     let mut sum = 0u64;
-    core.run_watched(rt, alloc, |book| {
+    core.run_watched(rt, alloc, |book, _| {
         times = times.wrapping_add(1);
         sum = sum.wrapping_add(entries(book));
     });

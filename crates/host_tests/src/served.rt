@@ -144,6 +144,9 @@ fn clients_and_the_operator(rt: HostRuntime) -> Result<(), Fail> {
         },
     )?;
     let peers = peers(rt, dir.as_str())?;
+    // Nobody but clients and the operator has a path.
+    let inspect = format!(in rt.alloc(); "{dir}/inspect")?;
+    assert!(rt; fs::symlink_metadata(&rt, inspect.as_str()).is_err());
     assert!(rt; all_answer(rt.alloc(), &peers));
     assert_eq!(rt; serving.join(&rt), ServeEnd::Stopped);
     // The sockets are gone, so the folder is empty.

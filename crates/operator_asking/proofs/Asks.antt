@@ -2,15 +2,15 @@
 use Rattle.std.proofs.Common.{◌≡◌, ℕ, List, Bool, true, false, Result, Ok, Err, inl, subst}
 use Rattle.std.specs.Io.KnownBytes.{Appends}
 use Rattle.session_proto.specs.declared.fault.Fault.{Fault}
-use Rattle.operator_asking.specs.Asked.{Known, IsWritten, WroteFront, Receives, Ends}
+use Rattle.operator_asking.specs.Asked.{Known, IsFlushed, WroteFront, Receives, Ends}
 use Rattle.operator_asking.specs.declared.fault.AskFault.{AskFault}
 use Rattle.operator_asking.specs.declared.fault.AskFault.TheVariants.{Socket, Frame, OutOfMemory}
 
-pub written : (w0 w1 : Known) (bytes frame : List ℕ) (all : Bool) → bytes ≡ frame → IsWritten w0 w1 bytes all → all ≡ true → Appends w0 w1 frame
+pub written : (w0 w1 : Known) (bytes frame : List ℕ) (all : Bool) → bytes ≡ frame → IsFlushed w0 w1 bytes all → all ≡ true → Appends w0 w1 frame
 written w0 w1 bytes frame true same wrote is = subst (Appends w0 w1) same wrote
 written w0 w1 bytes frame false same wrote is = absurd cc
 
-pub unwritten : (w0 w1 : Known) (bytes frame : List ℕ) (all : Bool) → bytes ≡ frame → IsWritten w0 w1 bytes all → all ≡ false → WroteFront w0 w1 frame
+pub unwritten : (w0 w1 : Known) (bytes frame : List ℕ) (all : Bool) → bytes ≡ frame → IsFlushed w0 w1 bytes all → all ≡ false → WroteFront w0 w1 frame
 unwritten w0 w1 bytes frame true same wrote is = absurd cc
 unwritten w0 w1 bytes frame false same wrote is = subst (WroteFront w0 w1) same wrote
 

@@ -1,5 +1,5 @@
 -- Bytes that are taken and appended one after another.
-use Rattle.std.proofs.Common.{◌≡◌, ℕ, List, [], ◌++◌, take, drop, Some, None, refl, sym, ap, ◌∙◌, append_assoc, append-nil, take-append-drop}
+use Rattle.std.proofs.Common.{ℕ, List, [], ◌++◌, Some, None, refl, sym, ap, ◌∙◌, append_assoc, append-nil}
 use Rattle.std.specs.Io.KnownBytes.{Appends, Consumes}
 use Rattle.operator_asking.specs.Asked.{Known}
 
@@ -22,16 +22,3 @@ Consumes-more None b c x y h k = tt
 Consumes-more (Some xs) None c x y h k = absurd h
 Consumes-more (Some xs) (Some ys) None x y h k = absurd k
 Consumes-more (Some xs) (Some ys) (Some zs) x y h k = h ∙ ap (λ l. x ++ l) k ∙ sym (append_assoc x y zs)
-
--- after a front of a frame, a front of what is left of it
-pub front-more : (frame front left rest : List ℕ) (n : ℕ) (a b c : Known) → frame ≡ front ++ left → Appends a b front
-    → rest ≡ drop n left → Appends b c (take n left) → (x : List ℕ) × (frame ≡ x ++ rest) × Appends a c x
-front-more frame front left rest n a b c e h d k = (
-  front ++ take n left,
-  e ∙ ap (λ l. front ++ l) (sym (take-append-drop n left) ∙ ap (λ l. take n left ++ l) (sym d)) ∙ sym (append_assoc front (take n left) rest),
-  Appends-more a b c front (take n left) h k,
-)
-
-pub front-left : (frame front left : List ℕ) (n : ℕ) (a b c : Known) → frame ≡ front ++ left → Appends a b front
-    → Appends b c (take n left) → (x : List ℕ) × (y : List ℕ) × (frame ≡ x ++ y) × Appends a c x
-front-left frame front left n a b c e h k = let more = front-more frame front left (drop n left) n a b c e h refl k in (more.0, drop n left, more.1, more.2)

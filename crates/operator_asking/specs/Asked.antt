@@ -21,10 +21,10 @@ most_piece = 4096
 abbrev pub WroteFront : Known → Known → List ℕ → Type 0
 WroteFront w0 w1 bytes = (front : List ℕ) × (unwritten : List ℕ) × (bytes ≡ front ++ unwritten) × Appends w0 w1 front
 
--- all of the bytes were written, or only a front of them
-abbrev pub IsWritten : Known → Known → List ℕ → Bool → Type 0
-IsWritten w0 w1 bytes true = Appends w0 w1 bytes
-IsWritten w0 w1 bytes false = WroteFront w0 w1 bytes
+-- all of the bytes were written and flushed; or a front of them was written, if only that
+abbrev pub IsFlushed : Known → Known → List ℕ → Bool → Type 0
+IsFlushed w0 w1 bytes true = Appends w0 w1 bytes
+IsFlushed w0 w1 bytes false = WroteFront w0 w1 bytes
 
 -- these bytes were read, all but the last piece of which no frame was whole: nothing is read once it is known
 -- what the bytes begin with (our profile)

@@ -8,7 +8,9 @@ use Rattle.plain.specs.Members.{IsActiveAt, Service, least_start}
 
 -- the virtual times of a group, and its members of all classes by entity number (B-WF2Q+; classes are bfq's, the places by number our profile)
 pub record Classes : Type 0 where
+  -- a virtual time of each class (B-WF2Q+; one for each class is our profile)
   pub vtimes : Vtimes
+  -- the members of all classes, each at the place of its entity's number (bfq; the places are our profile)
   pub members : List (Option Member)
 
 -- the order of the classes, the highest first (bfq)

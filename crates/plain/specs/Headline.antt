@@ -8,7 +8,8 @@ use Rattle.plain.specs.Opening.{Limits}
 use Rattle.plain.specs.Step.{MayGiveWay}
 use Rattle.plain.specs.Keeper.{State, opened, called, MayWant}
 
--- what a call may be answered: the plain answer; or want of memory, with no change, if the plain one accepts, or finds a time too great (our profile)
+-- what a call may be answered: the plain answer; or, but for Undo, want of memory with no change, if the plain one accepts or finds a time too great
+-- (our profile)
 abbrev pub MayCall : State → Call → Answer → State → Type 0
 MayCall k call answer next =
     ((next, answer) ≡ called k call) ⊎ (MayGiveWay (called k call).1 × MayWant call × (answer ≡ Refused OutOfMemory) × (next ≡ k))

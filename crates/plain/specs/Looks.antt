@@ -20,7 +20,7 @@ vtime_view m group class = if stands m.bfq group then Some (vtime_of m.bfq group
 abbrev pub service_of : State → Bfq → ℕ
 service_of Idle b = 0
 service_of Active b = 0
-service_of Serving b = option_map_or (λ slot. slot.service) b.in_service 0
+service_of Serving b = option_map_or (λ current. current.service) b.in_service 0
 
 -- what is known of an entity, if it is in a group (our profile)
 abbrev pub entity_view : Plain → ℕ → Option EntityView

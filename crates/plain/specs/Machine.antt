@@ -37,7 +37,7 @@ pub record Bfq : Type 0 where
   pub service : ℕ → Classes
   -- the weight that an entity gets when it is stamped next (our profile, as the kernel's code)
   pub pending : ℕ → ℕ
-  -- bfq: how many sectors an entity may be served at a time
+  -- bfq: how many sectors the queue of a session may be served at a time; a group's number makes its finish alone
   pub budget : ℕ → ℕ
   -- bfq: the one queue in service, if one is: its seat, the sectors sent for it, and its age in ticks (ticks are our profile)
   pub in_service : Option InService
@@ -60,7 +60,7 @@ pub record Plain : Type 0 where
   pub frozen : Bool
   -- the seat that the round robin served last (our profile)
   pub served : ℕ
-  -- the sector from which a seat's queue is served next (bfq; one direction is our profile)
+  -- the sector from which a seat's queue is served next: the end of what was sent last (our profile, as the kernel's code)
   pub head : ℕ → ℕ
   -- what BFQ knows of entities and groups (bfq)
   pub bfq : Bfq

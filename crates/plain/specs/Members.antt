@@ -7,10 +7,12 @@ use Rattle.plain.specs.declared.member.Member.{Member}
 
 -- a class of a group: its virtual time, and its members by entity number (B-WF2Q+; the places by number are our profile)
 pub record Service : Type 0 where
+  -- the virtual time of the class (B-WF2Q+)
   pub vtime : ℕ
+  -- its members, each at the place of its entity's number (B-WF2Q+; the places are our profile)
   pub members : List (Option Member)
 
--- a member in this state waits to be picked (B-WF2Q+: backlogged)
+-- a member in this state waits to be picked: it is backlogged, and not in service (B-WF2Q+)
 abbrev pub is_active : State → Bool
 is_active Idle = false
 is_active Active = true
@@ -40,12 +42,12 @@ numbered base (Some m ∷ members) = (base, m) ∷ numbered (base + 1) members
 abbrev pub weight_sum : ℕ → List (Option Member) → ℕ
 weight_sum vtime members = sum_by (λ e. e.1.weight) (filter (λ e. does_count vtime e.1) (numbered 0 members))
 
--- the lesser of a number and what may be another one (B-WF2Q+)
+-- the lesser of a number and what may be another one (our profile)
 abbrev pub lesser : ℕ → Option ℕ → ℕ
 lesser n None = n
 lesser n (Some other) = if nat_lt other n then other else n
 
--- the least number of a list, if it has one (B-WF2Q+)
+-- the least number of a list, if it has one (our profile)
 abbrev pub least : List ℕ → Option ℕ
 least [] = None
 least (n ∷ ns) = Some (lesser n (least ns))

@@ -8,7 +8,7 @@ use Rattle.sector_core.specs.declared.bio.Bio.{Bio}
 use Rattle.plain.specs.declared.shape.Shape.{Shape}
 use Rattle.plain.specs.Lists.{first_in}
 
--- what a merge asks of a request: it starts where its first bio does and has the sectors of all of them (blk-mq)
+-- what a merge asks of these bios of a session: they start where the first one does and have the sectors of all of them (blk-mq)
 abbrev pub shape_of : ℕ → Op → List Bio → Shape
 shape_of session op bios = record {
   session = session;

@@ -10,7 +10,7 @@ use Rattle.plain.specs.declared.shape.Shape.{Shape}
 use Rattle.plain.specs.Merge.{shape_of}
 use Rattle.plain.specs.Opening.{Limits}
 
--- what a merge asks of a request (our profile)
+-- the same of a request, which is there always (blk-mq)
 abbrev pub shape : WholeRequest → Option Shape
 shape request = Some (shape_of request.session request.op request.bios)
 

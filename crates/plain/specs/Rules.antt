@@ -176,15 +176,17 @@ charge_one sectors entity b =
 
 -- the queue in service has been sent these sectors too (bfq)
 abbrev pub served_more : ℕ → InService → Bfq → Bfq
-served_more sectors slot b = record b { in_service = Some (record slot { service = slot.service + sectors }) }
+served_more sectors current b = record b { in_service = Some (record current { service = current.service + sectors }) }
 
--- some sectors are charged to the queue in service, if there is one, and to each entity of its path, the session first (B-WF2Q+)
+-- some sectors are charged to the queue in service and to each entity of its path, the session first; with no queue it is refused (B-WF2Q+; the
+-- refusal is our profile)
 abbrev pub charge : ℕ → Bfq → Option Bfq
-charge sectors b = option_and_then (λ slot. along (charge_one sectors) (path b.parent slot.seat) (served_more sectors slot b)) b.in_service
+charge sectors b = option_and_then (λ current. along (charge_one sectors) (path b.parent current.seat) (served_more sectors current b)) b.in_service
 
 -- Expire: the session gets a new budget, by the cause (bfq), and its path leaves the service (B-WF2Q+).
 
--- a queue's new budget: greater if it was used up or its time was over, and what was served if the queue is empty (bfq; the numbers are our profile)
+-- a queue's new budget: four or two times as great, up to the greatest, if it was used up or its time was over; and what was served, but at least
+-- 256 sectors, if the queue is empty (bfq; the numbers are our profile)
 abbrev pub budget_after : Expiry → ℕ → ℕ → ℕ → ℕ
 budget_after Exhaustion budget service most = min (4 * budget) most
 budget_after Timeout budget service most = min (2 * budget) most
@@ -211,12 +213,13 @@ expire_one service queued entity b =
 
 -- no queue is in service any more, and the one that was has its new budget (bfq)
 abbrev pub out_of_service : Expiry → ℕ → InService → Bfq → Bfq
-out_of_service cause most slot b = record b { budget = put b.budget slot.seat (budget_after cause (b.budget slot.seat) slot.service most); in_service = None }
+out_of_service cause most current b = record b { budget = put b.budget current.seat (budget_after cause (b.budget current.seat) current.service most); in_service = None }
 
--- the queue in service, if there is one, expires for a cause, and each entity of its path leaves the service (bfq; B-WF2Q+ for the times)
+-- the queue in service expires for a cause, and each entity of its path leaves the service; with no queue it is refused (bfq; B-WF2Q+ for the times;
+-- the refusal is our profile)
 abbrev pub expire : Expiry → ℕ → Bool → Bfq → Option Bfq
 expire cause most queued b =
-    option_and_then (λ slot. along (expire_one slot.service queued) (path b.parent slot.seat) (out_of_service cause most slot b)) b.in_service
+    option_and_then (λ current. along (expire_one current.service queued) (path b.parent current.seat) (out_of_service cause most current b)) b.in_service
 
 -- a group stands: the root always, another one if its entity is in a group (bfq; the numbers are our profile)
 abbrev pub stands : Bfq → ℕ → Bool

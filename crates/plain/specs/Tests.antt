@@ -1,4 +1,5 @@
--- A step is refused by the first of its tests that holds, and then nothing changes; a full history comes last (our profile).
+-- A step is answered by the first of its tests that holds, and then nothing changes. Behind them come a full history, and then a time that would be
+-- too great (our profile).
 use Rattle.std.specs.Prelude.{Bool, List, Option, None, Some, if◌then◌else◌}
 use Rattle.plain.specs.Lists.{first_of}
 use Rattle.plain.specs.Machine.{Plain}
@@ -11,7 +12,7 @@ use Rattle.plain.specs.declared.answer.Answer.TheVariants.{Accepted, Refused}
 abbrev pub StepResult : Type 0
 StepResult = Plain × Answer
 
--- the step is refused by the first test that holds, and else does this (our profile)
+-- the step has the answer of the first test that holds, and else does this (our profile)
 abbrev pub unless : List (Bool × Answer) → Plain → StepResult → StepResult
 unless tests m outcome = elim (first_of tests) [ None ↦ outcome | Some answer ↦ (m, answer) ]
 
@@ -19,7 +20,7 @@ unless tests m outcome = elim (first_of tests) [ None ↦ outcome | Some answer 
 abbrev pub accepted : Bool → Plain → Plain → Reply → StepResult
 accepted room m next reply = if room then (next, Accepted reply) else (m, Refused HistoryFull)
 
--- the same of a step with a rule that is refused if a time would be too great; a full history is the answer before that (our profile)
+-- the same of a step that may give no machine, which is refused as a time too great; a full history is the answer before that (our profile)
 abbrev pub accepted_if : Bool → Plain → Option (Plain × Reply) → StepResult
 accepted_if room m None = (m, Refused (if room then VtimeFull else HistoryFull))
 accepted_if room m (Some next) = accepted room m next.0 next.1

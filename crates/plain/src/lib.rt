@@ -4,7 +4,7 @@
 //! Read `specs/Headline.antt` first: what the contracts of the keeper cite. Below it stand `Keeper` (the line, the cursor and the
 //! journal), `Step` and `Steps` (one file for each of the fourteen steps: its tests in order, then what it does), `Machine` (the record `Plain`),
 //! `Rules` (the four rules of BFQ), `Members` and `Classes` (B-WF2Q+'s questions about a group), `Groups`, `Merge` and `Next`.
-//! Each definition tells its origin: a kernel document, the paper on B-WF2Q+, or our profile. No table, slot or list of links is named.
+//! Each definition tells its origin: a kernel document, the paper on B-WF2Q+, or our profile. No table and no list of links is named.
 //!
 //! `Looks` has what a look shows, `Device` which step a device's call asks for, `Runs` the stored sectors that follow each other.
 //!

@@ -16,7 +16,7 @@ pub struct Sizes {
     pub first_budget: u32,
     /// The greatest budget in sectors.
     pub max_budget: u32,
-    /// How many ticks a queue may be in service.
+    /// The tick at which a queue in service is due to expire: with as many it is over.
     pub timeout: u32,
     /// The virtual time at which every group starts.
     pub first_vtime: u64,

@@ -16,7 +16,7 @@ use Rattle.plain.specs.Opening.{Limits}
 use Rattle.plain.specs.Entities.{is_bfq}
 use Rattle.plain.specs.Steps.Submit.{woken}
 use Rattle.plain.specs.Requests.{range_of}
-use Rattle.plain.specs.Steps.Dispatch.{next_size, with_budget_in, with_slot, without_empty, sent_by_bfq}
+use Rattle.plain.specs.Steps.Dispatch.{next_size, with_budget_in, with_selected, without_empty, sent_by_bfq}
 use Rattle.plain_laws.proofs.Puts.{some_is, and_then_is, map_is}
 use Rattle.plain_laws.proofs.Sent.{rest_of, sent-is}
 use Rattle.plain_laws.proofs.Placed.{least_of}
@@ -221,8 +221,8 @@ with_budget_in-keeps l E Q k m (Some slot) b e h =
       ] early
     ] e
 
-pub with_slot-keeps : (Q : Bfq → Type 0) → Selects Q → (b : Bfq) → Q b → Q (with_slot b)
-with_slot-keeps Q k b h = elim (is_none b.in_service) as (λ t. Q (cond t (select b) b)) [ true ↦ select-keeps Q k b h | false ↦ h ]
+pub with_selected-keeps : (Q : Bfq → Type 0) → Selects Q → (b : Bfq) → Q b → Q (with_selected b)
+with_selected-keeps Q k b h = elim (is_none b.in_service) as (λ t. Q (cond t (select b) b)) [ true ↦ select-keeps Q k b h | false ↦ h ]
 
 without_empty-keeps : (l : Limits) (E : ℕ → Type 0) (Q : Bfq → Type 0) → Changes l.max_budget E Q → (queue : List WholeRequest) (b c : Bfq) → without_empty l queue b ≡ Some c → Q b → Q c
 without_empty-keeps l E Q k queue b c e h = elim (is_empty queue) as (λ t. cond t (expire Emptying l.max_budget false b) (Some b) ≡ Some c → Q c) [
@@ -233,7 +233,7 @@ without_empty-keeps l E Q k queue b c e h = elim (is_empty queue) as (λ t. cond
 pub sent_by_bfq-rules : (l : Limits) (E : ℕ → Type 0) (Q : Bfq → Type 0) → Changes l.max_budget E Q → (m : Plain) (n tag : ℕ) (o : Plain × Reply) → sent_by_bfq l m n tag ≡ Some o → Q m.bfq → Q o.0.bfq
 sent_by_bfq-rules l E Q k m n tag o e h =
     let s = sent-is l m n tag o e in
-    let chosen : Q (with_slot s.ready) = with_slot-keeps Q k.selects s.ready (with_budget_in-keeps l E Q k m m.bfq.in_service s.ready s.readies h) in
-    let charged : Q s.charged = charge-keeps l.max_budget E Q k (range_of s.request.bios).count (with_slot s.ready) s.charged s.charges chosen in
+    let chosen : Q (with_selected s.ready) = with_selected-keeps Q k.selects s.ready (with_budget_in-keeps l E Q k m m.bfq.in_service s.ready s.readies h) in
+    let charged : Q s.charged = charge-keeps l.max_budget E Q k (range_of s.request.bios).count (with_selected s.ready) s.charged s.charges chosen in
     let P : Plain × Reply → Type 0 = λ x. Q x.0.bfq in
     subst P s.made (without_empty-keeps l E Q k (rest_of m s.slot.seat s.request) s.charged s.last s.ends charged)

@@ -9,7 +9,7 @@ use Rattle.plain.specs.declared.answer.Reply.{Reply}
 use Rattle.plain.specs.declared.answer.Reply.TheVariants.{Issued}
 use Rattle.plain.specs.Opening.{Limits}
 use Rattle.plain.specs.Requests.{shape, range_of}
-use Rattle.plain.specs.Steps.Dispatch.{next_request, with_budget_in, with_slot, without_first, without_empty, sent_next, sent_in, sent_by_bfq}
+use Rattle.plain.specs.Steps.Dispatch.{next_request, with_budget_in, with_selected, without_first, without_empty, sent_next, sent_in, sent_by_bfq}
 use Rattle.plain_laws.proofs.Puts.{and_then_is, map_is}
 use Rattle.plain_laws.proofs.Sendings.{dispatched}
 
@@ -30,19 +30,19 @@ pub record Sent (l : Limits) (m : Plain) (n tag : ℕ) (o : Plain × Reply) : Ty
   pub ready : Bfq
   pub readies : with_budget_in l m m.bfq.in_service ≡ Some ready
   pub slot : InService
-  pub serves : (with_slot ready).in_service ≡ Some slot
+  pub serves : (with_selected ready).in_service ≡ Some slot
   pub request : WholeRequest
   pub next : next_request m slot.seat ≡ Some request
   pub charged : Bfq
-  pub charges : charge (range_of request.bios).count (with_slot ready) ≡ Some charged
+  pub charges : charge (range_of request.bios).count (with_selected ready) ≡ Some charged
   pub last : Bfq
   pub ends : without_empty l (rest_of m slot.seat request) charged ≡ Some last
   pub made : sent_to m n tag slot.seat request last ≡ o
 
 pub sent-is : (l : Limits) (m : Plain) (n tag : ℕ) (o : Plain × Reply) → sent_by_bfq l m n tag ≡ Some o → Sent l m n tag o
 sent-is l m n tag o e =
-    let within = and_then_is (λ b. sent_in l m n tag (with_slot b)) (with_budget_in l m m.bfq.in_service) o e in
-    let b : Bfq = with_slot within.0 in
+    let within = and_then_is (λ b. sent_in l m n tag (with_selected b)) (with_budget_in l m m.bfq.in_service) o e in
+    let b : Bfq = with_selected within.0 in
     let slot = and_then_is (λ slot. option_and_then (sent_next l m n tag b slot.seat) (next_request m slot.seat)) b.in_service o within.2 in
     let seat : ℕ = slot.0.seat in
     let next = and_then_is (sent_next l m n tag b seat) (next_request m seat) o slot.2 in

@@ -24,7 +24,15 @@ where
     };
     let clients = number(clients.as_bytes()).unwrap_or(1).min(16) as u8;
     let mut made = Vec::new(rt.alloc());
-    let served = match open_doors(&rt, rt.alloc(), dir.as_str(), clients, &mut made, &mut None) {
+    let served = match open_doors(
+        &rt,
+        rt.alloc(),
+        dir.as_str(),
+        clients,
+        false,
+        &mut made,
+        &mut None,
+    ) {
         Ok(doors) => serve(rt, rt.alloc(), doors, kind.as_str() == "write"),
         Err(end) => Err(end),
     };

@@ -4,12 +4,16 @@
 //! | call | rule that it meets |
 //! |---|---|
 //! | [`run_script`] | what is written is the text of the lines read, with answers that the keeper's rules allow |
+//! | [`run_script_at`] | the same on a keeper that is in whatever state |
+//! | [`put_step`] | a step as a line of a script spells it |
+//! | [`Host`] | a keeper as a console needs it, also one that is only looked at |
+//! | [`Seen`] | a look at a keeper |
 //!
 //! What a console asks of a keeper the keeper of a history answers (`host`). The text of a line that begins with `show` is that of the
 //! keeper, and nothing else (`looks`). A list of the machine is shown item by item, as it stands there: nothing is copied, and memory is
 //! taken for the text alone. What each look shows is defined in `host_console`.
 //!
-//! Nothing else is public. Who shows a type shows all that it is made of, and that made this library ten times as large.
+//! Nothing else is public: who shows a type shows all that it is made of.
 //!
 //! ```text
 //! show seat 0         // seat 0 1 0 4 1 0 here
@@ -30,4 +34,6 @@ mod script;
 mod seats;
 mod steps;
 
-pub use script::run_script;
+pub use host::{Host, Seen};
+pub use script::{run_script, run_script_at};
+pub use steps::put_step;

@@ -2,7 +2,7 @@
 ghost use Rattle.std.specs.Prelude.{◌<◌, ◌^◌};
 ghost use Rattle.plain.specs.Step.{of_sizes};
 ghost use Rattle.dispatch_core.specs.Running.{sizes_of};
-ghost use Rattle.script_host.specs.Run.{IsRun};
+ghost use Rattle.script_host.specs.Run.{IsRun, IsRunAt};
 
 use crate::host::Host;
 use base_image::Image;
@@ -32,6 +32,21 @@ pub fn run_script<R: Read, W: Write, I: Image + Drop>(
         Ok(keeper) => keeper,
         Err(_) => return ScriptEnd::OutOfMemory,
     };
+    run_script_at(alloc, keeper, reader, writer, image)
+}
+
+/// Runs the lines of the reader in turn on a keeper in whatever state, over the image. See [`run_script`].
+pub fn run_script_at<R: Read, W: Write, I: Image + Drop>(
+    alloc: Global,
+    keeper: Keeper,
+    reader: &mut R,
+    writer: &mut W,
+    image: I,
+) -> ScriptEnd
+    requires { (I.disk image).faults < 2 ^ 63 }
+    ensures { IsRunAt keeper.state (I.disk image)
+        (R.remaining reader.old) (R.remaining reader.new) (W.contents writer.old) (W.contents writer.new) result }
+{
     let teller = Teller {
         keeper: Host { keeper },
         image,

@@ -15,11 +15,11 @@ pub fn put_numbered(number: u32, stamped: &Stamped, out: &mut Vec<u8>) -> io::Re
 {
     let serial = stamped.serial;
     write!(out, "step {number} {serial} ")?;
-    put_line(&stamped.step, out)
+    put_step(&stamped.step, out)
 }
 
-// Appends the line of a step.
-fn put_line(step: &Step, out: &mut Vec<u8>) -> io::Result<()>
+/// Appends the line of a step: bytes that are not all alike are two dots. It fails only for want of memory.
+pub fn put_step(step: &Step, out: &mut Vec<u8>) -> io::Result<()>
     ensures { OnOk result (out.new.items ≡ out.old.items ++ line_text step.now) }
 {
     match step {

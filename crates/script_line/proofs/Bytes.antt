@@ -1,5 +1,5 @@
 -- Bytes taken and appended one after another, and lines one after another.
-use Rattle.std.proofs.Common.{◌≡◌, ℕ, List, [], ◌∷◌, ◌++◌, refl, sym, ap, subst, ◌∙◌, append_assoc, append-nil, take, drop, take-append-drop, drop-cons, add-one, get_or, length, ◌<◌, ◌+◌}
+use Rattle.std.proofs.Common.{◌≡◌, ℕ, List, [], ◌∷◌, ◌++◌, refl, sym, ap, subst, ◌∙◌, append_assoc, append-nil, drop, drop-cons, add-one, get_or, length, ◌<◌, ◌+◌}
 use Rattle.std.specs.Prelude.{None, Some, Option, MatchOption, IfNone}
 use Rattle.std.specs.List.{AllByRecursion}
 use Rattle.std.specs.Io.KnownBytes.{Appends, Consumes, Keeps}
@@ -68,14 +68,6 @@ Runs-push prints c0 (l ∷ ls) text mid line printed c1 runs step = (
 pub Match-weaker : {X : Type 0} (o : Option X) (N P P' : Type 0) (Q : X → Type 0) → IfNone o N → (N → P → P') → MatchOption o P Q → MatchOption o P' Q
 Match-weaker None N P P' Q n f h = f n h
 Match-weaker (Some x) N P P' Q n f h = h
-
-pub more_front : (text front rest : List ℕ) (n : ℕ) (left : List ℕ) (w0 w1 w2 : Known) → text ≡ front ++ rest → Appends w0 w1 front
-    → left ≡ drop n rest → Appends w1 w2 (take n rest) → (x : List ℕ) × (text ≡ x ++ left) × Appends w0 w2 x
-more_front text front rest n left w0 w1 w2 whole wrote is more = (
-  front ++ take n rest,
-  whole ∙ ap (λ l. front ++ l) (sym (take-append-drop n rest)) ∙ ap (λ l. front ++ (take n rest ++ l)) (sym is) ∙ sym (append_assoc front (take n rest) left),
-  Appends-more w0 w1 w2 front (take n rest) wrote more,
-)
 
 pub drop-front : (s : List ℕ) (i : ℕ) → i < length s → drop i s ≡ get_or s i 0 ∷ drop (i + 1) s
 drop-front s i h = drop-cons s i 0 h ∙ ap (λ k. get_or s i 0 ∷ drop k s) (sym (add-one i))

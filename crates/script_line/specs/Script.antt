@@ -38,9 +38,13 @@ abbrev pub IsSilent : List ℕ → Type 0
 IsSilent [] = Unit {0}
 IsSilent (b ∷ bs) = b ≡ 35
 
--- neither silent nor spelled as a line
-abbrev pub IsBad : List ℕ → Type 0
-IsBad line = (IsSilent line → ⊥) × ((l : Line) → Fits l → line ≡ spelled l → ⊥)
+-- a line that prints nothing, at whatever console of this kind: it does not run there
+abbrev pub IsStrange : {C : Type 0} → (C → Line → List ℕ → C → Type 0) → Line → Type 0
+IsStrange {C} prints l = (before : C) (text : List ℕ) (after : C) → prints before l text after → ⊥
+
+-- neither silent nor spelled as a line that runs
+abbrev pub IsBad : {C : Type 0} → (C → Line → List ℕ → C → Type 0) → List ℕ → Type 0
+IsBad prints line = (IsSilent line → ⊥) × ((l : Line) → Fits l → line ≡ spelled l → IsStrange prints l)
 
 -- a line runs: a silent one prints nothing and changes nothing, another prints what the console allows for it
 abbrev pub Step : {C : Type 0} → (C → Line → List ℕ → C → Type 0) → C → List ℕ → List ℕ → C → Type 0
@@ -75,11 +79,11 @@ pub record IsNext (left : Known) (lines : List (List ℕ)) (rest line : List ℕ
   pub is_line : IsLine line
   pub room : length lines < most_lines
 
--- the next line after these is bad: one line too many, one byte too many, or no line
-pub data IsBadNext (left : Known) (lines : List (List ℕ)) (rest : List ℕ) : Type 0 where
-  too_many : 0 < length rest → length lines ≡ most_lines → IsBadNext left lines rest
-  too_long : (front more : List ℕ) → rest ≡ front ++ more → HasNoEnd front → length front ≡ most_bytes + 1 → IsBadNext left lines rest
-  no_line : (line : List ℕ) → IsNext left lines rest line → IsBad line → IsBadNext left lines rest
+-- the next line after these is bad: one line too many, one byte too many, or no line that runs
+pub data IsBadNext {C : Type 0} (prints : C → Line → List ℕ → C → Type 0) (left : Known) (lines : List (List ℕ)) (rest : List ℕ) : Type 0 where
+  too_many : 0 < length rest → length lines ≡ most_lines → IsBadNext prints left lines rest
+  too_long : (front more : List ℕ) → rest ≡ front ++ more → HasNoEnd front → length front ≡ most_bytes + 1 → IsBadNext prints left lines rest
+  no_line : (line : List ℕ) → IsNext left lines rest line → IsBad prints line → IsBadNext prints left lines rest
 
 -- the end, after these lines ran and wrote their text: `rest` are the bytes read after them
 abbrev pub EndsBy : {C : Type 0} → (C → Line → List ℕ → C → Type 0) → Known → Known → Known
@@ -91,7 +95,7 @@ EndsBy prints left w0 w1 lines text rest last now Done =
     ⊎ ((printed : List ℕ) × IsNext left lines rest rest × Step prints last rest printed now × Appends w0 w1 (text ++ printed)))
 -- the next line is bad, its number is written, and the console is as the lines left it
 EndsBy prints left w0 w1 lines text rest last now (BadLine n) =
-    (n ≡ length lines + 1) × IsBadNext left lines rest × Appends w0 w1 (text ++ bad_text n) × (now ≡ last)
+    (n ≡ length lines + 1) × IsBadNext prints left lines rest × Appends w0 w1 (text ++ bad_text n) × (now ≡ last)
 -- the bytes after the lines are no whole line yet
 EndsBy prints left w0 w1 lines text rest last now ReadFault =
     IsLine rest × (0 < length rest → length lines < most_lines) × Appends w0 w1 text × (now ≡ last)
@@ -101,7 +105,7 @@ EndsBy prints left w0 w1 lines text rest last now WriteFault =
     (Appends w0 w1 text × (now ≡ last))
     ⊎ ((front : List ℕ) × (unwritten : List ℕ) × Appends w0 w1 (text ++ front)
     × (((line : List ℕ) × IsNext left lines rest line × Step prints last line (front ++ unwritten) now)
-    ⊎ (IsBadNext left lines rest × (front ++ unwritten ≡ bad_text (length lines + 1)) × (now ≡ last))))
+    ⊎ (IsBadNext prints left lines rest × (front ++ unwritten ≡ bad_text (length lines + 1)) × (now ≡ last))))
 -- a next line is there, of which nothing is written, and the console is as the lines left it, or as the next line may leave it
 EndsBy prints left w0 w1 lines text rest last now OutOfMemory =
     (0 < length rest) × Appends w0 w1 text

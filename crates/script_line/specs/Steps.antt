@@ -1,22 +1,14 @@
 -- What each part of a run does.
-use Rattle.std.specs.Prelude.{◌≡◌, ℕ, ◌+◌, ◌<◌, ◌≤◌, List, ◌++◌, length, Bool, true, false, ◌⊎◌}
+use Rattle.std.specs.Prelude.{◌≡◌, ℕ, ◌+◌, ◌<◌, ◌≤◌, List, ◌++◌, length, ◌⊎◌}
 use Rattle.std.specs.List.{AllByRecursion}
 use Rattle.std.specs.Io.KnownBytes.{Appends, Consumes}
+use Rattle.byte_writing.specs.Written.{IsCut}
 use Rattle.script_line.specs.declared.line.Line.{Line}
 use Rattle.script_line.specs.Script.{Known, IsLine, IsBad, Step, MayHaveRun, Runs, ended, bad_text, most_lines}
 use Rattle.script_line.specs.declared.ending.ScriptEnd.{ScriptEnd}
 use Rattle.script_line.specs.declared.ending.ScriptEnd.TheVariants.{Done, BadLine, ReadFault, WriteFault, OutOfMemory}
 use Rattle.script_line.specs.declared.run_line.Ran.{Ran}
 use Rattle.script_line.specs.declared.run_line.Ran.TheVariants.{Printed, Bad, NoMemory}
-
--- only a front of the text is written
-abbrev pub IsCut : Known → Known → List ℕ → Type 0
-IsCut w0 w1 text = (front : List ℕ) × (unwritten : List ℕ) × (0 < length unwritten) × (text ≡ front ++ unwritten) × Appends w0 w1 front
-
--- the text is written, or only a front of it
-abbrev pub IsWritten : Known → Known → List ℕ → Bool → Type 0
-IsWritten w0 w1 text true = Appends w0 w1 text
-IsWritten w0 w1 text false = IsCut w0 w1 text
 
 -- the text of a bad line is written, a front of it, or nothing
 abbrev pub IsBadEnd : Known → Known → ℕ → ScriptEnd → Type 0
@@ -49,7 +41,7 @@ IsReadEnd why = (why ≡ WriteFault) ⊎ (why ≡ ReadFault)
 -- a line ran, or is bad, or there was no memory for what it prints, and then it may have run
 abbrev pub HasRun : {C : Type 0} → (C → Line → List ℕ → C → Type 0) → List ℕ → C → List ℕ → C → Ran → Type 0
 HasRun prints line before text after Printed = Step prints before line text after
-HasRun prints line before text after Bad = IsBad line × (after ≡ before)
+HasRun prints line before text after Bad = IsBad prints line × (after ≡ before)
 HasRun prints line before text after NoMemory = (0 < length line) × MayHaveRun (Step prints) before line after
 
 -- the lines so far have run, one has begun, and `waiting` is read but not yet looked at

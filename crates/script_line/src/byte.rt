@@ -3,11 +3,11 @@ ghost use Rattle.std.specs.Prelude.{ℕ, ◌+◌, ◌*◌, ◌<◌, ◌≤◌, L
 ghost use Rattle.script_line.specs.Script.{Known, IsEnd};
 ghost use Rattle.script_line.specs.Steps.{SoFar};
 
+use super::bad::bad_line;
 use super::console::Console;
 use super::ended::end_line;
 use super::ending::ScriptEnd;
 use super::held::{Held, MOST_LINES};
-use super::whole::bad_line;
 use std::alloc::Global;
 use std::io::Write;
 

@@ -1,7 +1,7 @@
 // What runs lines.
-ghost use Rattle.std.specs.Prelude.{◌≡◌, ℕ, List, ◌++◌, OnOk, OnErr};
+ghost use Rattle.std.specs.Prelude.{◌≡◌, ℕ, List, ◌++◌, OnOk, OnErr, IsFalse};
 ghost use Rattle.script_line.specs.declared.line.Line.{Line};
-ghost use Rattle.script_line.specs.Script.{MayHaveRun};
+ghost use Rattle.script_line.specs.Script.{IsStrange, MayHaveRun};
 
 use super::line::Line;
 use sector_core::OutOfMemory;
@@ -11,6 +11,10 @@ use std::alloc::Global;
 pub trait Console {
     /// What the line may print at a console, with its last byte 0A, and what the console is then.
     ghost prints: { Self → Line → List ℕ → Self → Type 0 };
+
+    /// Whether such a line runs here. If not it is a bad one, and prints nothing at whatever console of this kind.
+    fn runs(line: &Line) -> bool
+        ensures { IsFalse result → IsStrange prints line.now };
 
     /// Runs the line, and appends what it prints.
     /// Where there is no memory the line is not run, or it is run and what it prints is lost.

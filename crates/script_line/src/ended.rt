@@ -4,11 +4,12 @@ ghost use Rattle.std.specs.Io.KnownBytes.{IsAtEnd};
 ghost use Rattle.script_line.specs.Script.{Known, IsWhole, IsEnd};
 ghost use Rattle.script_line.specs.Steps.{SoFar, OneMore, IsLineEnd, IsLastEnd};
 
+use super::bad::bad_line;
 use super::console::Console;
 use super::ending::ScriptEnd;
 use super::held::{Held, MOST_BYTES, MOST_LINES};
 use super::run_line::{Ran, run_line};
-use super::whole::{bad_line, write_whole};
+use byte_writing::write_whole;
 use std::alloc::Global;
 use std::io::Write;
 

@@ -5,9 +5,11 @@
 //! |---|---|
 //! | `line_of` | the one line that these bytes spell, or none where no line is spelled so |
 //! | `one_line` | two lines that are spelled alike are equal |
+//! | `is_query` | whether a line only looks at the keeper |
 //! | `number` | the one number that these bytes spell in decimal: no sign, no leading zero |
 //! | `run_lines` | the lines run in their order, each text written whole before the next line; the first bad line ends the run; the writer is flushed before each read and at the end |
 //! | `Console::run` | what a line may print, and what the console is then |
+//! | `Console::runs` | a line that does not run prints nothing at whatever console of that kind |
 //!
 //! A line is words joined by one space, with nothing before the first or after the last, and its numbers are
 //! in decimal and within their types. So each line has one spelling, and anything else is no line.
@@ -20,7 +22,7 @@
 //!
 //! A script is lines ended by byte 0A; a last line without it counts where it is not empty.
 //! A line has at most 256 bytes without its 0A, and a script at most 1,048,576 lines.
-//! An empty line and a line that begins with `#` print nothing, and every other is a `Line`,
+//! An empty line and a line that begins with `#` print nothing, and every other is a `Line` that runs at the console,
 //! or it is bad: then `bad line N` is written, with the line's number counted from 1, and the run ends.
 //!
 //! ```text
@@ -28,6 +30,7 @@
 //! // "# a comment\nhold\nholds\n"  ends by BadLine(3), after what the console prints for `hold`, and "bad line 3\n"
 //! ```
 
+mod bad;
 mod byte;
 mod classed;
 mod console;
@@ -42,12 +45,12 @@ mod law;
 mod line;
 mod look;
 mod plain;
+mod query;
 mod read;
 mod run;
 mod run_line;
 mod show;
 mod switch;
-mod whole;
 
 pub use console::Console;
 pub use decimal::number;
@@ -55,5 +58,6 @@ pub use ending::ScriptEnd;
 pub use law::one_line;
 pub use line::{Ending, Line};
 pub use look::Look;
+pub use query::is_query;
 pub use read::line_of;
 pub use run::run_lines;

@@ -12,7 +12,7 @@ use std::alloc::Global;
 pub enum Ran {
     /// What it prints is there.
     Printed,
-    /// It is no line.
+    /// It is no line that runs.
     Bad,
     /// There was no memory.
     NoMemory,
@@ -26,12 +26,15 @@ pub fn run_line<C: Console>(alloc: Global, line: &[u8], console: &mut C, text: &
     if is_silent(line) {
         return Ran::Printed;
     }
-    match line_of(line) {
-        Some(found) => match console.run(alloc, found, text) {
-            Ok(()) => Ran::Printed,
-            Err(_) => Ran::NoMemory,
-        },
-        None => Ran::Bad,
+    let Some(found) = line_of(line) else {
+        return Ran::Bad;
+    };
+    if !C::runs(&found) {
+        return Ran::Bad;
+    }
+    match console.run(alloc, found, text) {
+        Ok(()) => Ran::Printed,
+        Err(_) => Ran::NoMemory,
     }
 }
 

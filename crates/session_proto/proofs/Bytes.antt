@@ -1,6 +1,5 @@
 -- Bytes that are read and written one piece after another.
-use Rattle.std.proofs.Common.{◌≡◌, ℕ, ◌+◌, ◌≤◌, List, [], ◌++◌, length, take, drop, Some, None, refl, sym, ap, ◌∙◌, subst, append_assoc, append-nil, arith}
-use Rattle.std.proofs.lemmas.List.{length-drop, take-append-drop, take-take, drop-take}
+use Rattle.std.proofs.Common.{ℕ, ◌+◌, List, [], ◌++◌, Some, None, refl, sym, ap, ◌∙◌, append_assoc, append-nil}
 use Rattle.std.specs.Io.KnownBytes.{Appends, Consumes, Keeps}
 use Rattle.session_proto.specs.Asked.{Known}
 
@@ -35,18 +34,3 @@ Consumes-more None b c x y h k = tt
 Consumes-more (Some xs) None c x y h k = absurd h
 Consumes-more (Some xs) (Some ys) None x y h k = absurd k
 Consumes-more (Some xs) (Some ys) (Some zs) x y h k = h ∙ ap (λ l. x ++ l) k ∙ sym (append_assoc x y zs)
-
--- so many bytes, and then some of those behind them
-pub take-then : (n m : ℕ) (xs : List ℕ) → take (n + m) xs ≡ take n xs ++ take m (drop n xs)
-take-then n m xs =
-    sym (take-append-drop n (take (n + m) xs)) ∙ ap (λ (l : List ℕ). l ++ drop n (take (n + m) xs)) (take-take n (n + m) xs (omega arith))
-    ∙ ap (λ (l : List ℕ). take n xs ++ l) (drop-take n m xs)
-
--- after a front of the bytes, some of what is left
-pub front_more : (bytes left : List ℕ) (n m : ℕ) (a b c : Known) → left ≡ drop n bytes → n ≤ length bytes → m ≤ length left
-    → Appends a b (take n bytes) → Appends b c (take m left) → (n + m ≤ length bytes) × Appends a c (take (n + m) bytes)
-front_more bytes left n m a b c e few fits h k = (
-  omega (arith, few, fits, ap length e, length-drop n bytes),
-  subst (Appends a c) (sym (take-then n m bytes))
-      (Appends-more a b c (take n bytes) (take m (drop n bytes)) h (subst (λ (l : List ℕ). Appends b c (take m l)) e k)),
-)

@@ -98,12 +98,15 @@ reap_spells = one_spells client_body ClientFits 0x04 w64 (2 ^ 64) wide64 Reap (�
 leave_spells : Spells client_body ClientFits 0x05 (ended (Leave Ended))
 leave_spells = none_spells client_body ClientFits 0x05 (Leave Ended) refl refl
 
-pub client_spelled : (bytes : List ℕ) (v : Client) → IsBytes bytes → length bytes ≤ 32787 → client_at bytes ≡ Ok v → ClientFits v.0 × (bytes ≡ client_body v.0)
+pub client_is : (bytes : List ℕ) (v : Client) → IsBytes bytes → client_at bytes ≡ Ok v → ClientFits v.0 × (bytes ≡ client_body v.0)
 unfolding client_at
-client_spelled bytes v are few e =
+client_is bytes v are e =
     side_spells client_body ClientFits client_kinds
     (attach_spells & fetch_spells & store_spells & reap_spells & leave_spells & tt)
     (λ call. record { 0 = call }) (λ v. v.0) (λ call. refl) bytes v are e
+
+pub client_spelled : (bytes : List ℕ) (v : Client) → IsBytes bytes → length bytes ≤ 32787 → client_at bytes ≡ Ok v → ClientFits v.0 × (bytes ≡ client_body v.0)
+client_spelled bytes v are few e = client_is bytes v are e
 
 -- ---- read again
 

@@ -58,14 +58,17 @@ redo_spells = one_spells operator_body OperatorFits 0x1b w32 (2 ^ 32) wide32 Red
 bare : (kind : ℕ) (v : OperatorCall) → OperatorFits v → operator_body v ≡ kind ∷ [] → Spells operator_body OperatorFits kind (ended v)
 bare kind v does is = none_spells operator_body OperatorFits kind v does is
 
-pub operator_spelled : (bytes : List ℕ) (v : Operator) → IsBytes bytes → length bytes ≤ 32787 → operator_at bytes ≡ Ok v
-    → OperatorFits v.0 × (bytes ≡ operator_body v.0)
+pub operator_is : (bytes : List ℕ) (v : Operator) → IsBytes bytes → operator_at bytes ≡ Ok v → OperatorFits v.0 × (bytes ≡ operator_body v.0)
 unfolding operator_at
-operator_spelled bytes v are few e =
+operator_is bytes v are e =
     side_spells operator_body OperatorFits operator_kinds
     (group_make_spells & group_drop_spells & set_weight_spells & bare 0x14 Freeze tt refl & bare 0x15 Thaw tt refl & switch_spells
     & bare 0x17 Tick tt refl & bare 0x18 Hold tt refl & bare 0x19 Release tt refl & undo_spells & redo_spells & bare 0x1c Stop tt refl & tt)
     (λ call. record { 0 = call }) (λ v. v.0) (λ call. refl) bytes v are e
+
+pub operator_spelled : (bytes : List ℕ) (v : Operator) → IsBytes bytes → length bytes ≤ 32787 → operator_at bytes ≡ Ok v
+    → OperatorFits v.0 × (bytes ≡ operator_body v.0)
+operator_spelled bytes v are few e = operator_is bytes v are e
 
 -- ---- read again
 

@@ -9,7 +9,7 @@ use crate::answer_frames::answer_frame;
 use crate::asks::Asks;
 use crate::client::Client;
 use crate::end::EndCause;
-use crate::writing::write_front;
+use byte_writing::write_front;
 use std::alloc::Global;
 use std::io::Write;
 

@@ -136,7 +136,7 @@ mod encoding;
 mod end;
 mod fault;
 mod feeder;
-mod fields;
+pub mod fields;
 mod frame_laws;
 mod host;
 mod laws;
@@ -145,7 +145,6 @@ mod operator;
 mod serving;
 mod side;
 mod split;
-mod writing;
 
 pub use asks::Asks;
 pub use client::Client;

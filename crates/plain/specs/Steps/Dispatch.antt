@@ -17,7 +17,6 @@ use Rattle.plain.specs.declared.answer.Code.TheVariants.{NothingQueued, NoTag}
 use Rattle.plain.specs.declared.answer.Reply.{Reply}
 use Rattle.plain.specs.declared.answer.Reply.TheVariants.{Issued}
 use Rattle.plain.specs.declared.answer.Answer.TheVariants.{Refused}
-use Rattle.plain.specs.Steps.Requeue.{requeued}
 use Rattle.plain.specs.Tests.{StepResult, accepted, accepted_if}
 use Rattle.plain.specs.Requests.{shape, size_of, range_of}
 
@@ -47,18 +46,18 @@ next_request m seat = next_of shape (m.queue seat) (m.head seat)
 abbrev pub next_size : Plain → ℕ → ℕ
 next_size m seat = option_map_or (λ request. size_of request.bios) (next_request m seat) 0
 
--- bfq: a queue that has been in service for too many ticks expires, and so does one whose budget has no room for its next request; it is not empty
--- then (ticks, and that they are asked about first, are our profile)
+-- bfq: a queue that has been in service for too many ticks expires, and so does one whose budget has no room for its next request. It has one: a
+-- queue that is empty has left the service with its last request (ticks, and that they are asked about first, are our profile)
 abbrev pub with_budget_in : Limits → Plain → Option InService → Option Bfq
 with_budget_in l m None = Some m.bfq
-with_budget_in l m (Some slot) =
-    if nat_le l.timeout slot.age then expire Timeout l.max_budget true m.bfq
-    else if nat_lt (m.bfq.budget slot.seat) (slot.service + next_size m slot.seat) then expire Exhaustion l.max_budget true m.bfq
+with_budget_in l m (Some current) =
+    if nat_le l.timeout current.age then expire Timeout l.max_budget true m.bfq
+    else if nat_lt (m.bfq.budget current.seat) (current.service + next_size m current.seat) then expire Exhaustion l.max_budget true m.bfq
     else Some m.bfq
 
 -- bfq: if no queue is in service now, one is selected
-abbrev pub with_slot : Bfq → Bfq
-with_slot b = if is_none b.in_service then select b else b
+abbrev pub with_selected : Bfq → Bfq
+with_selected b = if is_none b.in_service then select b else b
 
 -- a list without its first element that passes a test (our profile)
 abbrev pub without_first : {A : Type 0} → (A → Bool) → List A → List A
@@ -69,7 +68,7 @@ without_first passes (x ∷ xs) = if passes x then xs else x ∷ without_first p
 abbrev pub without_empty : Limits → List WholeRequest → Bfq → Option Bfq
 without_empty l queue b = if is_empty queue then expire Emptying l.max_budget false b else Some b
 
--- bfq: a queue's next request is charged and leaves the queue, whose head is its end then (the head is our profile)
+-- bfq: a queue's next request is charged and leaves the queue, whose head is the request's end then (the head is our profile, as the kernel's code)
 abbrev pub sent_next : Limits → Plain → ℕ → ℕ → Bfq → ℕ → WholeRequest → Option (Plain × Reply)
 sent_next l m n tag b seat request =
     let range = range_of request.bios in
@@ -86,20 +85,22 @@ sent_next l m n tag b seat request =
     ))
     (option_and_then (without_empty l queue) (charge range.count b))
 
--- the next request of the queue in service is sent, if there are both (bfq: one queue is served at a time)
+-- the next request of the queue in service is sent; it is refused if there is no queue or no request, which never comes (bfq: one queue is served
+-- at a time; the refusal is our profile)
 abbrev pub sent_in : Limits → Plain → ℕ → ℕ → Bfq → Option (Plain × Reply)
-sent_in l m n tag b = option_and_then (λ slot. option_and_then (sent_next l m n tag b slot.seat) (next_request m slot.seat)) b.in_service
+sent_in l m n tag b = option_and_then (λ current. option_and_then (sent_next l m n tag b current.seat) (next_request m current.seat)) b.in_service
 
 -- under bfq: a queue in service that is due expires, one is selected if none is in service then, and its next request is sent (bfq)
 abbrev pub sent_by_bfq : Limits → Plain → ℕ → ℕ → Option (Plain × Reply)
-sent_by_bfq l m n tag = option_and_then (λ b. sent_in l m n tag (with_slot b)) (with_budget_in l m m.bfq.in_service)
+sent_by_bfq l m n tag = option_and_then (λ b. sent_in l m n tag (with_selected b)) (with_budget_in l m m.bfq.in_service)
 
 -- under none the queue in turn is served, and under bfq the queue in service (blk-mq for none, bfq)
 abbrev pub sent_by : Limits → Plain → ℕ → Bool → ℕ → ℕ → Scheduler → StepResult
 sent_by l m n room seat tag PlainScheduler = sent m n room seat tag (m.queue seat)
 sent_by l m n room seat tag BfqScheduler = accepted_if room m (sent_by_bfq l m n tag)
 
--- a queued request is sent if there is one and a tag is free for it (blk-mq: each request has a tag; the refusals are our profile)
+-- a queued request is sent if there is one and a tag is free for it; which one, the scheduler says, and bfq does not ask for the seat in turn
+-- (blk-mq: each request has a tag; the refusals are our profile)
 abbrev pub dispatch_to : Limits → Plain → ℕ → Bool → Option ℕ → Option ℕ → StepResult
 dispatch_to l m n room None tag = (m, Refused NothingQueued)
 dispatch_to l m n room (Some seat) None = (m, Refused NoTag)

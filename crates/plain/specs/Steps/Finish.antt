@@ -21,7 +21,7 @@ use Rattle.plain.specs.Sessions.{is_session, is_leaving}
 use Rattle.plain.specs.Requests.{size_of}
 use Rattle.plain.specs.Entities.{without_gone, owed_fewer}
 
--- the outcome is one of the request's operation and length (our profile)
+-- the outcome is one of the request's operation and length; a store never fails, as it is made in memory (our profile)
 abbrev pub fits : Op → ℕ → Outcome → Bool
 fits Fetch size (Fetched bytes) = length bytes == 512 * size
 fits Fetch size Stored = false

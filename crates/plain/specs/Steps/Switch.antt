@@ -1,6 +1,6 @@
 -- Switch: a frozen host without any request gets another scheduler (blk-mq: the queue is frozen and drained before its scheduler is
--- switched). The round robin begins again at seat 0, and every head at sector 0; under bfq every virtual time, the times of every entity in
--- a group, and the budget of every session begin again too (our profile).
+-- switched). The round robin begins again at seat 0, and every head at sector 0; if bfq is the new one, every virtual time, the times of every
+-- entity in a group, and the budget of every session begin again too (our profile).
 use Rattle.std.specs.Prelude.{ℕ, nat_lt, Bool, true, false, not, List, [], ◌∷◌, is_some, if◌then◌else◌}
 use Rattle.plain.specs.Lists.{numbers}
 use Rattle.plain.specs.Machine.{Bfq, Plain}

@@ -9,12 +9,12 @@ use Rattle.plain.specs.Tests.{StepResult, accepted}
 
 -- the queue in service has been there for one tick more (our profile)
 abbrev pub older : InService → InService
-older slot = record slot { age = slot.age + 1 }
+older current = record current { age = current.age + 1 }
 
 -- a tick passes if a queue is in service (our profile)
 abbrev pub ticked : Plain → Bool → Option InService → StepResult
 ticked m room None = (m, Refused NoneInService)
-ticked m room (Some slot) = accepted room m (record m { bfq = record m.bfq { in_service = Some (older slot) } }) Done
+ticked m room (Some current) = accepted room m (record m { bfq = record m.bfq { in_service = Some (older current) } }) Done
 
 -- what a Tick does on a machine, by its queue in service (our profile)
 abbrev pub tick : Plain → Bool → StepResult

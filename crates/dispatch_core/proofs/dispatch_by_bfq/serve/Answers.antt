@@ -6,7 +6,7 @@ use Rattle.change_record.specs.Trail.{IsTrail}
 use Rattle.bfq_select.specs.Service.{OnlyServes}
 use Rattle.plain.specs.declared.answer.Reply.{Reply}
 use Rattle.plain.specs.Step.{of_sizes}
-use Rattle.plain.specs.Steps.Dispatch.{next_size, with_slot, sent_by_bfq}
+use Rattle.plain.specs.Steps.Dispatch.{next_size, with_selected, sent_by_bfq}
 use Rattle.plain_laws.specs.Whole.{AreWhole}
 use Rattle.dispatch_core.proofs.Ruling.{IsYoung, served-well, serves_then}
 use Rattle.dispatch_core.proofs.NextSlot.{select_fresh, select_young, next_small, served_whole}
@@ -78,7 +78,7 @@ returns-clause-made c =
     let now = c.if-is_none.parts.tables in
     let P : Option (Plain × Reply) → Type 0 =
     λ o. MatchResult c.send_next.result (λ reply. o ≡ Some (meaning c.send_next.new.parts.tables, reply)) (λ _. o ≡ None) in
-    let sends : with_slot (bfq_of before) ≡ bfq_of now → OnlyServes t now → P (sent_by_bfq l (meaning t) n tag) =
+    let sends : with_selected (bfq_of before) ≡ bfq_of now → OnlyServes t now → P (sent_by_bfq l (meaning t) n tag) =
     λ chosen others. subst P (sym (bfq_sends l n tag t (bfq_of before) (bfq_of now) c.in_ok-make_room.ensures.made chosen now others)) c.send_next.ensures.made in
     elim c.if-is_none.branch [
       | then-is_none w ↦

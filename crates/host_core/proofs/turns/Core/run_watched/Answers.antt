@@ -23,8 +23,8 @@ returns-then-report-clause-shut g c = c.turn-report.ensures.shut (sym c.turn-rep
 pub returns-then-report-clause-desks : goal.returns-then-report-clause-desks
 returns-then-report-clause-desks g c = desks-twice c.args.self.now.desks c.loop.self.desks c.turn-report.new.self.desks c.loop.invariant.1 c.turn-report.ensures.desks
 
-pub loop-preserved-then-report-2 : goal.loop-preserved-then-report-2
-loop-preserved-then-report-2 g c = (
+pub loop-preserved-then-is_idle-2 : goal.loop-preserved-then-is_idle-2
+loop-preserved-then-is_idle-2 g c = (
   search of_calls,
   desks-twice c.args.self.now.desks c.loop.self.desks c.turn-report.new.self.desks c.loop.invariant.1 c.turn-report.ensures.desks,
   turns-more c.args.self.now c.loop.self c.turn-report.new.self c.turn-report.result.answered c.turn-report.result.dispatched c.loop.invariant.2
@@ -32,8 +32,8 @@ loop-preserved-then-report-2 g c = (
       c.turn-report.ensures.kept c.turn-report.ensures.desks,
 )
 
-pub loop-preserved-then-self : goal.loop-preserved-then-self
-loop-preserved-then-self g c = (
+pub loop-preserved-then-did_nothing-2 : goal.loop-preserved-then-did_nothing-2
+loop-preserved-then-did_nothing-2 g c = (
   search of_calls,
   desks-twice c.args.self.now.desks c.loop.self.desks c.turn-report.new.self.desks c.loop.invariant.1 c.turn-report.ensures.desks,
   turns-more c.args.self.now c.loop.self c.turn-report.new.self c.turn-report.result.answered c.turn-report.result.dispatched c.loop.invariant.2

@@ -1,0 +1,4 @@
+pub mod Entry
+pub mod EntryLaws
+pub mod Header
+pub mod Naming

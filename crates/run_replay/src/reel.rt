@@ -1,0 +1,192 @@
+// The pieces of a record's file.
+ghost use Rattle.std.specs.Prelude.{◌≡◌, ℕ, ◌≤◌, ◌<◌, ◌^◌, length, IfOk, IfSome};
+ghost use Rattle.dispatch_core.specs.Running.{sizes_of};
+
+use run_record::{Entry, Header, HeaderFault, MOST_HEADER, read_header};
+use sector_core::{Config, ConfigDraft};
+use session_proto::Feeder;
+use std::alloc::Global;
+use std::io::Read;
+
+// A read takes at most this many bytes.
+const PIECE_BYTES: usize = 65_536;
+
+/// What is asked of a replay.
+#[derive(Clone, Copy)]
+pub struct Asked {
+    /// How many calls the history is to hold; as many as that of the record, if nothing is asked.
+    pub history: Option<u64>,
+    /// The number of the entry before which it stops, from 1; none are left out, if nothing is asked.
+    pub to: Option<u64>,
+}
+
+/// Why a record is not replayed.
+#[derive(Clone, Copy, Debug, PartialEq, Eq)]
+pub enum ReplayFault {
+    /// The file cannot be read.
+    Unread,
+    /// The entry of this number, from 1, is none, or its call is not accepted; 0 is the first line.
+    BadEntry(u64),
+    /// The history is to hold fewer calls than are made, or its number is out of its limits.
+    History,
+    /// There is no memory.
+    OutOfMemory,
+}
+
+/// A record, as far as it was read.
+#[derive(Drop)]
+pub struct Reel {
+    /// What its host was made for.
+    pub header: Header,
+    feeder: Feeder<Entry>,
+    piece: Vec<u8>,
+    // What stood behind the first line in the piece that had its end.
+    first: Vec<u8>,
+    is_first: bool,
+}
+
+impl Reel {
+    /// Reads the first line.
+    ///
+    /// # Errors
+    ///
+    /// The file cannot be read, the line is none, or there is no memory.
+    pub fn open<R: Read>(alloc: Global, reader: &mut R) -> Result<Reel, ReplayFault>
+        ensures { IfOk result (λ reel. reel.header.sectors < 2 ^ 55) }
+    {
+        let Ok(mut piece) = Vec::with_capacity(alloc, PIECE_BYTES) else {
+            return Err(ReplayFault::OutOfMemory);
+        };
+        if piece.resize(PIECE_BYTES, 0).is_err() {
+            return Err(ReplayFault::OutOfMemory);
+        }
+        let mut held = Vec::new(alloc);
+        // Each read but the last brings a byte, and a line of more bytes is none.
+        for _ in 0..=MOST_HEADER {
+            if let Some(size) = line_length(held.as_slice()) {
+                return Reel::behind(alloc, held.as_slice(), size, piece);
+            }
+            if held.len() > MOST_HEADER {
+                break;
+            }
+            let Ok(count) = reader.read(&mut piece) else {
+                return Err(ReplayFault::Unread);
+            };
+            if count == 0 {
+                break;
+            }
+            if held.extend_from_slice(&piece[..count]).is_err() {
+                return Err(ReplayFault::OutOfMemory);
+            }
+        }
+        Err(ReplayFault::BadEntry(0))
+    }
+
+    // The record whose first line has so many bytes of those that were read.
+    fn behind(alloc: Global, held: &[u8], size: usize, piece: Vec<u8>) -> Result<Reel, ReplayFault>
+        requires { size ≤ length held.now }
+        ensures { IfOk result (λ reel. reel.header.sectors < 2 ^ 55) }
+    {
+        if size > MOST_HEADER {
+            return Err(ReplayFault::BadEntry(0));
+        }
+        let (line, rest) = held.split_at(size);
+        let header = match read_header(alloc, line) {
+            Ok(header) => header,
+            Err(HeaderFault::Bad) => return Err(ReplayFault::BadEntry(0)),
+            Err(HeaderFault::OutOfMemory) => return Err(ReplayFault::OutOfMemory),
+        };
+        let mut first = Vec::new(alloc);
+        if first.extend_from_slice(rest).is_err() {
+            return Err(ReplayFault::OutOfMemory);
+        }
+        Ok(Reel {
+            header,
+            feeder: Feeder::new(alloc),
+            piece,
+            first,
+            is_first: true,
+        })
+    }
+
+    /// The next entries, which are whole with one more piece of the file; none at its end. `seen` entries came before.
+    ///
+    /// # Errors
+    ///
+    /// The file cannot be read, the bytes behind the entries are none, or there is no memory.
+    pub fn next<R: Read>(
+        &mut self,
+        alloc: Global,
+        reader: &mut R,
+    ) -> Result<Option<Batch>, ReplayFault> {
+        let fed = if self.is_first {
+            self.is_first = false;
+            self.feeder.feed(alloc, self.first.as_slice())
+        } else {
+            let Ok(count) = reader.read(&mut self.piece) else {
+                return Err(ReplayFault::Unread);
+            };
+            if count == 0 {
+                return Ok(None);
+            }
+            self.feeder.feed(alloc, &self.piece[..count])
+        };
+        match fed {
+            Ok(fed) => Ok(Some(Batch {
+                entries: fed.values,
+                is_bad: fed.fault.is_some(),
+            })),
+            Err(_) => Err(ReplayFault::OutOfMemory),
+        }
+    }
+
+    /// Whether the file ends inside of an entry.
+    pub fn is_torn(&self) -> bool {
+        !self.feeder.is_between()
+    }
+}
+
+/// The entries of a piece.
+#[derive(Drop)]
+pub struct Batch {
+    /// Those that are whole with it, in order.
+    pub entries: Vec<Entry>,
+    /// Whether what stands behind them is none.
+    pub is_bad: bool,
+}
+
+// How many bytes the first line has, with its end, if its end is there.
+fn line_length(bytes: &[u8]) -> Option<usize>
+    ensures { IfSome result (λ n. n ≤ length bytes.now) }
+{
+    for place in 0..bytes.len() {
+        if bytes[place] == b'\n' {
+            return Some(place + 1);
+        }
+    }
+    None
+}
+
+/// The configuration of a record with room for as many calls as are asked for.
+///
+/// # Errors
+///
+/// The number is out of its limits.
+pub fn config_of(config: Config, history: Option<u64>) -> Result<Config, ReplayFault>
+    ensures { IfOk result (λ made. (sectors : ℕ) → sizes_of made sectors ≡ sizes_of config sectors) }
+{
+    let draft = ConfigDraft {
+        scheduler: config.scheduler,
+        nr_requests: u64::from(config.nr_requests),
+        tags: u64::from(config.tags),
+        first_budget: u64::from(config.first_budget),
+        max_budget: u64::from(config.max_budget),
+        timeout: u64::from(config.timeout),
+        history_max: history.unwrap_or(u64::from(config.history_max)),
+        first_vtime: config.first_vtime,
+    };
+    match Config::check(draft) {
+        Ok(config) => Ok(config),
+        Err(_) => Err(ReplayFault::History),
+    }
+}

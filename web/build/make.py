@@ -1,0 +1,137 @@
+#!/usr/bin/env python3
+"""Makes web/bfqhost.html: one file with the machine, its looks and the scripts of the menu in it.
+
+    web/build/make.py --module bfq_page.wasm [-o PAGE.html]
+
+The module is what web/build/module.py makes of the proved crate `bfq_page`. All else comes from this repository: the parts of the page in
+web/, the forms of lines from tools/grammar.py, what refusals say from docs/FORMATS.md, and as a menu the scripts of examples/ and those
+that the lessons of docs/GUIDE.md run. The same parts make the same bytes.
+"""
+
+import argparse
+import base64
+import hashlib
+import html
+import json
+import re
+import shlex
+import sys
+from pathlib import Path
+
+TOP = Path(__file__).resolve().parents[2]
+WEB = TOP / "web"
+sys.path.append(str(TOP / "tools"))
+import dials  # noqa: E402
+import grammar  # noqa: E402
+
+PAGE = WEB / "bfqhost.html"
+# The parts of the script in the order in which they stand; each uses those above it.
+PARTS = ["grammar", "dials", "machine", "looks", "reasons", "course", "shares", "elements", "parts", "axes", "track", "page"]
+# The script that a page begins with if it is made with no other one.
+FIRST = "three-weights"
+# A page has no file to read, so scripts over an image are left out.
+IMAGE = "--image"
+COMMAND = re.compile(r" {4}\./bfqhost sim(?: (.*))? < (\S+)")
+# Nothing is loaded, sent or framed; the two hashes are those of the page's own script and style.
+POLICY = "default-src 'none'; script-src {script} 'wasm-unsafe-eval'; style-src {style}; img-src data:; base-uri 'none'; form-action 'none'"
+
+
+def read(*path):
+    """The text of a file of the repository."""
+    return TOP.joinpath(*path).read_text(encoding="utf-8")
+
+
+def tables():
+    """What the page knows of lines and refusals, as the tools and the documents have it."""
+    rows = re.findall(r"(?m)^\| (\d+) \| [A-Z]\w+ \| (.*) \|$", read("docs", "FORMATS.md"))
+    return {
+        "forms": grammar.FORMS, "bits": grammar.BITS, "choices": {name: list(words) for name, words in grammar.CHOICES.items()},
+        "noSteps": sorted(grammar.NO_STEPS), "mostBytes": grammar.MOST_BYTES, "names": {str(number): name for number, name in grammar.NAMES.items()},
+        # Numbers as texts, since one may have more digits than a number of a browser.
+        "options": [{field: str(value) for field, value in option._asdict().items()} for option in dials.OPTIONS],
+        "sentences": {number: text.replace("`", "") for number, text in rows},
+    }
+
+
+def options_of(path):
+    """The options of an example: the words of its file NAME.args behind the first one."""
+    words = path.with_suffix(".args")
+    return words.read_text(encoding="utf-8").splitlines()[1:] if words.exists() else ["--scheduler", "none"]
+
+
+def examples():
+    """The scripts of examples/, each with its name, its text and its options."""
+    for path in sorted((TOP / "examples").glob("*.script")):
+        yield {"name": path.stem, "text": path.read_text(encoding="utf-8"), "options": options_of(path)}
+
+
+def lessons():
+    """The scripts that the lessons of the guide run, by their headings: those of a file, and those that stand in the block above."""
+    heading, block, before = "", "", ""
+    for row in read("docs", "GUIDE.md").splitlines():
+        if found := re.match(r"## (\d+\. .*)", row):
+            heading = found[1]
+        if command := COMMAND.fullmatch(row):
+            words, name = command.groups()
+            text = read(name) if "/" in name else block
+            yield {"name": f"lesson {heading}{'' if '/' in name else ', exercise'}", "text": text, "options": shlex.split(words or "")}
+        elif row.startswith("    "):
+            block = (block if before.startswith("    ") else "") + row[4:] + "\n"
+        before = row
+
+
+def menu():
+    """All scripts of the menu. Of those of one name the first is taken, and of the first all that a page can run."""
+    found = {}
+    for it in [*examples(), *lessons()]:
+        if IMAGE not in it["options"]:
+            found.setdefault(it["name"], it)
+    return [found.pop(FIRST), *found.values()]
+
+
+def in_json(value):
+    """A value in JSON that can stand in an element `script`: nothing in it ends the element."""
+    return json.dumps(value, ensure_ascii=True, separators=(",", ":"), sort_keys=True).replace("<", "\\u003c")
+
+
+def script():
+    """The script of the page."""
+    parts = "".join((WEB / "js" / f"{name}.js").read_text(encoding="utf-8") for name in PARTS)
+    return f"\n\"use strict\";\nconst TABLES = {in_json(tables())};\n{parts}"
+
+
+def hashed(text):
+    """What the policy says of an inline script or style."""
+    return f"'sha256-{base64.b64encode(hashlib.sha256(text.encode()).digest()).decode()}'"
+
+
+def page(module):
+    """The whole page, with the bytes of a module."""
+    scripts = menu()
+    style, code = "\n" + read("web", "page.css"), script()
+    parts = {
+        "POLICY": POLICY.format(script=hashed(code), style=hashed(style)), "STYLE": style, "SCRIPT": code, "MENU": in_json(scripts),
+        "GIVEN": in_json({"name": "", "text": "", "options": []}), "TEXT": "\n" + html.escape(scripts[0]["text"]),
+        "MODULE": base64.b64encode(module).decode(),
+    }
+    text = read("web", "page.html")
+    if missing := [name for name in parts if text.count(f"@{name}@") != 1]:
+        sys.exit(f"web/build/make.py: web/page.html does not have once: {', '.join(missing)}")
+    # One pass, so that no part is looked for in another one.
+    return re.sub("@([A-Z]+)@", lambda it: parts[it[1]], text)
+
+
+def main():
+    words = argparse.ArgumentParser(description=__doc__, formatter_class=argparse.RawDescriptionHelpFormatter)
+    words.add_argument("--module", required=True, type=Path, metavar="FILE")
+    words.add_argument("-o", dest="to", default=PAGE, type=Path, metavar="PAGE")
+    given = words.parse_args()
+    try:
+        given.to.write_text(page(given.module.read_bytes()), encoding="utf-8")
+    except OSError as fault:
+        return f"web/build/make.py: {fault.filename}: {fault.strerror}"
+    return 0
+
+
+if __name__ == "__main__":
+    sys.exit(main())

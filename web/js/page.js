@@ -1,0 +1,469 @@
+// The page: what is chosen and typed, and what is shown of it.
+
+// How many lines of a script stand in the list around the one that is looked at.
+const ROWS_AROUND = 120;
+// A run of more lines than these is shown when the slider rests, and not while it is drawn.
+const MANY_LINES = 8_000, REST_MILLISECONDS = 160;
+// A script that is longer than this many characters does not stand in the address.
+const MOST_IN_ADDRESS = 30_000;
+
+const AS_WORKED_OUT = "\u2713 Worked out before, by the rules. The machine gave this answer, and the whole state after it is the same.";
+
+const view = { machine: null, text: "", dials: null, course: null, services: null, future: null, place: 0, look: null, beside: null, given: null, waiting: 0 };
+
+/** Begins: with what the address says, else with the script that this page was made with, else with the first of the menu. */
+async function begin() {
+  const given = JSON.parse(byId("given").textContent), menu = JSON.parse(byId("menu-scripts").textContent);
+  view.given = given;
+  view.menu = menu;
+  byId("run").append(...(given.name ? [element("option", { value: given.name }, given.name)] : []),
+    ...menu.map((it) => element("option", { value: it.name }, it.name)), element("option", { value: "", hidden: true }, "a script of your own"));
+  // What may be typed, with words in capitals for what is to be put in.
+  byId("forms").append(...TABLES.forms.map((form) => element("option", { value: form.join(" ") })));
+  for (const { name, field, least, most, says } of OPTIONS) {
+    const input = element("input", { id: field, inputmode: "numeric", size: 8 });
+    byId("dials").append(element("label", { title: `${least} to ${most}` }, element("code", {}, name), input, says));
+  }
+  try {
+    view.machine = await machineOf(byId("module").textContent.trim());
+  } catch (fault) {
+    byId("missing-why").textContent = `This browser cannot run the machine of this page: ${fault.message}. `;
+    return;
+  }
+  document.documentElement.classList.add("runs");
+  listen();
+  fromAddress();
+}
+
+/** A script of the menu, or the one that this page was made with. */
+function scriptNamed(name) {
+  return name === view.given.name && name ? view.given : view.menu.find((it) => it.name === name);
+}
+
+/** Shows what the address says. */
+function fromAddress() {
+  const words = new URLSearchParams(location.hash.slice(1));
+  document.documentElement.classList.toggle("large", words.get("print") === "large");
+  setLook(words.get("look"));
+  const named = scriptNamed(words.get("run")) ?? scriptNamed(view.given.name) ?? view.menu[0];
+  const text = words.get("script") ?? named.text, options = words.get("options")?.split(" ").filter((it) => it) ?? (words.has("script") ? [] : named.options);
+  let dials = usualDials();
+  try {
+    dials = dialsOf(options);
+    tellFault("");
+  } catch (fault) {
+    if (!(fault instanceof BadOption)) throw fault;
+    tellFault(`${fault.message}. The options are as usual.`);
+  }
+  byId("run").value = words.has("script") ? "" : named.name;
+  runScript(text, dials, Number(words.get("future") ?? NaN), Number(words.get("step") ?? NaN), Number(words.get("beside") ?? NaN));
+}
+
+/** Runs a script, and shows a place of a future. If these are no numbers of it: a script of the menu at its first choice, another at its end. */
+function runScript(text, dials, number = NaN, place = NaN, beside = NaN) {
+  Object.assign(view, { text, dials });
+  byId("scheduler").value = dials.scheduler;
+  for (const { field } of OPTIONS) {
+    byId(field).value = `${dials[field]}`;
+    byId(field).removeAttribute("aria-invalid");
+  }
+  try {
+    view.course = new Course(view.machine, text, dials);
+  } catch (fault) {
+    if (!(fault instanceof MachineFault)) throw fault;
+    tellFault(fault.message);
+    return;
+  }
+  const { course } = view;
+  view.services = null;
+  view.lanes = lanesOf(course);
+  const name = (it) => (it === course.standing ? "the one that stands" : `${it.number + 1}: dropped, from step ${it.fork} on`);
+  byId("future").replaceChildren(...course.futures.map((it) => element("option", { value: it.number }, name(it))));
+  byId("futures").hidden = course.futures.length < 2;
+  view.future = course.futures[number - 1] ?? course.standing;
+  view.beside = course.futures[beside - 1] ?? null;
+  const end = view.future === course.standing ? course.stateAfter(course.rows.length).cursor : view.future.tip.depth;
+  tellFault(course.fault ? `Line ${course.fault.line} did not run: ${course.fault.why}. ${quotedLine(course.lines[course.fault.line - 1])}` : "", true);
+  const isOfMenu = view.menu.includes(scriptNamed(byId("run").value)) && view.future === course.standing;
+  show(Number.isInteger(place) ? place : isOfMenu ? choiceFrom(0, 1) : end);
+}
+
+function quotedLine(line) {
+  return line === undefined ? "" : `It is \u201c${line.length > 80 ? `${line.slice(0, 80)}\u2026` : line}\u201d.`;
+}
+
+/** Says what is wrong with what was given; nothing is wrong if the text is empty. A fault that was told stays until it is mended. */
+function tellFault(text, isOfScript = false) {
+  const place = byId(isOfScript ? "fault" : "fault-of-options");
+  place.textContent = text;
+  place.hidden = text === "";
+}
+
+/** Goes to a place of the chosen future, and draws it when there is time. */
+function show(place) {
+  view.place = Math.max(0, Math.min(place, view.future.tip.depth));
+  drawTrack();
+  clearTimeout(view.waiting);
+  if (view.course.lines.length > MANY_LINES) view.waiting = setTimeout(draw, REST_MILLISECONDS);
+  else draw();
+}
+
+/** Draws all that is at the chosen place. */
+function draw() {
+  const { course, future, place } = view;
+  try {
+    view.look = course.lookAt(future, place);
+  } catch (fault) {
+    if (!(fault instanceof MachineFault)) throw fault;
+    tellFault(fault.message, true);
+    return;
+  }
+  const { look } = view;
+  byId("clients").replaceChildren(element("h2", {}, "clients"), ...clientsOf(look));
+  const head = view.beside ? headOf("this future", place, course.nodeAt(future, place)) : [element("h2", {}, "groups")];
+  byId("groups").replaceChildren(...head, ...groupsOf(look));
+  byId("device").replaceChildren(element("h2", {}, "device"), ...deviceOf(look, course.dials));
+  byId("strip").replaceChildren(...stripOf(look, course.dials));
+  drawBeside();
+  drawRows();
+  drawReason();
+  drawExactness();
+  drawShares();
+  toAddress();
+  document.documentElement.dataset.step = `${place}`;
+}
+
+/** The other future at the same place, if one lies beside. */
+function drawBeside() {
+  const { course, beside, place } = view;
+  document.documentElement.classList.toggle("beside", beside !== null);
+  byId("other").hidden = beside === null;
+  if (beside === null) return;
+  const there = Math.min(place, beside.tip.depth);
+  const look = course.lookAt(beside, there);
+  byId("other").replaceChildren(...headOf(nameOfFuture(beside), there, course.nodeAt(beside, there)), ...groupsOf(look));
+}
+
+/** The head of one of two futures that lie side by side. */
+function headOf(name, place, node) {
+  return [element("h2", {}, `${name}, ${place} steps`), element("p", { class: "words" }, node === NO_STEP ? "no step" : toldStep(node))];
+}
+
+function nameOfFuture(future) {
+  return future === view.course.standing ? "the future that stands" : `future ${future.number + 1}, which was dropped`;
+}
+
+/** A step, as its line with its answer. */
+function toldStep(node) {
+  return `${view.course.lineOf(node)} \u2192 ${told(view.course.rows[node.row].answer)}`;
+}
+
+/** The lines of the script around the one that is looked at, each with its answer. */
+function drawRows() {
+  const { course, future, place } = view;
+  const here = course.nodeAt(future, place).row;
+  const middle = Math.max(here, 0);
+  const first = Math.max(0, middle - ROWS_AROUND), last = Math.min(course.lines.length, middle + ROWS_AROUND);
+  const inWay = new Map(course.way(future).map((node) => [node.row, node.depth]));
+  const rows = course.lines.slice(first, last).map((line, at) => rowOf(line, first + at, inWay, here));
+  byId("rows").replaceChildren(...(first > 0 ? [element("li", { class: "more" }, `${first} lines before`)] : []), ...rows,
+    ...(last < course.lines.length ? [element("li", { class: "more" }, `${course.lines.length - last} lines behind`)] : []));
+  const row = byId("rows").querySelector("[aria-current]");
+  const list = byId("rows");
+  list.scrollTop = row ? row.offsetTop - list.clientHeight / 2 : 0;
+}
+
+/** A row of the list. One that is a step of this future leads to it. */
+function rowOf(line, row, inWay, here) {
+  const { course, place } = view;
+  const answer = course.rows[row]?.answer ?? null, depth = inWay.get(row);
+  const isBad = course.fault !== null && row === course.fault.line - 1;
+  const words = [isSilent(line) ? "silent" : "", isBad ? "bad" : "", row >= course.rows.length && !isBad ? "unrun" : "",
+    depth === undefined ? (course.nodes.has(row) ? "elsewhere" : "") : depth > place ? "undone" : ""];
+  const look = answer !== null && { class: isRefusal(answer) ? "answer refusal" : "answer", title: sentenceOf(answer) || null };
+  const answered = answer === null ? null : element("span", look, told(answer));
+  const it = element("li", { class: words.join(" ").trim() || null, "aria-current": row === here && here >= 0 ? "step" : null, "data-row": row },
+    element("span", { class: "number" }, `${row + 1}`), element("span", { class: "line" }, line), answered);
+  return it;
+}
+
+/** The step that was made last, and its reason if it is a choice; and what would come next. */
+function drawReason() {
+  const { course, future, place, look } = view;
+  const node = course.nodeAt(future, place);
+  const most = future.tip.depth;
+  if (node === NO_STEP) {
+    byId("told").textContent = `No step stands, of ${most}.`;
+    byId("why").replaceChildren();
+  } else {
+    const answer = course.rows[node.row].answer;
+    byId("told").textContent = `Step ${place} of ${most}: ${toldStep(node)}`;
+    const reason = course.lineOf(node) === "dispatch" ? reasonOf(look.before, answer, look.fresh, course.dials) : null;
+    byId("why").replaceChildren(...(reason === null ? [] : reasonParts(reason)));
+  }
+  const next = new Choice(copyOf(look.fresh), course.dials).reason();
+  const [, , , operation, start, count] = (next.answer ?? "").split(" ");
+  byId("next").textContent = next.seat === null ? `A dispatch now: ${next.answer ? told(next.answer) : "no answer"}, as ${next.parts.join("; ")}.`
+    : `A dispatch now would send ${operation} ${start}+${count} of seat ${next.seat}: ${next.parts.join("; ")}.`;
+}
+
+/** The parts of a reason, and whether the machine did as was worked out. */
+function reasonParts(reason) {
+  const parts = reason.parts.map((part) => element("li", {}, part));
+  const end = reason.faults.length === 0 ? element("p", { class: "as-worked-out" }, AS_WORKED_OUT)
+    : element("p", { class: "otherwise", role: "alert" }, reason.faults.map((it) => element("span", {}, `!!! THE HOST DID OTHERWISE: ${it} `)));
+  return [element("ol", {}, parts), end];
+}
+
+/** Whether undo and redo gave what a new machine gives. */
+function drawExactness() {
+  const { look, place } = view;
+  const how = look.moves.map((it) => `${it.line} \u2192 ${it.answer}`).join(", ");
+  const same = `gives the same ${look.answers.length} looks.`;
+  const it = byId("exact");
+  it.className = look.differences.length > 0 ? "otherwise" : "";
+  if (look.differences.length > 0) it.textContent = `!!! UNDO IS NOT EXACT: ${look.differences.join("; ")}`;
+  else if (look.isStuck) it.textContent = `${how}: the history is full, so this is a new machine that ran the lines up to this step.`;
+  else if (look.moves.length === 0) it.textContent = `The end of this run. \u2713 A new machine that ran the lines up to this step ${same}`;
+  else it.textContent = `The machine was brought back: ${how}. \u2713 A new machine that ran the lines up to step ${place} alone ${same}`;
+}
+
+/** What each client was given. It is asked for when all else is shown, as that takes a run with looks before each dispatch. */
+function drawShares() {
+  const { course, future, place } = view;
+  if (view.services === null) {
+    setTimeout(() => {
+      if (view.course !== course || view.services !== null) return;
+      view.services = new Services(course);
+      drawShares();
+    }, 0);
+    return;
+  }
+  if (view.services.isTooLong) {
+    byId("shares").replaceChildren(element("p", { class: "none" }, "This run is too long to ask who waited at each dispatch, so no share is told."));
+    return;
+  }
+  const points = view.services.points(future);
+  byId("shares").replaceChildren(sharesTable(points, place), ...[lagPicture(points, place)].filter((it) => it !== null));
+}
+
+/** The slider. */
+function drawTrack() {
+  const { course, future, place } = view;
+  const { drawing, nearest } = trackOf(course, view.lanes, future, place, Math.max(300, byId("track").clientWidth));
+  byId("track").replaceChildren(drawing);
+  view.nearest = nearest;
+  const slider = byId("slider");
+  // It is as long as the longest future, so that its thumb stands below the mark of the drawing.
+  slider.max = `${mostSteps(course)}`;
+  slider.value = `${place}`;
+  const node = course.nodeAt(future, place);
+  slider.setAttribute("aria-valuetext", `step ${place} of ${future.tip.depth}, ${node === NO_STEP ? "no step stands" : toldStep(node)}`);
+  byId("count").textContent = `${place} / ${future.tip.depth}`;
+  byId("future").value = `${future.number}`;
+  byId("lay").setAttribute("aria-pressed", `${view.beside !== null}`);
+}
+
+/** The next place of a choice, forth or back; the end if there is none. */
+function choiceFrom(place, by) {
+  const way = view.course.way(view.future);
+  for (let at = place + by; at >= 1 && at <= way.length; at += by) if (view.course.lineOf(way[at - 1]) === "dispatch") return at;
+  return by > 0 ? way.length : 0;
+}
+
+/** Another future, at the place at which it leaves the one that is shown, or where that was. */
+function choose(future) {
+  if (view.beside === future) view.beside = view.future;
+  view.future = future;
+  show(Math.min(view.place, future.tip.depth));
+}
+
+/** The future behind or before this one in the order in which they were dropped. */
+function otherFuture(by) {
+  const { futures } = view.course;
+  return futures[(view.future.number + by + futures.length) % futures.length];
+}
+
+/** Lays another future beside, or takes it away. */
+function layBeside() {
+  if (view.course.futures.length < 2) return;
+  view.beside = view.beside === null ? otherFuture(-1) : null;
+  show(view.place);
+}
+
+/** Asks a line that was typed, at the place that is shown: steps behind it are undone first, and are another future then. */
+function ask(line) {
+  const why = whyBad(line);
+  if (why !== null || isSilent(line)) {
+    tellTyped(why ?? "This line asks for nothing.", true);
+    return;
+  }
+  const { course, future, place } = view;
+  const { cursor, isHeld } = course.stateAfter(future.prefix);
+  const moves = course.movesTo(future, place);
+  const before = course.lines.slice(0, future.prefix);
+  // Who typed `hold` wants it to stay; a host that was held for the way is released.
+  const lines = [...before, ...moves, ...(place !== cursor && !isHeld ? ["release"] : []), line];
+  byId("run").value = "";
+  byId("typed").value = "";
+  // A script that is cut at a dropped future goes on from there.
+  runScript(lines.map((it) => `${it}\n`).join(""), view.dials);
+  const answer = view.course.rows[lines.length - 1]?.answer ?? "no answer";
+  tellTyped(`${line} \u2192 ${told(answer)}${isRefusal(answer) ? `: ${sentenceOf(answer)}` : ""}`, isRefusal(answer));
+}
+
+/** Says what came of a line that was typed. */
+function tellTyped(text, isFault) {
+  byId("typed-answer").textContent = text;
+  byId("typed-answer").className = isFault ? "fault" : "";
+}
+
+/** Opens or closes the script as a text. */
+function edit(isOpen) {
+  document.documentElement.classList.toggle("edits", isOpen);
+  byId("text").value = isOpen ? view.text : "";
+  if (isOpen) byId("text").focus();
+}
+
+/** Runs what stands in the fields of options; a field that is wrong is marked, and the run stays. */
+function fromFields() {
+  const words = [SCHEDULER, byId("scheduler").value, ...OPTIONS.flatMap(({ name, field }) => [name, byId(field).value.trim()])];
+  for (const { field } of OPTIONS) byId(field).removeAttribute("aria-invalid");
+  try {
+    const dials = dialsOf(words);
+    tellFault("");
+    runScript(view.text, dials);
+  } catch (fault) {
+    if (!(fault instanceof BadOption)) throw fault;
+    const wrong = OPTIONS.find(({ name }) => fault.message.startsWith(`${name} `));
+    if (wrong) byId(wrong.field).setAttribute("aria-invalid", "true");
+    tellFault(`${fault.message}. What is shown is the run before.`);
+  }
+}
+
+/** Light, dark, or what the system has. */
+function setLook(look) {
+  document.documentElement.dataset.look = look === "dark" || look === "light" ? look : "";
+}
+
+function isDark() {
+  const { look } = document.documentElement.dataset;
+  return look ? look === "dark" : matchMedia("(prefers-color-scheme: dark)").matches;
+}
+
+/** Puts what is shown into the address, so that a link or a reload shows it again. */
+function toAddress() {
+  const words = new URLSearchParams();
+  const named = scriptNamed(byId("run").value);
+  if (named?.text === view.text) {
+    if (named !== view.given) words.set("run", named.name);
+  } else if (view.text.length <= MOST_IN_ADDRESS) {
+    words.set("script", view.text);
+  }
+  const options = wordsOf(view.dials).join(" ");
+  if (words.has("script") ? options : options !== (named ?? view.given).options.join(" ")) words.set("options", options);
+  if (view.future !== view.course.standing) words.set("future", view.future.number + 1);
+  words.set("step", view.place);
+  if (view.beside) words.set("beside", view.beside.number + 1);
+  if (document.documentElement.classList.contains("large")) words.set("print", "large");
+  if (document.documentElement.dataset.look) words.set("look", document.documentElement.dataset.look);
+  view.address = `#${words}`;
+  try {
+    history.replaceState(null, "", view.address);
+  } catch {
+    // A browser may refuse it for a page from a disk. The page works without.
+  }
+}
+
+const KEYS = {
+  ArrowLeft: (shift) => show(shift ? choiceFrom(view.place, -1) : view.place - 1),
+  ArrowRight: (shift) => show(shift ? choiceFrom(view.place, 1) : view.place + 1),
+  ArrowUp: () => choose(otherFuture(-1)),
+  ArrowDown: () => choose(otherFuture(1)),
+  Home: () => show(0),
+  End: () => show(view.future.tip.depth),
+  b: () => layBeside(),
+  e: () => edit(true),
+  t: () => byId("typed").focus(),
+  l: () => { document.documentElement.classList.toggle("large"); show(view.place); },
+  d: () => { setLook(isDark() ? "light" : "dark"); show(view.place); },
+};
+
+/** Whether a key belongs to the element that has the focus. */
+function isTyping(target) {
+  return target.matches("textarea, select, input:not([type=range])");
+}
+
+/** Listens to keys, buttons, fields and the drawing of the slider. */
+function listen() {
+  document.addEventListener("keydown", (event) => {
+    if (event.key === "Escape") {
+      edit(false);
+      document.activeElement.blur();
+    }
+    if (event.ctrlKey || event.altKey || event.metaKey || isTyping(event.target) || !(event.key in KEYS)) return;
+    event.preventDefault();
+    KEYS[event.key](event.shiftKey);
+  });
+  const pressed = [["first", "Home"], ["choice-back", "ArrowLeft", true], ["back", "ArrowLeft"], ["forth", "ArrowRight"], ["choice-forth", "ArrowRight", true],
+    ["last", "End"], ["lay", "b"], ["large", "l"], ["dark", "d"]];
+  for (const [id, key, shift] of pressed) byId(id).addEventListener("click", () => KEYS[key](shift));
+  listenToScript();
+  listenToTrack();
+  for (const id of ["scheduler", "dials"]) byId(id).addEventListener("change", fromFields);
+  byId("future").addEventListener("change", (event) => choose(view.course.futures[Number(event.target.value)]));
+  addEventListener("hashchange", () => { if (location.hash !== view.address) fromAddress(); });
+}
+
+/** Listens to the menu, to the list of lines, and to what is typed. */
+function listenToScript() {
+  byId("edit").addEventListener("click", () => edit(true));
+  byId("cancel").addEventListener("click", () => edit(false));
+  byId("run-text").addEventListener("click", () => {
+    const text = byId("text").value;
+    edit(false);
+    if (text !== view.text) byId("run").value = "";
+    runScript(text, view.dials);
+  });
+  byId("run").addEventListener("change", (event) => {
+    const it = scriptNamed(event.target.value);
+    if (it) runScript(it.text, dialsOf(it.options));
+  });
+  byId("typing").addEventListener("submit", (event) => {
+    event.preventDefault();
+    ask(byId("typed").value);
+  });
+  byId("rows").addEventListener("click", (event) => goToRow(Number(event.target.closest("li[data-row]")?.dataset.row ?? NaN)));
+}
+
+/** Listens to the slider and to its drawing, on which a press also chooses a future. */
+function listenToTrack() {
+  byId("slider").addEventListener("input", (event) => show(Number(event.target.value)));
+  let isDragged = false;
+  const drag = (event) => {
+    const box = byId("track").getBoundingClientRect();
+    const { future, place } = view.nearest(event.clientX - box.left, event.clientY - box.top);
+    if (event.type === "pointerdown") view.future = future;
+    show(place);
+  };
+  byId("track").addEventListener("pointerdown", (event) => {
+    isDragged = true;
+    byId("track").setPointerCapture(event.pointerId);
+    drag(event);
+  });
+  byId("track").addEventListener("pointermove", (event) => { if (isDragged) drag(event); });
+  byId("track").addEventListener("pointerup", () => { isDragged = false; });
+  addEventListener("resize", drawTrack);
+}
+
+/** Goes to the step of a row, in this future or in the one that has it. */
+function goToRow(row) {
+  const node = view.course.nodes.get(row);
+  if (!node) return;
+  const { course } = view;
+  if (course.way(view.future)[node.depth - 1] !== node) view.future = course.futures.find((it) => course.tail(it).includes(node)) ?? course.standing;
+  show(node.depth);
+}
+
+// A test that has no document takes the functions above alone.
+if (typeof document !== "undefined") begin();
