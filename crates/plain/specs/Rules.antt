@@ -7,7 +7,7 @@ use Rattle.plain.specs.declared.member.State.{State}
 use Rattle.plain.specs.declared.member.State.TheVariants.{Idle, Active, Serving}
 use Rattle.plain.specs.declared.member.Member.{Member}
 use Rattle.plain.specs.declared.member.Vtimes.{Vtimes}
-use Rattle.plain.specs.Classes.{first_class, of_class, time_of, with_time, with_member, with_vtimes}
+use Rattle.plain.specs.Classes.{first_class, of_class, with_time, with_member, with_vtimes}
 use Rattle.plain.specs.Members.{weight_sum, least_start, pick, Service}
 use Rattle.plain.specs.Groups.{path, has_entity}
 use Rattle.plain.specs.declared.seat.InService.{InService}
