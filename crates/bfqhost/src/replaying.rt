@@ -8,12 +8,12 @@ use crate::faults::{
 };
 use crate::start::{OUTPUT_BYTES, status};
 use base_image::{Image, ZeroImage, file_image};
-use history::Keeper;
-use run_replay::{Asked, ListEnd, ReplayFault, Replayed, list, load};
+use host_rings::Book;
+use run_replay::{Asked, ReplayFault, Replayed, load};
 use script_host::run_script_at;
 use sector_core::ConfigFault;
 use std::fs::File;
-use std::io::{self, BufWriter, ErrorKind};
+use std::io::{self, BufWriter, ErrorKind, Write};
 use std::rt::Files;
 
 // No record that was read has as many sectors.
@@ -26,10 +26,8 @@ pub struct Replaying<'a> {
     pub file: &'a str,
     /// The file that is the image of the script's device.
     pub image: Option<&'a str>,
-    /// The history and the end that are asked for.
+    /// The history, the end and the lines that are asked for.
     pub asked: Asked,
-    /// Whether the entries are listed, in place of a script.
-    pub list: bool,
 }
 
 /// Replays a record, which is judged whole first, and then runs the script of standard input on its keeper, or lists its entries. Gives the
@@ -41,7 +39,7 @@ pub fn replay(
 ) -> u8
     ensures { IsStatus result }
 {
-    let Replaying { file, asked, .. } = replaying;
+    let Replaying { file, asked, image } = replaying;
     let loaded = match File::open(rt, file) {
         Ok(mut reader) => load(rt.alloc(), &mut reader, asked),
         Err(error) if error.kind() == ErrorKind::OutOfMemory => Err(ReplayFault::OutOfMemory),
@@ -55,10 +53,14 @@ pub fn replay(
         let entries = replayed.entries;
         let _ = eprintln!(rt; "record: torn behind entry {entries}");
     }
-    if replaying.list {
-        return list_entries(rt, file, asked, at_terminal);
+    let sectors = replayed.header.sectors;
+    match image {
+        Some(path) => over_file(rt, replayed, asked.list, path, at_terminal),
+        None if sectors < TOO_MANY_SECTORS => {
+            finish(rt, replayed, asked.list, ZeroImage::new(sectors))
+        }
+        None => bad_entry(rt, 0, at_terminal),
     }
-    run(rt, replayed, replaying.image, at_terminal)
 }
 
 // Tells why a record is not replayed.
@@ -73,38 +75,21 @@ fn bad_record(rt: &impl Eprint, file: &str, fault: ReplayFault, at_terminal: boo
     }
 }
 
-// Runs the script of standard input, over the image that is named or over zeros.
-fn run(
-    rt: &(impl Files<File = File> + AllocGlobal + Input + Print + Eprint),
-    replayed: Replayed,
-    image: Option<&str>,
-    at_terminal: bool,
-) -> u8
-    ensures { IsStatus result }
-{
-    let sectors = replayed.header.sectors;
-    let keeper = replayed.book.into_keeper();
-    match image {
-        Some(path) => over_file(rt, keeper, sectors, path, at_terminal),
-        None if sectors < TOO_MANY_SECTORS => run_over(rt, keeper, ZeroImage::new(sectors)),
-        None => bad_entry(rt, 0, at_terminal),
-    }
-}
-
-// Runs the script over the image in a file, which must have the record's sectors.
+// Ends a replay over the image in a file, which must have the record's sectors.
 fn over_file(
     rt: &(impl Files<File = File> + AllocGlobal + Input + Print + Eprint),
-    keeper: Keeper,
-    sectors: u64,
+    replayed: Replayed,
+    list: bool,
     path: &str,
     at_terminal: bool,
 ) -> u8
     ensures { IsStatus result }
 {
+    let sectors = replayed.header.sectors;
     match file_image(rt, path) {
         Ok(image) => {
             if image.sectors() == sectors {
-                run_over(rt, keeper, image)
+                finish(rt, replayed, list, image)
             } else {
                 other_image(rt, path, sectors, at_terminal)
             }
@@ -114,10 +99,29 @@ fn over_file(
     }
 }
 
-// Runs the script of standard input over an image.
+// Prints the lines of a record's entries, or runs the script of standard input on its keeper, over an image.
+fn finish<I: Image + Drop>(
+    rt: &(impl AllocGlobal + Input + Print + Eprint),
+    replayed: Replayed,
+    list: bool,
+    image: I,
+) -> u8
+    requires { (I.disk image).faults < 2 ^ 63 }
+    ensures { IsStatus result }
+{
+    if list {
+        return match io::writer(rt).write_all(replayed.lines.as_slice()) {
+            Ok(()) => DONE,
+            Err(_) => WRITE_FAULT,
+        };
+    }
+    run_over(rt, replayed.book, image)
+}
+
+// Runs the script of standard input on the keeper of a record, over an image.
 fn run_over<I: Image + Drop>(
     rt: &(impl AllocGlobal + Input + Print + Eprint),
-    keeper: Keeper,
+    book: Book,
     image: I,
 ) -> u8
     requires { (I.disk image).faults < 2 ^ 63 }
@@ -127,29 +131,7 @@ fn run_over<I: Image + Drop>(
         Ok(output) => output,
         Err(_) => return no_memory(rt),
     };
+    let keeper = book.into_keeper();
     let end = run_script_at(rt.alloc(), keeper, &mut rt.reader(), &mut output, image);
     status(rt, end)
-}
-
-// Lists the entries of a record that was judged.
-fn list_entries(
-    rt: &(impl Files<File = File> + AllocGlobal + Print + Eprint),
-    file: &str,
-    asked: Asked,
-    at_terminal: bool,
-) -> u8
-    ensures { IsStatus result }
-{
-    let mut output = match BufWriter::with_capacity(rt.alloc(), OUTPUT_BYTES, io::writer(rt)) {
-        Ok(output) => output,
-        Err(_) => return no_memory(rt),
-    };
-    let Ok(mut reader) = File::open(rt, file) else {
-        return unread_record(rt, file, at_terminal);
-    };
-    match list(rt.alloc(), &mut reader, &mut output, asked) {
-        ListEnd::Done => DONE,
-        ListEnd::WriteFault => WRITE_FAULT,
-        ListEnd::Fault(fault) => bad_record(rt, file, fault, at_terminal),
-    }
 }

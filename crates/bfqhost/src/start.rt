@@ -85,8 +85,7 @@ where
             let replaying = Replaying {
                 file: file.as_str(),
                 image: text_in(&image),
-                asked: Asked { history, to },
-                list,
+                asked: Asked { history, to, list },
             };
             replay(rt, replaying, at_terminal)
         }

@@ -90,7 +90,12 @@ impl<'a, R: Clock> Read for Visit<'a, R> {
         if self.is_over()? {
             return Err(ErrorKind::TimedOut.into());
         }
-        let held = self.reader.fill_buf()?;
+        self.reader.fill_buf()?;
+        // The read may have waited for IDLE, and what is asked next may take as long again.
+        if self.is_over()? {
+            return Err(ErrorKind::TimedOut.into());
+        }
+        let held = self.reader.buffer();
         let count = line_length(held).min(buf.len());
         buf[..count].copy_from_slice(&held[..count]);
         self.is_answered = held[..count].last() == Some(&b'\n');

@@ -3,18 +3,23 @@
 use run_record::Header;
 use run_recording::Recorder;
 use std::alloc::Global;
-use std::fs::OpenOptions;
+use std::fs::{self, OpenOptions, Permissions};
 use std::io::{self, BufWriter, ErrorKind, Write};
+use std::os::unix::fs::PermissionsExt;
 use std::rt::Files;
 
 // A record is written in pieces of this size.
 const PIECE_BYTES: usize = 65_536;
 
-/// Makes the file of a record, which must not be there, and writes the first line.
+// Who made a record may use it, and nobody else.
+const OWNER_ALONE: u32 = 0o600;
+
+/// Makes the file of a record, which must not be there, and writes the first line. Its owner alone may read it, as the clients' bytes are
+/// in it.
 ///
 /// # Errors
 ///
-/// The file is there, or cannot be made or written; or there is no memory.
+/// Something is there, or the file cannot be made or written; or there is no memory. Then no file is left that was not there.
 pub fn open_record<R: Files>(
     rt: &R,
     alloc: Global,
@@ -24,15 +29,47 @@ pub fn open_record<R: Files>(
 where
     R::File: Write + Drop,
 {
-    let file = OpenOptions::new()
+    let file = match OpenOptions::new()
         .write(true)
         .create_new(true)
-        .open(rt, path)?;
+        .open(rt, path)
+    {
+        Ok(file) => file,
+        // Of a folder the system does not always say that it is there.
+        Err(_) if fs::symlink_metadata(rt, path).is_ok() => {
+            return Err(ErrorKind::AlreadyExists.into());
+        }
+        Err(error) => return Err(error),
+    };
+    let begun = begin(rt, alloc, path, file, header);
+    if begun.is_err() {
+        drop_record(rt, path);
+    }
+    begun
+}
+
+// Writes the first line. It is to be on the way before the host serves.
+fn begin<R: Files>(
+    rt: &R,
+    alloc: Global,
+    path: &str,
+    file: R::File,
+    header: &Header,
+) -> io::Result<Recorder<BufWriter<R::File>>>
+where
+    R::File: Write + Drop,
+{
+    fs::set_permissions(rt, path, Permissions::from_mode(OWNER_ALONE))?;
     let writer = BufWriter::with_capacity(alloc, PIECE_BYTES, file)?;
     let Some(mut recorder) = Recorder::new(alloc, writer, header) else {
         return Err(ErrorKind::OutOfMemory.into());
     };
-    // A line that cannot be written is told before the host serves.
     recorder.writer.flush()?;
     Ok(recorder)
+}
+
+/// Removes the record of a host that did not come to serve.
+pub fn drop_record(rt: &impl Files, path: &str) {
+    // A file that is gone already is as it should be.
+    let _ = fs::remove_file(rt, path);
 }

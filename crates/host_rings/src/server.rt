@@ -2,7 +2,7 @@
 ghost use Rattle.std.specs.Prelude.{◌≤◌, length};
 
 use crate::opening::host;
-use crate::recording::open_record;
+use crate::recording::{drop_record, open_record};
 use crate::running::{start_core, start_looks};
 use crate::warning::Warning;
 use crate::watcher::Watcher;
@@ -76,7 +76,8 @@ pub fn run_server<
 /// tells. Once the operator has stopped the host, the files of its sockets are removed, and then he is told: so he may start another host
 /// in the same folder. Threads that still meet a peer are left to the end of the process. If a path cannot be had `fault` tells why.
 ///
-/// A record is made once the sockets are there. It has the journal's entries, in order, also at the end.
+/// A record is made once the sockets are there. It has the journal's entries, in order, also at the end. Of a host that does not come to
+/// serve none is left.
 ///
 /// On standard error it says when it serves, once when nine tenths of the history are used, once when it is full, and once that the record
 /// has failed and ends.
@@ -121,7 +122,11 @@ where
                     }
                 }
             };
-            serve_at(rt, alloc, config, images, doors, options, recorder)
+            let served = serve_at(rt, alloc, config, images, doors, options, recorder);
+            if let (Err(_), Some(path)) = (&served, watching.record) {
+                drop_record(&rt, path);
+            }
+            served
         }
     };
     Ok(end_at(&rt, alloc, made, served))

@@ -1,5 +1,5 @@
 -- The first line of a record: what the host was made for.
-use Rattle.std.specs.Prelude.{ℕ, List, [], ◌∷◌, ◌++◌, codes}
+use Rattle.std.specs.Prelude.{◌≡◌, ℕ, List, [], ◌∷◌, ◌++◌, codes}
 use Rattle.std.specs.Fmt.{decimal}
 use Rattle.sector_core.specs.declared.config.Config.{Config}
 use Rattle.sector_core.specs.declared.config.Scheduler.{Scheduler}
@@ -22,3 +22,14 @@ second_half c sectors = 32 ∷ (decimal c.timeout ++ 32 ∷ (decimal c.history_m
 -- the line, with its end (our format)
 abbrev pub header_text : Config → ℕ → List ℕ
 header_text c sectors = first_half c ++ second_half c sectors
+
+-- two configurations have the same numbers, and the same scheduler
+pub record IsSameConfig (c d : Config) : Type 0 where
+  pub scheduler : c.scheduler ≡ d.scheduler
+  pub nr_requests : c.nr_requests ≡ d.nr_requests
+  pub tags : c.tags ≡ d.tags
+  pub first_budget : c.first_budget ≡ d.first_budget
+  pub max_budget : c.max_budget ≡ d.max_budget
+  pub timeout : c.timeout ≡ d.timeout
+  pub history_max : c.history_max ≡ d.history_max
+  pub first_vtime : c.first_vtime ≡ d.first_vtime

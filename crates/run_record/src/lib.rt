@@ -4,8 +4,10 @@
 mod devices;
 mod entry;
 mod header;
+mod laws;
 mod naming;
 mod seats;
 
 pub use entry::Entry;
 pub use header::{Header, HeaderFault, MOST_HEADER, put_header, read_header};
+pub use laws::one_header;

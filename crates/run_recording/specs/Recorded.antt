@@ -53,7 +53,7 @@ pub record HasStopped (w0 w1 : Known) (pages : List Page) (from to : ℕ) : Type
   pub is_front : IsFrontOf page.name page.call front
   pub appended : Appends mid w1 front
 
--- of a journal as it is now all that is new was written; or, if this ends the record, a front of that (our profile)
+-- of a journal as it is now all that is new was written; if this ends the record, a front of that, or all of it and the flush failed (our profile)
 abbrev pub WritesNew : Known → Known → List Page → ℕ → ℕ → Bool → Type 0
 WritesNew w0 w1 pages from to false = HasRecorded w0 w1 pages from to × (to ≡ length pages)
-WritesNew w0 w1 pages from to true = HasStopped w0 w1 pages from to ⊎ HasRecorded w0 w1 pages from to
+WritesNew w0 w1 pages from to true = HasStopped w0 w1 pages from to ⊎ (HasRecorded w0 w1 pages from to × (to ≡ length pages))

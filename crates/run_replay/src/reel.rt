@@ -1,6 +1,7 @@
 // The pieces of a record's file.
-ghost use Rattle.std.specs.Prelude.{◌≡◌, ℕ, ◌≤◌, ◌<◌, ◌^◌, length, IfOk, IfSome};
+ghost use Rattle.std.specs.Prelude.{◌≡◌, ℕ, ◌≤◌, ◌<◌, ◌^◌, ◌↔◌, [], length, is_some, unwrap_or, IfOk, IfSome, IsFalse, MatchOption};
 ghost use Rattle.dispatch_core.specs.Running.{sizes_of};
+ghost use Rattle.run_replay.specs.Replaying.{HasRead, Opens, Goes, IsOver};
 
 use run_record::{Entry, Header, HeaderFault, MOST_HEADER, read_header};
 use sector_core::{Config, ConfigDraft};
@@ -18,6 +19,8 @@ pub struct Asked {
     pub history: Option<u64>,
     /// The number of the entry before which it stops, from 1; none are left out, if nothing is asked.
     pub to: Option<u64>,
+    /// Whether each entry before that one is to have a line of text.
+    pub list: bool,
 }
 
 /// Why a record is not replayed.
@@ -40,19 +43,26 @@ pub struct Reel {
     pub header: Header,
     feeder: Feeder<Entry>,
     piece: Vec<u8>,
-    // What stood behind the first line in the piece that had its end.
-    first: Vec<u8>,
-    is_first: bool,
+}
+
+/// The entries of a piece.
+#[derive(Drop)]
+pub struct Batch {
+    /// Those that are whole with it, in order.
+    pub entries: Vec<Entry>,
+    /// Whether what stands behind them is none.
+    pub is_bad: bool,
 }
 
 impl Reel {
-    /// Reads the first line.
+    /// Reads the first line, and the entries that are whole in the piece that has its end.
     ///
     /// # Errors
     ///
     /// The file cannot be read, the line is none, or there is no memory.
-    pub fn open<R: Read>(alloc: Global, reader: &mut R) -> Result<Reel, ReplayFault>
-        ensures { IfOk result (λ reel. reel.header.sectors < 2 ^ 55) }
+    pub fn open<R: Read>(alloc: Global, reader: &mut R) -> Result<(Reel, Batch), ReplayFault>
+        ensures opens { IfOk result (λ r. Opens (R.remaining reader.old) (R.remaining reader.new) r.0 r.1.entries.items r.1.is_bad) }
+        ensures few { IfOk result (λ r. r.0.header.sectors < 2 ^ 55) }
     {
         let Ok(mut piece) = Vec::with_capacity(alloc, PIECE_BYTES) else {
             return Err(ReplayFault::OutOfMemory);
@@ -83,9 +93,16 @@ impl Reel {
     }
 
     // The record whose first line has so many bytes of those that were read.
-    fn behind(alloc: Global, held: &[u8], size: usize, piece: Vec<u8>) -> Result<Reel, ReplayFault>
+    fn behind(
+        alloc: Global,
+        held: &[u8],
+        size: usize,
+        piece: Vec<u8>,
+    ) -> Result<(Reel, Batch), ReplayFault>
         requires { size ≤ length held.now }
-        ensures { IfOk result (λ reel. reel.header.sectors < 2 ^ 55) }
+        ensures read { IfOk result (λ r. HasRead r.0 held.now r.1.entries.items) }
+        ensures bad { IfOk result (λ r. r.1.is_bad ≡ is_some r.0.feeder.fault) }
+        ensures few { IfOk result (λ r. r.0.header.sectors < 2 ^ 55) }
     {
         if size > MOST_HEADER {
             return Err(ReplayFault::BadEntry(0));
@@ -96,42 +113,44 @@ impl Reel {
             Err(HeaderFault::Bad) => return Err(ReplayFault::BadEntry(0)),
             Err(HeaderFault::OutOfMemory) => return Err(ReplayFault::OutOfMemory),
         };
-        let mut first = Vec::new(alloc);
-        if first.extend_from_slice(rest).is_err() {
+        let mut feeder = Feeder::new(alloc);
+        let Ok(fed) = feeder.feed(alloc, rest) else {
             return Err(ReplayFault::OutOfMemory);
-        }
-        Ok(Reel {
+        };
+        let batch = Batch {
+            entries: fed.values,
+            is_bad: fed.fault.is_some(),
+        };
+        let reel = Reel {
             header,
-            feeder: Feeder::new(alloc),
+            feeder,
             piece,
-            first,
-            is_first: true,
-        })
+        };
+        Ok((reel, batch))
     }
 
-    /// The next entries, which are whole with one more piece of the file; none at its end. `seen` entries came before.
+    /// The next entries, which are whole with one more piece of the file; none at its end.
     ///
     /// # Errors
     ///
-    /// The file cannot be read, the bytes behind the entries are none, or there is no memory.
+    /// The file cannot be read, or there is no memory.
     pub fn next<R: Read>(
         &mut self,
         alloc: Global,
         reader: &mut R,
-    ) -> Result<Option<Batch>, ReplayFault> {
-        let fed = if self.is_first {
-            self.is_first = false;
-            self.feeder.feed(alloc, self.first.as_slice())
-        } else {
-            let Ok(count) = reader.read(&mut self.piece) else {
-                return Err(ReplayFault::Unread);
-            };
-            if count == 0 {
-                return Ok(None);
-            }
-            self.feeder.feed(alloc, &self.piece[..count])
+    ) -> Result<Option<Batch>, ReplayFault>
+        requires { 0 < length self.old.piece.items }
+        ensures goes { IfOk result (λ o. MatchOption o (IsOver (R.remaining reader.old) (R.remaining reader.new) self.old self.new)
+            (λ batch. Goes (R.remaining reader.old) (R.remaining reader.new) self.old self.new batch.entries.items batch.is_bad)) }
+        ensures header { self.new.header ≡ self.old.header }
+    {
+        let Ok(count) = reader.read(&mut self.piece) else {
+            return Err(ReplayFault::Unread);
         };
-        match fed {
+        if count == 0 {
+            return Ok(None);
+        }
+        match self.feeder.feed(alloc, &self.piece[..count]) {
             Ok(fed) => Ok(Some(Batch {
                 entries: fed.values,
                 is_bad: fed.fault.is_some(),
@@ -141,18 +160,11 @@ impl Reel {
     }
 
     /// Whether the file ends inside of an entry.
-    pub fn is_torn(&self) -> bool {
+    pub fn is_torn(&self) -> bool
+        ensures { IsFalse result ↔ self.now.feeder.bytes ≡ [] }
+    {
         !self.feeder.is_between()
     }
-}
-
-/// The entries of a piece.
-#[derive(Drop)]
-pub struct Batch {
-    /// Those that are whole with it, in order.
-    pub entries: Vec<Entry>,
-    /// Whether what stands behind them is none.
-    pub is_bad: bool,
 }
 
 // How many bytes the first line has, with its end, if its end is there.
@@ -173,7 +185,8 @@ fn line_length(bytes: &[u8]) -> Option<usize>
 ///
 /// The number is out of its limits.
 pub fn config_of(config: Config, history: Option<u64>) -> Result<Config, ReplayFault>
-    ensures { IfOk result (λ made. (sectors : ℕ) → sizes_of made sectors ≡ sizes_of config sectors) }
+    ensures same { IfOk result (λ made. (sectors : ℕ) → sizes_of made sectors ≡ sizes_of config sectors) }
+    ensures history { IfOk result (λ made. made.history_max ≡ unwrap_or history config.history_max) }
 {
     let draft = ConfigDraft {
         scheduler: config.scheduler,
