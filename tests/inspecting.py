@@ -252,6 +252,12 @@ def hostile(host):
         with Look(host):
             meets_next(host, "one that says nothing")
         with Look(host) as look:
+            late = threading.Thread(target=asks_late, args=(look,))
+            late.start()
+            time.sleep(0.5)
+            meets_next(host, "one that asks as late as it may, and takes nothing")
+            late.join()
+        with Look(host) as look:
             dripping = threading.Thread(target=lambda: drips(look))
             dripping.start()
             meets_next(host, "one that says a byte now and then")
@@ -263,6 +269,15 @@ def hostile(host):
             look.socket.sendall(b"show tree 0\n" * 1000)
         meets_next(host, "one that goes away before it was answered")
     host.stop()
+
+
+def asks_late(look):
+    """Asks just before its half second is over, and then just before it would be let go, for more than the system takes of the answers."""
+    time.sleep(0.45)
+    look.socket.sendall(b"line\n")
+    look.line()
+    time.sleep(0.9)
+    sends(look, b"show tree 0\n" * 4096, 1)
 
 
 def drips(look):

@@ -108,7 +108,7 @@ def as_the_format_says(program, folder):
     """The bytes of a record are the first line and a frame for each accepted call, in order."""
     file = recorded(program, folder, two_and_an_operator)
     same("the record", bytes_of(file).hex(), (HEADER + b"".join(bytes.fromhex(frame) for frame in FRAMES)).hex())
-    same("the file's mode", os.stat(file).st_mode & 0o077 & ~0o044, 0)
+    same("the file's mode", os.stat(file).st_mode & 0o777, 0o600)
 
 
 def listed(program, folder):
@@ -125,6 +125,9 @@ def listed(program, folder):
     answers = ["attached 1", "queued 2", "issued 0 3 store 5 1", "finished 1", "completed 2 written", "queued 6", "issued 0 7 fetch 5 2", "finished 1",
                None, "moved 9 9", "moved 6 9", "moved 8 9", "done", "done", "done", None, "left", "attached 14", "left"]
     same("answers", [wanted and line[4] for line, wanted in zip(found, answers, strict=True)], answers)
+    with subprocess.Popen(["cat", file], stdout=subprocess.PIPE) as piped:
+        ended = subprocess.run([program, "replay", "/dev/stdin", "--list"], stdin=piped.stdout, capture_output=True, text=True, timeout=SECONDS, check=False)
+    same("a list of a pipe", (ended.stdout.splitlines(), ended.stderr, ended.returncode), (lines, "", 0))
     for stop in (0, 1, 4, len(lines) + 1, 2**64 - 1):
         same(f"a list to {stop}", Ended(program, [file, "--list", "--to", str(stop)]).lines(), lines[:max(stop - 1, 0)])
 
@@ -247,12 +250,14 @@ def refused_files(program, folder):
             read_record(data)
         except BadEntry as bad:
             same(f"{what}, as the page has it", bad.args[0], number)
-        Ended(program, [put_bytes(folder, data)], "line\n").is_refused(f"record: bad entry {number}")
+        for words in ([], ["--to", "1"], ["--list"], ["--list", "--to", "1"]):
+            Ended(program, [put_bytes(folder, data), *words], "line\n").is_refused(f"record: bad entry {number}")
     for file in (os.path.join(folder, "none"), folder, os.path.join(folder, "none", "none")):
         Ended(program, [file]).is_refused("record: cannot be read")
     file = put_bytes(folder, short_record())
     Ended(program, [file, "--image", put_bytes(folder, b"\0" * 512 * 65, "greater")], "line\n").is_refused("image: cannot be read")
-    Ended(program, [file, "--image", os.path.join(folder, "none")], "line\n").is_refused("image: cannot be read")
+    for words in ([], ["--list"]):
+        Ended(program, [file, "--image", os.path.join(folder, "none"), *words], "line\n").is_refused("image: cannot be read")
     for history in ("13", "0", "16777217"):
         Ended(program, [file, "--history", history], "line\n").is_refused("config: history_max")
     same("room for all", Ended(program, [file, "--history", "14"], "line\ntick\n").lines()[1][:7], "refused")
@@ -280,7 +285,7 @@ def files_that_are_there(program, folder):
     os.symlink(os.path.join(folder, "nowhere"), os.path.join(folder, "link"))
     there = put_bytes(folder, b"mine", "there")
     for file, said in ((there, "record: exists"), (folder, "record: exists"), (os.path.join(folder, "link"), "record: exists"),
-                       (os.path.join(folder, "none", "run"), "record: failed"), ("", "record: failed")):
+                       (folder + "/", "record: exists"), (os.path.join(folder, "none", "run"), "record: failed"), ("", "record: failed")):
         ended = subprocess.run([program, "serve", "--image", image, "--dir", sockets, "--record", file], stdin=subprocess.DEVNULL,
                                capture_output=True, text=True, timeout=SECONDS, check=False)
         same(f"a record at {file}", (ended.stderr, ended.stdout, ended.returncode), (said + "\n", "", NO_SOCKET))
@@ -291,6 +296,19 @@ def files_that_are_there(program, folder):
     ended = subprocess.run([program, "serve", "--image", image, "--dir", os.path.join(folder, "none"), "--record", file], stdin=subprocess.DEVNULL,
                            capture_output=True, text=True, timeout=SECONDS, check=False)
     same("no folder for sockets", (ended.stderr, ended.returncode, os.path.exists(file)), ("socket: failed\n", NO_SOCKET, False))
+
+
+def none_is_left(program, folder):
+    """Of a host that finds no memory for its history no record is left, and the sockets are removed."""
+    image, sockets, file = image_of(folder), os.path.join(folder, "sockets"), os.path.join(folder, "run")
+    os.mkdir(sockets)
+    little = 1 << 25
+    # The names of a full history alone take 16 MB, and its journal more.
+    ended = subprocess.run([program, "serve", "--image", image, "--dir", sockets, "--record", file, "--history", "16777216"], stdin=subprocess.DEVNULL,
+                           capture_output=True, text=True, timeout=SECONDS, check=False,
+                           preexec_fn=lambda: resource.setrlimit(resource.RLIMIT_AS, (little, little)))
+    same("the end", (ended.stderr, ended.stdout, ended.returncode), ("memory: none\n", "", 5))
+    same("what is left", (os.path.exists(file), os.listdir(sockets)), (False, []))
 
 
 def small_files_alone():
@@ -342,7 +360,7 @@ def killed(program, folder):
     same("seats and calls", [re.fullmatch(r"\d+ \S+ (\w+) (.*) -> .*", line).groups() for line in lines], [entry[:2] for entry in entries])
 
 
-RUNS = [as_the_format_says, listed, is_what_was_served, goes_on_otherwise, cut_everywhere, each_byte_changed, refused_files, full_history,
+RUNS = [as_the_format_says, listed, is_what_was_served, goes_on_otherwise, cut_everywhere, each_byte_changed, refused_files, full_history, none_is_left,
         files_that_are_there, full_disk, killed]
 
 

@@ -13,7 +13,7 @@ use Rattle.plain.specs.declared.answer.Code.TheVariants.{NotHeld, AlreadyHeld, Z
 use Rattle.plain.specs.declared.answer.Cause.TheVariants.{Held}
 use Rattle.plain.specs.Opening.{Limits}
 use Rattle.plain.specs.Step.{step}
-use Rattle.plain.specs.Keeper.{State, opened, machine_of, has_room, entered, did, called}
+use Rattle.plain.specs.Keeper.{State, opened, machine_of, has_room, did, called}
 use Rattle.plain.specs.Headline.{replayed, replay}
 
 -- a keeper with another history

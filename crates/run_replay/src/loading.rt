@@ -77,7 +77,7 @@ fn kept(
     sectors: u64,
     to: Option<u64>,
 ) -> Result<Book, ReplayFault>
-    requires { sectors < 2 ^ 55 }
+    requires few { sectors < 2 ^ 55 }
     requires limits { book.limits ≡ of_sizes (sizes_of config sectors) }
     requires most { book.most ≡ config.history_max }
     ensures entries { IfOk result (λ kept. kept.entries ≡ before to book.entries) }
@@ -95,9 +95,25 @@ fn kept(
         let Some((name, call)) = book.entry(at) else {
             return Ok(front);
         };
-        make(alloc, &mut front, name, call, at as u64, false)?;
+        make_again(alloc, &mut front, name, call, at as u64)?;
     }
     Ok(front)
+}
+
+// Makes a call that was accepted once, and so is accepted again unless memory is wanting.
+fn make_again(
+    alloc: Global,
+    book: &mut Book,
+    name: SeatName,
+    call: &Call,
+    number: u64,
+) -> Result<(), ReplayFault>
+    ensures made { OnOk result (book.new.entries ≡ book.old.entries ++ record { name = name; call = call.now } ∷ []) }
+    ensures limits { book.new.limits ≡ book.old.limits }
+    ensures most { book.new.most ≡ book.old.most }
+{
+    let _answer = make(alloc, book, name, call, number, false)?;
+    Ok(())
 }
 
 // Makes the calls of a piece's entries, one after the other.

@@ -10,7 +10,7 @@ use std::alloc::Global;
 use std::io::Read;
 
 // A read takes at most this many bytes.
-const PIECE_BYTES: usize = 65_536;
+const PIECE_BYTES: usize = 4096;
 
 /// What is asked of a replay.
 #[derive(Clone, Copy)]
@@ -42,7 +42,6 @@ pub struct Reel {
     /// What its host was made for.
     pub header: Header,
     feeder: Feeder<Entry>,
-    piece: Vec<u8>,
 }
 
 /// The entries of a piece.
@@ -64,17 +63,12 @@ impl Reel {
         ensures opens { IfOk result (λ r. Opens (R.remaining reader.old) (R.remaining reader.new) r.0 r.1.entries.items r.1.is_bad) }
         ensures few { IfOk result (λ r. r.0.header.sectors < 2 ^ 55) }
     {
-        let Ok(mut piece) = Vec::with_capacity(alloc, PIECE_BYTES) else {
-            return Err(ReplayFault::OutOfMemory);
-        };
-        if piece.resize(PIECE_BYTES, 0).is_err() {
-            return Err(ReplayFault::OutOfMemory);
-        }
+        let mut piece = [0u8; PIECE_BYTES];
         let mut held = Vec::new(alloc);
         // Each read but the last brings a byte, and a line of more bytes is none.
         for _ in 0..=MOST_HEADER {
             if let Some(size) = line_length(held.as_slice()) {
-                return Reel::behind(alloc, held.as_slice(), size, piece);
+                return Reel::behind(alloc, held.as_slice(), size);
             }
             if held.len() > MOST_HEADER {
                 break;
@@ -93,12 +87,7 @@ impl Reel {
     }
 
     // The record whose first line has so many bytes of those that were read.
-    fn behind(
-        alloc: Global,
-        held: &[u8],
-        size: usize,
-        piece: Vec<u8>,
-    ) -> Result<(Reel, Batch), ReplayFault>
+    fn behind(alloc: Global, held: &[u8], size: usize) -> Result<(Reel, Batch), ReplayFault>
         requires { size ≤ length held.now }
         ensures read { IfOk result (λ r. HasRead r.0 held.now r.1.entries.items) }
         ensures bad { IfOk result (λ r. r.1.is_bad ≡ is_some r.0.feeder.fault) }
@@ -121,12 +110,7 @@ impl Reel {
             entries: fed.values,
             is_bad: fed.fault.is_some(),
         };
-        let reel = Reel {
-            header,
-            feeder,
-            piece,
-        };
-        Ok((reel, batch))
+        Ok((Reel { header, feeder }, batch))
     }
 
     /// The next entries, which are whole with one more piece of the file; none at its end.
@@ -139,18 +123,18 @@ impl Reel {
         alloc: Global,
         reader: &mut R,
     ) -> Result<Option<Batch>, ReplayFault>
-        requires { 0 < length self.old.piece.items }
         ensures goes { IfOk result (λ o. MatchOption o (IsOver (R.remaining reader.old) (R.remaining reader.new) self.old self.new)
             (λ batch. Goes (R.remaining reader.old) (R.remaining reader.new) self.old self.new batch.entries.items batch.is_bad)) }
         ensures header { self.new.header ≡ self.old.header }
     {
-        let Ok(count) = reader.read(&mut self.piece) else {
+        let mut piece = [0u8; PIECE_BYTES];
+        let Ok(count) = reader.read(&mut piece) else {
             return Err(ReplayFault::Unread);
         };
         if count == 0 {
             return Ok(None);
         }
-        match self.feeder.feed(alloc, &self.piece[..count]) {
+        match self.feeder.feed(alloc, &piece[..count]) {
             Ok(fed) => Ok(Some(Batch {
                 entries: fed.values,
                 is_bad: fed.fault.is_some(),
