@@ -68,7 +68,7 @@ const light = ([r, g, b]) => {
 };
 for (const it of document.querySelectorAll('body *')) {
   const own = [...it.childNodes].some((node) => node.nodeType === 3 && node.textContent.trim()) || it.matches('input[placeholder]');
-  if (!own || !it.checkVisibility() || it.matches('option, script, .tick, :disabled')) continue;
+  if (!own || !it.checkVisibility() || it.matches('option, script')) continue;
   const isDrawn = it instanceof SVGElement;
   const way = [];
   for (let at = it; at; at = at.parentElement) way.unshift(at);
