@@ -22,6 +22,7 @@ LEAST_CONTRAST = 4.5
 DEPTH = "return view.future.tip.depth"
 SHOW = "show(arguments[0])"
 IS_SEEN = "const it = document.getElementById(arguments[0]); return it.checkVisibility() && it.getBoundingClientRect().height > 0"
+CHOOSE = "const it = document.getElementById('run'); it.value = arguments[0]; it.dispatchEvent(new Event('change'))"
 PRESS_BUTTON = "document.getElementById(arguments[0]).click()"
 FOCUS = "return document.activeElement.id || document.activeElement.parentNode.id"
 
@@ -204,11 +205,11 @@ def left_by_escape(it, _):
     it.press("escape")
     if it.run(IS_SEEN, "text") or it.run(TEXT, "edit") != "your text, not run yet":
         yield f"after Escape the editor is {'open' if it.run(IS_SEEN, 'text') else 'closed'}, and its button says {it.run(TEXT, 'edit')!r}"
-    it.run("const it = document.getElementById('run'); it.value = 'merges'; it.dispatchEvent(new Event('change'))")
+    it.run(CHOOSE, "merges")
     it.press("e")
     if it.run(text) != written or "tick" not in written:
         yield f"of {written!r} Escape leaves {it.run(text)!r}"
-    it.run("const it = document.getElementById('run'); it.value = 'timeout'; it.dispatchEvent(new Event('change'))")
+    it.run(CHOOSE, "timeout")
     it.run(PRESS_BUTTON, "drop")
     it.press("e")
     if it.run(text) != script or it.run(TEXT, "edit") != "edit the script":
@@ -298,6 +299,9 @@ def menu_in_page(it, _):
     opened(it, address(run="no such run"))
     if it.run(TEXT, "fault-of-options") != "There is no run \u201cno such run\u201d here. Shown is three-weights.":
         yield f"another name is told as {it.run(TEXT, 'fault-of-options')!r}"
+    it.run(CHOOSE, "merges")
+    if it.run(IS_SEEN, "fault-of-options"):
+        yield "the word on a name stays when another one is chosen"
 
 
 LAYOUT = {"widths": widths, "one column": one_column, "who is in service is in sight": in_sight, "equal times": equal_times, "Escape": left_by_escape,

@@ -87,7 +87,7 @@ function runScript(text, dials, number = NaN, place = NaN, beside = NaN) {
     return;
   }
   const { course } = view;
-  view.services = null;
+  Object.assign(view, { services: null, look: null });
   view.lanes = lanesOf(course);
   const names = () => course.futures.map((it) => element("option", { value: it.number }, nameOfFuture(it)));
   byId("future").replaceChildren(...names());
@@ -129,6 +129,7 @@ function draw() {
   const { course, future, place } = view;
   try {
     view.look = course.lookAt(future, place);
+    view.lookBeside = view.beside === null ? null : course.lookAt(view.beside, Math.min(place, view.beside.tip.depth));
   } catch (fault) {
     if (!(fault instanceof MachineFault)) throw fault;
     tellFault(fault.message, true);
@@ -138,7 +139,6 @@ function draw() {
   drawClients();
   byId("device").replaceChildren(element("h2", {}, "device"), ...deviceOf(look, course.dials));
   byId("strip").replaceChildren(...stripOf(look, course.dials));
-  view.lookBeside = view.beside === null ? null : course.lookAt(view.beside, Math.min(place, view.beside.tip.depth));
   drawGroups();
   drawRows();
   drawReason();
@@ -535,7 +535,9 @@ function listenToScript() {
   byId("text").addEventListener("input", tellDraft);
   byId("run").addEventListener("change", (event) => {
     const it = scriptNamed(event.target.value);
-    if (it) runScript(it.text, dialsOf(it.options));
+    if (!it) return;
+    tellFault("");
+    runScript(it.text, dialsOf(it.options));
   });
   byId("typing").addEventListener("submit", (event) => {
     event.preventDefault();
