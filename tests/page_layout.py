@@ -8,14 +8,14 @@ from browser import HIGH, WIDE
 from checkout import TOP
 from page_opened import STEP, TEXT, address, opened
 
-# Width and height of what is looked at: telephones, a tablet, and a screen.
-SIZES = ((320, 640), (360, 740), (413, 800), (768, 1024), (1280, 720))
+# Width and height of what is looked at: telephones, a tablet, the narrowest window that is not one column, and a screen.
+SIZES = ((320, 640), (360, 740), (413, 800), (768, 1024), (901, 700), (1280, 720))
 # Up to this width all stands in one column.
 ONE_COLUMN = 900
 # Runs with groups in groups, classes, long numbers, and several futures.
 RUNS = ("three-weights", "weights", "classes", "equal-finishes", "groups-and-virtual-times")
 # Of each run so many steps lie between two looks at the layout.
-STRIDE = 6
+STRIDE = 8
 # No letter of a drawing is smaller, in pixels.
 LEAST_PRINT = 10.9
 LEAST_CONTRAST = 4.5
@@ -163,6 +163,11 @@ def in_sight(it, _):
 
 # What no student reads as a number: a time as it is in memory, and a part of a power.
 RAW = re.compile(r"\(\d{3,}\)|\d/2\^")
+# The reason and the groups as a text, and apart from it why times have seven places.
+TOLD = """
+const note = document.querySelector('#groups .alike')?.textContent ?? '', of = (id) => document.getElementById(id).textContent;
+return [`${of('reason')} ${of('groups').replace(note, '')}`, note];
+"""
 MEMBER = re.compile(r"(may start|S past V), S ([\d.]+), F")
 
 
@@ -177,13 +182,13 @@ def equal_times(it, _):
             for label in it.run("return [...document.querySelectorAll('#groups svg.axis')].map((it) => it.getAttribute('aria-label'))"):
                 vtime = float(re.search(r": V ([\d.]+);", label)[1])
                 yield from (f"{run} at {place}: {label}" for word, start in MEMBER.findall(label) if (float(start) <= vtime) != (word == "may start"))
-            told = it.run("return document.getElementById('reason').textContent + document.getElementById('groups').textContent")
+            told, note = it.run(TOLD)
             if raw := RAW.search(told):
                 yield f"{run} at {place}: {raw[0]} in {told[max(0, raw.start() - 60):raw.end()]!r}"
-            if it.run("return document.querySelector('#groups .alike') !== null"):
+            if bool(note) != bool(re.search(r"\d\.\d{7}", told)):
+                yield f"{run} at {place}: to times in {told!r} it is told {note!r}"
+            if note:
                 noted.add((run, place))
-            elif re.search(r"\d\.\d{7}", told.split("Step")[0]):
-                yield f"{run} at {place}: seven places without a word on them"
     if ("three-weights", 70) not in noted or ("three-weights", 0) in noted:
         yield f"why times have seven places is told at {sorted(noted)}"
 

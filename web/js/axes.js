@@ -1,5 +1,5 @@
 // The groups: for each class of a group that has members an axis of virtual time, with V as an upright line and a bar from S to F for each
-// member. What is filled may start; what is hatched has its start past V; an idle member is a ring.
+// member. What is filled may start; what is dashed has its start past V; an idle member is a ring.
 
 // The heights of an axis, in units of its drawing, which are pixels in print of the usual size. A drawing is as wide as its column.
 const HEAD_HIGH = 40, ROW_HIGH = 34, FOOT_HIGH = 18, BAR_HIGH = 14, RIGHT = 12;
@@ -25,8 +25,9 @@ function within(least, x, most) {
   return Math.max(least, Math.min(x, most));
 }
 
-/** The axes of all groups, from the root down, in drawings that are so wide; under `none` there is none, but turns. */
-function groupsOf({ machine, before }, wide) {
+/** The axes of all groups, from the root down, in drawings that are so wide; under `none` there is none, but turns. Why a time has more places
+ * is told if one has, here or elsewhere. */
+function groupsOf({ machine, before }, wide, hasElsewhere = false) {
   if (machine.scheduler === "none") return [turnsOf(machine, before)];
   const found = [];
   for (const group of machine.members.keys()) {
@@ -36,10 +37,11 @@ function groupsOf({ machine, before }, wide) {
     if (classes.length === 0) found.push(element("p", { class: "none" }, `${name}: nobody is in it`));
     for (const className of classes) {
       const isAlone = classes.length === 1 && className === BEST_EFFORT;
-      found.push(new Axis(machine, before, group, className, wide).drawing(isAlone ? name : `${name}, class ${CLASS_NAMES[className]}`));
+      const words = isAlone ? [name] : [name, `class ${CLASS_NAMES[className]}`];
+      found.push(new Axis(machine, before, group, className, wide).drawing(words));
     }
   }
-  const hasAlike = found.some((it) => it.dataset.alike !== undefined);
+  const hasAlike = hasElsewhere || found.some((it) => it.dataset.alike !== undefined);
   found.push(element("p", { class: "legend" }, LEGEND), ...(hasAlike ? [element("p", { class: "legend alike" }, OF_ALIKE)] : []));
   return found;
 }
@@ -78,6 +80,7 @@ class Axis {
     this.isOnOneLine = this.isNarrow && names.every((it, at) => it + GAP + numbers[at] <= this.wide);
     this.above = this.isNarrow ? NAME_HIGH + (this.isOnOneLine ? 0 : NUMBERS_HIGH) : 0;
     this.rowHigh = ROW_HIGH + this.above;
+    this.head = HEAD_HIGH;
     this.left = this.isNarrow ? 4 : Math.max(LEAST_FOR_NAMES, ...names, ...numbers) + GAP;
   }
 
@@ -102,17 +105,19 @@ class Axis {
     return this.left + within(0, part, 1) * (this.wide - RIGHT - this.left);
   }
 
-  /** The axis as a drawing, with a text for who does not see it. */
-  drawing(name) {
-    const high = HEAD_HIGH + this.rowHigh * this.members.length + FOOT_HIGH, foot = high - FOOT_HIGH;
-    const words = { viewBox: `0 0 ${this.wide} ${high}`, class: "axis", role: "img", "aria-label": this.spoken(name), "data-alike": this.hasAlike };
-    const rows = this.members.map((it, at) => this.row(it, HEAD_HIGH + this.rowHigh * at));
+  /** The axis as a drawing, with a text for who does not see it. Its name stands on two lines if it is too long for one. */
+  drawing(words) {
+    const name = words.join(", "), lines = widthOf(name, USUAL, BOLD_WIDE) > this.wide ? words : [name];
+    this.head = HEAD_HIGH + (lines.length - 1) * NAME_HIGH;
+    const high = this.head + this.rowHigh * this.members.length + FOOT_HIGH, foot = high - FOOT_HIGH;
+    const attributes = { viewBox: `0 0 ${this.wide} ${high}`, class: "axis", role: "img", "aria-label": this.spoken(name), "data-alike": this.hasAlike };
+    const rows = this.members.map((it, at) => this.row(it, this.head + this.rowHigh * at));
     const x = this.at(this.vtime), said = `V ${this.time(this.vtime)}`, half = widthOf(said, USUAL, BOLD_WIDE) / 2;
-    const named = { x: within(half, x, this.wide - half), y: HEAD_HIGH - 11, class: classWords("vtime", this.vtime !== this.lastVtime) };
-    return drawn("svg", words,
-      drawn("text", { x: 0, y: 12, class: "name" }, name),
+    const named = { x: within(half, x, this.wide - half), y: this.head - 11, class: classWords("vtime", this.vtime !== this.lastVtime) };
+    return drawn("svg", attributes,
+      lines.map((line, at) => drawn("text", { x: 0, y: 12 + at * NAME_HIGH, class: "name" }, line)),
       rows.map((it) => it.back), this.grid(high, foot), rows.flatMap((it) => it.bars),
-      drawn("line", { x1: x, x2: x, y1: HEAD_HIGH - 8, y2: foot, class: "vtime" }), rows.map((it) => it.texts), drawn("text", named, said));
+      drawn("line", { x1: x, x2: x, y1: this.head - 8, y2: foot, class: "vtime" }), rows.map((it) => it.texts), drawn("text", named, said));
   }
 
   /** The lines of the ticks, and as many of their numbers as have room. */
@@ -120,7 +125,7 @@ class Axis {
     let taken = -Infinity;
     return this.ticks.flatMap((time) => {
       const x = this.at(time), text = shortOf(time), half = widthOf(text, SMALL) / 2;
-      const line = drawn("line", { x1: x, x2: x, y1: HEAD_HIGH - 2, y2: foot, class: "grid" });
+      const line = drawn("line", { x1: x, x2: x, y1: this.head - 2, y2: foot, class: "grid" });
       const middle = within(half, x, this.wide - half);
       if (middle - half < taken + GAP) return [line];
       taken = middle + half;
@@ -185,8 +190,10 @@ class Axis {
     if (to - from >= widthOf(start + finish, SMALL) + GAP) {
       return [drawn("text", { x: from, y, class: "numbers" }, start), drawn("text", { x: to, y, class: "numbers end" }, finish)];
     }
-    const text = finish ? `${start}, ${finish}` : start;
-    return [drawn("text", { x: within(this.left, from, this.wide - widthOf(text, SMALL)), y, class: "numbers" }, text)];
+    const text = finish ? `${start}, ${finish}` : start, room = this.wide - this.left;
+    // Times near 2^62 are longer than a narrow drawing is wide, and are set as wide as that.
+    const fit = widthOf(text, SMALL) > room ? { textLength: room, lengthAdjust: "spacingAndGlyphs" } : {};
+    return [drawn("text", { x: within(this.left, from, this.wide - widthOf(text, SMALL)), y, class: "numbers", ...fit }, text)];
   }
 }
 

@@ -139,9 +139,9 @@ function draw() {
   drawClients();
   byId("device").replaceChildren(element("h2", {}, "device"), ...deviceOf(look, course.dials));
   byId("strip").replaceChildren(...stripOf(look, course.dials));
+  drawReason();
   drawGroups();
   drawRows();
-  drawReason();
   drawExactness();
   drawShares();
   toAddress();
@@ -167,7 +167,8 @@ function drawGroups() {
   document.documentElement.classList.toggle("beside", beside !== null);
   byId("other").hidden = beside === null;
   const head = beside ? headOf(shortNameOf(future), place, course.nodeAt(future, place)) : [element("h2", {}, "groups")];
-  byId("groups").replaceChildren(...head, ...groupsOf(look, wideIn(byId("groups"))));
+  const hasReasonMore = MORE_PLACES.are.test(byId("reason").textContent);
+  byId("groups").replaceChildren(...head, ...groupsOf(look, wideIn(byId("groups")), hasReasonMore));
   if (beside === null) return;
   const there = lookBeside.place;
   byId("other").replaceChildren(...headOf(shortNameOf(beside), there, course.nodeAt(beside, there)), ...groupsOf(lookBeside, wideIn(byId("other"))));

@@ -28,7 +28,7 @@ function checked(vtime) {
 // How times are told that three places do not tell apart, and a difference that is less than they tell: tools/why gives the whole numbers of
 // which a time is made, and what a page shows has more places.
 const WHOLE = { alike: (vtime) => `${byWeight(vtime)} (${vtime})`, little: (vtime) => `${vtime}/2^${SCALE}` };
-const MORE_PLACES = { alike: byWeightExactly, little: byWeightExactly };
+const MORE_PLACES = { alike: byWeightExactly, little: byWeightExactly, are: /\d\.\d{7}/ };
 
 /** The times of some that three places do not tell apart. */
 function alikeIn(vtimes) {

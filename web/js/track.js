@@ -82,9 +82,9 @@ function sharesTable(points, place) {
   const point = pointAt(points, place);
   const rows = [...point.clients.values()].sort((one, other) => one.seat - other.seat || one.session - other.session);
   if (point.total === 0) return element("p", { class: "none" }, "No sector was sent yet.");
-  const percent = (of) => `${((100 * of) / point.total).toFixed(1)} %`;
+  const percent = (of) => ((100 * of) / point.total).toFixed(1);
   const sign = (ahead) => (Math.abs(ahead) < 0.05 ? "0" : `${ahead > 0 ? "+" : "\u2212"}${Math.abs(ahead).toFixed(1)}`);
-  const heads = ["client", "given", "entitled", "share", "of weights", "ahead"];
+  const heads = ["client", "given", "entitled", "share, %", "of weights, %", "ahead"];
   return element("table", { class: "shares" },
     element("thead", {}, element("tr", {}, heads.map((it) => element("th", { scope: "col", title: it === "ahead" ? AHEAD : null }, it)))),
     element("tbody", {}, rows.map((it) => element("tr", { class: colourOf(it.seat) },
