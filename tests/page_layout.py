@@ -1,6 +1,7 @@
 """How the page is laid out in a browser, and what it does with a key or a text: at widths of telephones and of screens nothing passes the edge
 or lies over another, and all can be read; what is told goes together; and nothing that was typed is lost."""
 
+import base64
 import json
 import re
 
@@ -95,9 +96,9 @@ def sized(it, wide, high):
     it.do("goog/cdp/execute", cmd="Emulation.setDeviceMetricsOverride", params={"width": wide, "height": high, "deviceScaleFactor": 1, "mobile": False})
 
 
-def at_all_sizes(it, **words):
-    """Opens a page at each size, and at last again at the usual one."""
-    for wide, high in SIZES:
+def at_sizes(it, sizes=SIZES, **words):
+    """Opens a page at each size, and goes back to the usual one."""
+    for wide, high in sizes:
         sized(it, wide, high)
         opened(it, address(**words))
         yield wide, high
@@ -107,15 +108,15 @@ def at_all_sizes(it, **words):
 def widths(it, _):
     """At no width anything passes the edge, and in drawings no text lies over another or is small."""
     for run in RUNS:
-        for wide, _ in at_all_sizes(it, run=run):
+        for wide, _ in at_sizes(it, run=run):
             for place in range(0, it.run(DEPTH) + 1, STRIDE):
                 it.run(SHOW, place)
                 yield from (f"{run} at step {place}, {wide} wide: {fault}" for fault in it.run(FAULTS, LEAST_PRINT))
     for words in ({"run": "weights", "step": 50, "beside": 1}, {"run": "three-weights", "step": 52, "print": "large"},
                   {"script": "attach 0 0 4\nread 0 1 5 1\nread 0 1 9 1\n", "options": f"--first-vtime {2**60 + 1}"}):
-        for wide, _ in at_all_sizes(it, **words):
+        for wide, _ in at_sizes(it, **words):
             yield from (f"{words}, {wide} wide: {fault}" for fault in it.run(FAULTS, LEAST_PRINT))
-    for wide, _ in at_all_sizes(it, run="weights"):
+    for wide, _ in at_sizes(it, run="weights"):
         yield from (f"{panel} is open, {wide} wide: it goes {it.run(OPEN, panel)}" for panel in ("options", "about") if it.run(OPEN, panel))
 
 
@@ -123,7 +124,7 @@ def one_column(it, _):
     """In one column the reason and the buttons are seen together, the buttons stay, and the reason has no bar of its own."""
     spots = """const [told, controls] = ['told', 'controls'].map((id) => document.getElementById(id).getBoundingClientRect());
                return [told.top, told.bottom, controls.top, controls.bottom, innerHeight]"""
-    for wide, _ in at_all_sizes(it, run="weights", step=61):
+    for wide, _ in at_sizes(it, run="weights", step=61):
         if wide > ONE_COLUMN:
             continue
         above, below, top, bottom, high = it.run(spots)
@@ -239,6 +240,27 @@ def large_print(it, _):
         yield "the script cannot be edited"
 
 
+# How the browser prints a page, and what begins one in what it makes.
+PRINTED = {"preferCSSPageSize": True, "printBackground": False}
+PAGE_BEGINS = re.compile(rb"/Type /Page\b")
+
+
+def slides(it, _):
+    """What is shown is printed on one page, whatever the window, and in dark letters."""
+    dark = {"run": "three-weights", "step": 52, "look": "dark"}
+    for words in (dark, {**dark, "print": "large"}, {"run": "weights", "step": 50, "beside": 1}, {"run": "weights", "step": 50, "beside": 1, "print": "large"}):
+        for wide, _ in at_sizes(it, (SIZES[0], SIZES[-1]), **words):
+            count = len(PAGE_BEGINS.findall(base64.b64decode(it.do("goog/cdp/execute", cmd="Page.printToPDF", params=PRINTED)["data"])))
+            if count != 1:
+                yield f"{words}, {wide} wide: {count} pages"
+    opened(it, address(**dark))
+    it.do("goog/cdp/execute", cmd="Emulation.setEmulatedMedia", params={"media": "print"})
+    yield from (f"in print: {dim}" for dim in it.run(DIM, LEAST_CONTRAST))
+    if (paper := it.run("return getComputedStyle(document.body).backgroundColor")) != "rgb(255, 255, 255)":
+        yield f"in print the paper is {paper}"
+    it.do("goog/cdp/execute", cmd="Emulation.setEmulatedMedia", params={"media": ""})
+
+
 def contrast(it, _):
     """All texts stand out from what is behind them, in light and dark, and in large print."""
     for words in ({"run": "weights", "step": 40, "look": "light"}, {"run": "weights", "step": 40, "look": "dark"}, {"run": "classes", "look": "light"},
@@ -310,4 +332,4 @@ def menu_in_page(it, _):
 
 
 LAYOUT = {"widths": widths, "one column": one_column, "who is in service is in sight": in_sight, "equal times": equal_times, "Escape": left_by_escape,
-          "large print": large_print, "contrast": contrast, "names of futures": futures_by_name, "answers of now": answers_of_now, "menu": menu_in_page}
+          "large print": large_print, "slides": slides, "contrast": contrast, "names of futures": futures_by_name, "answers of now": answers_of_now, "menu": menu_in_page}

@@ -94,7 +94,7 @@ function runScript(text, dials, number = NaN, place = NaN, beside = NaN) {
   byId("beside").replaceChildren(element("option", { value: "" }, "none"), ...names());
   byId("futures").hidden = course.futures.length < 2;
   view.future = course.futures[number - 1] ?? course.standing;
-  view.beside = course.futures[beside - 1] ?? null;
+  view.beside = course.futures.filter((it) => it !== view.future).find((it) => it.number === beside - 1) ?? null;
   const end = view.future === course.standing ? course.stateAfter(course.rows.length).cursor : view.future.tip.depth;
   tellFault(course.fault ? toldFault(course.fault, course.lines[course.fault.line - 1]) : "", true);
   const isOfMenu = view.menu.includes(scriptNamed(byId("run").value)) && view.future === course.standing;
@@ -161,17 +161,18 @@ function drawClients() {
   else panel.scrollTop = Math.max(panel.scrollTop, below);
 }
 
-/** The groups, and those of the other future at the same place, if one lies beside. */
-function drawGroups() {
+/** The groups, and those of the other future at the same place, if one lies beside, in drawings that are so wide, or as wide as there
+ * is room. */
+function drawGroups(wide = null) {
   const { course, future, place, beside, look, lookBeside } = view;
   document.documentElement.classList.toggle("beside", beside !== null);
   byId("other").hidden = beside === null;
   const head = beside ? headOf(shortNameOf(future), place, course.nodeAt(future, place)) : [element("h2", {}, "groups")];
   const hasReasonMore = MORE_PLACES.are.test(byId("reason").textContent);
-  byId("groups").replaceChildren(...head, ...groupsOf(look, wideIn(byId("groups")), hasReasonMore));
+  byId("groups").replaceChildren(...head, ...groupsOf(look, wide ?? wideIn(byId("groups")), hasReasonMore));
   if (beside === null) return;
   const there = lookBeside.place;
-  byId("other").replaceChildren(...headOf(shortNameOf(beside), there, course.nodeAt(beside, there)), ...groupsOf(lookBeside, wideIn(byId("other"))));
+  byId("other").replaceChildren(...headOf(shortNameOf(beside), there, course.nodeAt(beside, there)), ...groupsOf(lookBeside, wide ?? wideIn(byId("other"))));
 }
 
 /** The head of one of two futures that lie side by side. */
@@ -565,6 +566,8 @@ function listenToTrack() {
   byId("track").addEventListener("pointermove", (event) => { if (isDragged) drag(event); });
   byId("track").addEventListener("pointerup", () => { isDragged = false; });
   addEventListener("resize", drawAsWide);
+  addEventListener("beforeprint", () => { if (view.look) drawGroups(USUAL_WIDE); });
+  addEventListener("afterprint", drawAsWide);
 }
 
 /** Goes to the step of a row, in this future or in the one that has it. */
