@@ -144,16 +144,21 @@ function draw() {
   drawRows();
   drawExactness();
   drawShares();
+  keepInSight();
   toAddress();
   document.documentElement.dataset.step = `${place}`;
 }
 
-/** The clients. The one in service stays in sight, where they do not all have room. */
+/** The clients. */
 function drawClients() {
   const panel = byId("clients"), { scrollTop } = panel;
   panel.replaceChildren(element("h2", {}, "clients"), ...clientsOf(view.look));
   panel.scrollTop = scrollTop;
-  const card = panel.querySelector("[aria-current]");
+}
+
+/** Keeps the client in service in sight, where they do not all have room. How much there is depends on all other panels. */
+function keepInSight() {
+  const panel = byId("clients"), card = panel.querySelector("[aria-current]");
   if (card === null) return;
   const above = card.offsetTop - panel.offsetTop, below = above + card.offsetHeight - panel.clientHeight;
   // The first card keeps the head of the panel above it.
@@ -295,6 +300,7 @@ function drawShares() {
   const points = view.services.points(future);
   const picture = aheadPicture(points, place, wideIn(byId("shares")));
   byId("shares").replaceChildren(sharesTable(points, place), ...[picture].filter((it) => it !== null));
+  keepInSight();
 }
 
 /** The slider. */
