@@ -36,6 +36,7 @@ from host import BAD_INPUT, Host, Stop  # noqa: E402
 from lower import MAGIC, Unknown, lowered  # noqa: E402
 from reasons import Reasons  # noqa: E402
 from shares import Run as Shares  # noqa: E402
+from shown import SCALE  # noqa: E402
 
 TASKS = TOP / "tests" / "page_tasks.js"
 TOOL = TOP / "tools" / "page"
@@ -122,9 +123,18 @@ def good_part(script):
     return lines
 
 
+def as_shown(why):
+    """A reason of the tools as the page shows it: seven places of a time instead of the whole number of parts of 2^-22 that it has."""
+    def places(found):
+        parts = (int(found[1] or found[2]) * 10**7 + 2**(SCALE - 1)) >> SCALE
+        return f"{parts // 10**7}.{parts % 10**7:07}"
+
+    return re.sub(rf"\d+\.\d{{3}} \((\d+)\)|(\d+)/2\^{SCALE}\b", places, why)
+
+
 def same_reasons(program, path, given):
     """Where the page gives another reason of a choice than tools/why, or finds that the machine did otherwise."""
-    choices = 0
+    choices = raw = 0
     for (name, options, script), got in zip(given, answers(path, [task("reasons", options, script) for _, options, script in given])):
         with Host(program, options) as host:
             reasons = Reasons(host, options)
@@ -132,10 +142,13 @@ def same_reasons(program, path, given):
         found = [(it["answer"], "; ".join(it["parts"])) for it in got]
         choices += len(found)
         yield from (f"{name}: {one} and not {other}" for one, other in zip(found, wanted) if one != other)
+        shown = ["; ".join(it["shown"]) for it in got]
+        yield from (f"{name}: shown is {one!r} and not {as_shown(why)!r}" for one, (_, why) in zip(shown, wanted) if one != as_shown(why))
+        raw += sum(as_shown(why) != why for _, why in wanted)
         yield from (f"{name}: {it['faults']}" for it in got if it["faults"])
         if len(found) != len(wanted):
             yield f"{name}: {len(found)} choices and not {len(wanted)}"
-    print(f"reasons of a page: {choices} choices in {len(given)} scripts")
+    print(f"reasons of a page: {choices} choices in {len(given)} scripts, {raw} of them with times of more than three places")
     if choices < len(given):
         yield f"there are {choices} choices"
 
@@ -233,6 +246,25 @@ def of_formats():
             yield f"{name}: {found[name]} and not {wanted.get(name)}"
 
 
+def of_menu():
+    """Each lesson of the guide and each example is in the menu, no run twice, and what cannot be chosen has why."""
+    rows = make.menu()
+    lessons = re.findall(r"(?m)^## (\d+)\. (.*)", (TOP / "docs" / "GUIDE.md").read_text())
+    for number, title in lessons:
+        if not any(row["label"].startswith(f"{number}. ") and title in row["label"] for row in rows):
+            yield f"lesson {number}, {title}, is not there"
+    found = [(row["text"], row["options"]) for row in rows if "text" in row]
+    for path in (TOP / "examples").glob("*.script"):
+        if not any(text == path.read_text() for text, _ in found) and not any(path.stem in row["label"] for row in rows if "text" not in row):
+            yield f"{path.name} is not there"
+    yield from (f"{options} are there twice with {text[:60]!r}" for text, options in found if found.count((text, options)) > 1)
+    for what in ("name", "label"):
+        names = [row[what] for row in rows if what in row]
+        yield from (f"{what} {it!r} is there twice" for it in names if names.count(it) > 1)
+    yield from (f"{row['label']!r} does not say why it cannot be chosen" for row in rows
+                if "text" not in row and not row["label"].endswith((", without a script of its own", ", over a file, which a page does not read")))
+
+
 def tool(folder, *words, stdin=b""):
     """What tools/page writes to standard output and standard error, and its status."""
     done = subprocess.run([TOOL, *words], cwd=folder, input=stdin, capture_output=True, timeout=SECONDS, check=False)
@@ -317,7 +349,7 @@ def of_crate():
 def page_runs(program, is_first):
     """The name of each run with a build of the program, and what was wrong with it."""
     if is_first:
-        yield from told([("page: limits of options", of_formats()), ("tools/page", of_tool()), ("page: lowering", of_lower())])
+        yield from told([("page: limits of options", of_formats()), ("page: menu", of_menu()), ("tools/page", of_tool()), ("page: lowering", of_lower())])
     try:
         yield from told(node_runs(program, make.PAGE, is_first))
     except (OSError, Stop, ValueError, subprocess.SubprocessError) as fault:

@@ -1,26 +1,27 @@
 """What a browser shows of the page: at places of some runs what the program's looks say, keys, lines that are typed, futures, bad input; and that
 no request leaves it. It is Chromium, driven by its chromedriver, if both are there (tests/browser.py)."""
 
+import collections
 import contextlib
 import os
 import random
 import subprocess
 import sys
 import tempfile
-import urllib.parse
 from pathlib import Path
 
 from bad_input import Skipped
 from browser import Failed, browser
 from checkout import TOP
+from page_layout import LAYOUT
+from page_opened import STEP, TEXT, address, opened
 
 sys.path.append(str(TOP / "tools"))
 import grammar  # noqa: E402
 from host import Host, Stop  # noqa: E402
 from reasons import look  # noqa: E402
-from shown import OF_GROUPS, ROOT, by_weight, name_of  # noqa: E402
+from shown import OF_GROUPS, ROOT, SCALE, by_weight, name_of  # noqa: E402
 
-PAGE = TOP / "web" / "bfqhost.html"
 PICTURE = TOP / "docs" / "page.webp"
 # The picture of docs: the script with which the page begins, with so many steps.
 STEP_OF_PICTURE, QUALITY, MOST_BYTES = 52, 85, 150_000
@@ -29,20 +30,26 @@ CLASS_NAMES = {"rt": "real time", "be": "best effort", "idle": "idle"}
 # A long run: this seed, and so many steps.
 SEED, STEPS = 7, 5_000
 MANY_LINES = 100_000
-# A page is ready if it has drawn a place.
-READY = "return document.documentElement.dataset.step !== undefined"
 AXES = "return [...document.querySelectorAll('#groups svg.axis')].map(it => [it.getAttribute('aria-label'), it.textContent])"
-TEXT = "return document.getElementById(arguments[0]).textContent"
-
-
-def address(path=PAGE, **words):
-    """The address of a page with words in its fragment."""
-    return f"{Path(path).as_uri()}#{urllib.parse.urlencode(words)}"
+# A time is told to so many places if another one is the same to three: a unit of 2^-22 is more than two of the last place.
+MORE_PLACES = 7
 
 
 def word_of(it, vtime):
     """How a member stands to V."""
     return it.state if it.state != "active" else "may start" if it.start <= vtime else "S past V"
+
+
+def told_by(vtimes):
+    """How the page tells some virtual times: by weight, and to more places those that are alike then."""
+    texts = collections.Counter(map(by_weight, set(vtimes)))
+    alike = {it for it in vtimes if texts[by_weight(it)] > 1}
+
+    def tell(vtime):
+        parts = (vtime * 10**MORE_PLACES + 2**(SCALE - 1)) >> SCALE
+        return f"{parts // 10**MORE_PLACES}.{parts % 10**MORE_PLACES:0{MORE_PLACES}}" if vtime in alike else by_weight(vtime)
+
+    return tell
 
 
 def axes_of(machine):
@@ -56,12 +63,13 @@ def axes_of(machine):
         for name in names:
             own = [it for it in members if it.class_name == name]
             vtime = machine.vtimes[group, name]
+            tell = told_by([vtime, *(time for it in own for time in ([it.start] if it.state == "idle" else [it.start, it.finish]))])
             head = "group 0, the root" if group == ROOT else f"group {group}, in group {machine.parents[OF_GROUPS + group]}"
             head += "" if names == ["be"] else f", class {CLASS_NAMES[name]}"
-            said = [f"{name_of(it.entity)} {word_of(it, vtime)}, S {by_weight(it.start)}, F {by_weight(it.finish)}, weight {it.weight}" for it in own]
-            texts = [f"V {by_weight(vtime)}", *(f"S {by_weight(it.start)}" for it in own), *(f"F {by_weight(it.finish)}" for it in own if it.state != "idle"),
+            said = [f"{name_of(it.entity)} {word_of(it, vtime)}, S {tell(it.start)}, F {tell(it.finish)}, weight {it.weight}" for it in own]
+            texts = [f"V {tell(vtime)}", *(f"S {tell(it.start)}" for it in own), *(f"F {tell(it.finish)}" for it in own if it.state != "idle"),
                      *(f"budget {machine.budgets[it.entity]}" for it in own)]
-            yield f"{head}: V {by_weight(vtime)}; {'; '.join(said)}", texts
+            yield f"{head}: V {tell(vtime)}; {'; '.join(said)}", texts
 
 
 def machine_after(program, options, lines):
@@ -98,12 +106,6 @@ def differences(it, machine, where):
         yield f"{where}: it tells {it.run(TEXT, 'exact')!r}"
     if "OTHERWISE" in it.run(TEXT, "why"):
         yield f"{where}: {it.run(TEXT, 'why')}"
-
-
-def opened(it, url):
-    """Opens a page, and waits until it has drawn a place."""
-    it.open(url)
-    it.until(READY)
 
 
 def steps_of(program, options, lines):
@@ -144,11 +146,11 @@ def branches(it, program):
     it.press("b")
     it.until("return !document.getElementById('other').hidden")
     head = it.run("return document.querySelector('#other h2').textContent")
-    if not head.startswith("future 1, which was dropped, 60 steps"):
+    if head != "future 1, which was dropped: 60 steps":
         yield f"beside lies {head!r}"
     it.press("up")
     it.until("return document.getElementById('future').value === '0'")
-    if it.run("return document.documentElement.dataset.step") != "60":
+    if it.run(STEP) != "60":
         yield "the other future is not shown at its end"
 
 
@@ -198,18 +200,17 @@ def many_steps(it, program):
 def keys(it, program):
     """Keys go steps and choices, and a line that is typed is asked, undone, and redone."""
     options, lines = example("three-weights")
-    step = "return document.documentElement.dataset.step"
     opened(it, address(run="three-weights", step=52))
     # The choices stand at every other step from 44 on.
     for pressed, shift, wanted in ((["left"], False, "51"), (["right", "right"], False, "53"), (["right"], True, "54"), (["left"], True, "52"),
                                    (["home"], False, "0"), (["end"], False, "99")):
         it.press(*pressed, shift=shift)
-        if it.run(step) != wanted:
-            yield f"after {pressed}{' with shift' if shift else ''} {it.run(step)} steps stand, and not {wanted}"
+        if it.run(STEP) != wanted:
+            yield f"after {pressed}{' with shift' if shift else ''} {it.run(STEP)} steps stand, and not {wanted}"
     # The second line is typed where the first was, as the focus stays there.
     it.press("t", *"attach 5 0 4", "enter")
-    if it.run(step) != "100":
-        yield f"after a typed line {it.run(step)} steps stand"
+    if it.run(STEP) != "100":
+        yield f"after a typed line {it.run(STEP)} steps stand"
     it.press(*"read 5 7 7 1", "enter")
     if "refused 4 (StaleSession)" not in it.run(TEXT, "rows"):
         yield "a stale session is not told"
@@ -243,15 +244,17 @@ def branch_by_typing(it, program):
 
 # Bad scripts and options: the words of the address, and what must be told where.
 BAD = [
-    ({"script": "attach 0 0 4\nread 0 1 5 1\nDispatch\nline\n"}, "fault", "Line 3 did not run: a bad line: a capital letter: 'Dispatch'.", "2"),
-    ({"script": "attach 0 0 4\n# " + 300 * "x" + "\n"}, "fault", "Line 2 did not run: a bad line: more than 256 bytes.", "1"),
-    ({"script": "attach 0 0 4\n<b>attach</b>\n"}, "fault", "Line 2 did not run: a bad line: an unknown word: '<b>attach</b>'.", "1"),
+    ({"script": "attach 0 0 4\nread 0 1 5 1\nDispatch\nline\n"}, "fault", "Line 3 is bad, so the run ends before it: a capital letter: 'Dispatch'.", "2"),
+    ({"script": "attach 0 0 4\n# " + 300 * "x" + "\n"}, "fault", f"Line 2 is bad, so the run ends before it: more than 256 bytes. It is \u201c# {78 * 'x'}\u2026\u201d.", "1"),
+    ({"script": "attach 0 0 4\n<b>attach</b>\n"}, "fault", "Line 2 is bad, so the run ends before it: an unknown word: '<b>attach</b>'.", "1"),
+    ({"script": "attach 0 0 4\nwrite 0 1 9 1 256\n"}, "fault",
+     "Line 2 is bad, so the run ends before it: BYTE is at most 255: '256'. It is \u201cwrite 0 1 9 1 256\u201d.", "1"),
     ({"script": "attach 0 0 4\n", "options": "--tags 99"}, "fault-of-options", "--tags is 1 to 64, and not 99. The options are as usual.", "1"),
     ({"script": ""}, "told", "No step stands, of 0.", "0"),
     ({"script": "line\n", "step": "9e9", "future": "-3", "beside": "x"}, "told", "No step stands, of 0.", "0"),
     ({"run": "no such run", "look": "<i>", "step": "-5"}, "told", "No step stands, of 99.", "0"),
     # A script of the menu begins at its first choice.
-    ({}, "told", "Step 44 of 99: dispatch \u2192 issued 0 44 fetch 0 64", "44"),
+    ({}, "told", "Step 44 of 99, line 47: dispatch \u2192 issued 0 44 fetch 0 64", "44"),
 ]
 
 
@@ -259,9 +262,9 @@ def bad_input(it, _):
     """A bad line and options out of their limits are told, and what came before is shown."""
     for words, where, text, step in BAD:
         opened(it, address(**words))
-        if not it.run(TEXT, where).startswith(text):
+        if it.run(TEXT, where) != text:
             yield f"{words}: {it.run(TEXT, where)!r} and not {text!r}"
-        if it.run("return document.documentElement.dataset.step") != step:
+        if it.run(STEP) != step:
             yield f"{words}: not {step} steps stand"
     opened(it, address(run="timeout"))
     it.run("let it = document.getElementById('tags'); it.value = '65'; it.dispatchEvent(new Event('change', {bubbles: true}))")
@@ -314,7 +317,7 @@ def nothing_sent(it, _):
 
 # In this order: the one before the last takes WebAssembly away.
 SHOWN = {"places": places, "branches": branches, "many steps": many_steps, "keys": keys, "another future by typing": branch_by_typing,
-         "bad input": bad_input, "many lines": many_lines, "nothing is sent": nothing_sent, "what is missing": without}
+         "bad input": bad_input, "many lines": many_lines, **LAYOUT, "nothing is sent": nothing_sent, "what is missing": without}
 
 
 def shown_runs(program):

@@ -9,7 +9,7 @@ const fs = require("fs"), vm = require("vm");
 const page = fs.readFileSync(process.argv[2], "utf8");
 const inner = (begin) => page.slice(page.indexOf(begin) + begin.length, page.indexOf("</script>", page.indexOf(begin)));
 const its = vm.runInThisContext(`${inner("<script>")};
-({ Machine, Course, Services, MachineFault, LOOK_LINES, dialsOf, usualDials, checkDials, whyBad, linesOf, isRefusal, told, machineOf })`);
+({ Machine, Course, Services, MachineFault, LOOK_LINES, MORE_PLACES, dialsOf, usualDials, checkDials, whyBad, linesOf, isRefusal, told, machineOf })`);
 
 const TASKS = {
   /** The text and the status of a run. */
@@ -17,11 +17,13 @@ const TASKS = {
     return machine.run(Buffer.from(script, "base64"), its.dialsOf(options));
   },
 
-  /** The reason of each dispatch of a script: the line with its answer, its parts, and where the host did otherwise. */
+  /** The reason of each dispatch of a script: the line with its answer, its parts, the same as the page shows them, and where the host did
+   * otherwise. */
   reasons(machine, { script, options }) {
     const course = courseOf(machine, script, options);
     const rows = [...course.rows.keys()].filter((row) => course.lines[row] === "dispatch");
-    return rows.map((row) => ({ answer: its.told(course.rows[row].answer), ...course.reasonOfRow(row) }));
+    const shown = (row) => course.reasonOfRow(row, its.MORE_PLACES).parts;
+    return rows.map((row) => ({ answer: its.told(course.rows[row].answer), shown: shown(row), ...course.reasonOfRow(row) }));
   },
 
   /** At how many places of all futures undo and redo were compared with a new machine, at how many none was possible, and the differences. */

@@ -29,8 +29,10 @@ PAGE = WEB / "bfqhost.html"
 PARTS = ["grammar", "dials", "machine", "looks", "reasons", "course", "shares", "elements", "parts", "axes", "track", "page"]
 # The script that a page begins with if it is made with no other one.
 FIRST = "three-weights"
-# A page has no file to read, so scripts over an image are left out.
+# A page has no file to read, so scripts over an image cannot be chosen in it.
 IMAGE = "--image"
+# The parts of the menu.
+LESSONS, OTHERS = "lessons", "more examples"
 COMMAND = re.compile(r" {4}\./bfqhost sim(?: (.*))? < (\S+)")
 # Nothing is loaded, sent or framed; the two hashes are those of the page's own script and style.
 POLICY = "default-src 'none'; script-src {script} 'wasm-unsafe-eval'; style-src {style}; img-src data:; base-uri 'none'; form-action 'none'"
@@ -49,6 +51,7 @@ def tables():
         "noSteps": sorted(grammar.NO_STEPS), "mostBytes": grammar.MOST_BYTES, "names": {str(number): name for number, name in grammar.NAMES.items()},
         # Numbers as texts, since one may have more digits than a number of a browser.
         "options": [{field: str(value) for field, value in option._asdict().items()} for option in dials.OPTIONS],
+        "first": FIRST,
         "sentences": {number: text.replace("`", "") for number, text in rows},
     }
 
@@ -66,27 +69,50 @@ def examples():
 
 
 def lessons():
-    """The scripts that the lessons of the guide run, by their headings: those of a file, and those that stand in the block above."""
-    heading, block, before = "", "", ""
+    """The lessons of the guide by their headings, each with the scripts that it runs: those of a file, and those that stand in the block above."""
+    found, runs, block, before = {}, [], "", ""
     for row in read("docs", "GUIDE.md").splitlines():
-        if found := re.match(r"## (\d+\. .*)", row):
-            heading = found[1]
+        if heading := re.match(r"## (\d+\. .*)", row):
+            runs = found.setdefault(heading[1], [])
+        elif row.startswith("## "):
+            runs = []
         if command := COMMAND.fullmatch(row):
             words, name = command.groups()
-            text = read(name) if "/" in name else block
-            yield {"name": f"lesson {heading}{'' if '/' in name else ', exercise'}", "text": text, "options": shlex.split(words or "")}
+            runs.append({"name": Path(name).stem, "text": read(name) if "/" in name else block, "options": shlex.split(words or "")})
         elif row.startswith("    "):
             block = (block if before.startswith("    ") else "") + row[4:] + "\n"
         before = row
+    return found
+
+
+def of_lesson(heading, runs, names):
+    """The rows of the menu for a lesson. A run that an example is too has its name, and a lesson without a run has no text."""
+    number, title = heading.split(". ", 1)
+    if not runs:
+        yield {"part": LESSONS, "label": f"{heading}, without a script of its own"}
+    for run in runs:
+        name, shown = names.get(key_of(run)), run["name"]
+        if name is None and shown in names.values():
+            shown += f" {' '.join(run['options']) or 'without options'}"
+        yield {**run, "part": LESSONS, "label": f"{number}. {shown} ({title})", "name": name or f"lesson {number}, {shown}"}
+
+
+def key_of(row):
+    """What makes two rows of the menu the same."""
+    return (row["text"], *row["options"]) if "text" in row else row["label"]
 
 
 def menu():
-    """All scripts of the menu. Of those of one name the first is taken, and of the first all that a page can run."""
-    found = {}
-    for it in [*examples(), *lessons()]:
-        if IMAGE not in it["options"]:
-            found.setdefault(it["name"], it)
-    return [found.pop(FIRST), *found.values()]
+    """The rows of the menu: the lessons with what they run, and then the other examples. A run that comes twice is in it once, and one over a
+    file has no text, so it cannot be chosen."""
+    names, found = {key_of(it): it["name"] for it in examples()}, {}
+    for heading, runs in lessons().items():
+        for row in of_lesson(heading, runs, names):
+            found.setdefault(key_of(row), row)
+    for it in examples():
+        found.setdefault(key_of(it), {**it, "part": OTHERS, "label": it["name"]})
+    return [row if IMAGE not in row.get("options", ()) else {"part": row["part"], "label": f"{row['label']}, over a file, which a page does not read"}
+            for row in found.values()]
 
 
 def in_json(value):
@@ -107,11 +133,12 @@ def hashed(text):
 
 def page(module):
     """The whole page, with the bytes of a module."""
-    scripts = menu()
+    rows = menu()
+    first = next(it for it in rows if it.get("name") == FIRST)
     style, code = "\n" + read("web", "page.css"), script()
     parts = {
-        "POLICY": POLICY.format(script=hashed(code), style=hashed(style)), "STYLE": style, "SCRIPT": code, "MENU": in_json(scripts),
-        "GIVEN": in_json({"name": "", "text": "", "options": []}), "TEXT": "\n" + html.escape(scripts[0]["text"]),
+        "POLICY": POLICY.format(script=hashed(code), style=hashed(style)), "STYLE": style, "SCRIPT": code, "MENU": in_json(rows),
+        "GIVEN": in_json({"name": "", "text": "", "options": []}), "TEXT": "\n" + html.escape(first["text"]),
         "MODULE": base64.b64encode(module).decode(),
     }
     text = read("web", "page.html")

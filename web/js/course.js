@@ -50,7 +50,7 @@ class Course {
   /** Why not all lines ran, if so. */
   faultOf(status) {
     const line = this.rows.length + 1;
-    if (status === BAD_LINE) return { line, why: `a bad line: ${whyBad(this.lines[line - 1]) ?? "the machine does not take it"}` };
+    if (status === BAD_LINE) return { line, isBad: true, why: whyBad(this.lines[line - 1]) ?? "the machine does not take it" };
     if (status === NO_WRITE || status === NO_MEMORY) return { line, why: "there is no memory for more in this browser" };
     if (status === REFUSED_DIALS) return { line: 1, why: "an option is out of its limits" };
     if (this.lines.length > MOST_LINES_HERE) return { line, why: `a page runs ${MOST_LINES_HERE} lines, and this script has ${this.lines.length}` };
@@ -161,9 +161,18 @@ class Course {
   }
 
   /** The reason of a dispatch, by its row of the script: its parts, whose request is sent, and where the host did otherwise. */
-  reasonOfRow(row) {
+  reasonOfRow(row, manner = WHOLE) {
     const { before, answer, after } = this.around(row, LOOK_LINES);
-    return reasonOf(machineIn(before), answer, machineIn(after), this.dials);
+    return reasonOf(machineIn(before), answer, machineIn(after), this.dials, manner);
+  }
+
+  /** The future of which a step is, of several the first that was dropped. */
+  homeOf(node) {
+    if (!this.homes) {
+      this.homes = new Map();
+      for (const future of this.futures) for (const it of this.tail(future)) if (!this.homes.has(it)) this.homes.set(it, future);
+    }
+    return this.homes.get(node) ?? this.standing;
   }
 
   /** The sectors at which what is stored may change: where each write of a future begins, and behind its end. */

@@ -31,3 +31,15 @@ function classWords(words, hasChanged) {
 function colourOf(entity) {
   return entity < OF_GROUPS ? `seat-${entity % 8}` : "of-group";
 }
+
+// The size of letters for which drawings are made, in pixels.
+const USUAL_PRINT = 13;
+// How wide a drawing is where the page is not shown, or before it has its place.
+const USUAL_WIDE = 560;
+
+/** How wide a drawing in an element must be, in units that grow with the print, so that its letters are as large as those around it. */
+function wideIn(it) {
+  const style = getComputedStyle(it), pixels = it.clientWidth - parseFloat(style.paddingLeft) - parseFloat(style.paddingRight);
+  const print = parseFloat(getComputedStyle(document.documentElement).fontSize);
+  return pixels > 0 ? Math.floor((pixels * USUAL_PRINT) / print) : USUAL_WIDE;
+}

@@ -38,10 +38,21 @@ function nameOf(entity) {
   return entity < OF_GROUPS ? `seat ${entity}` : `group ${entity - OF_GROUPS}`;
 }
 
+/** A virtual time in sectors by weight, to so many places. */
+function toPlaces(vtime, places) {
+  const power = 10n ** BigInt(places);
+  const parts = (vtime * power + (1n << (SCALE - 1n))) >> SCALE;
+  return `${parts / power}.${(parts % power).toString().padStart(places, "0")}`;
+}
+
 /** A virtual time in sectors by weight, to three places. */
 function byWeight(vtime) {
-  const thousandths = (vtime * 1000n + (1n << (SCALE - 1n))) >> SCALE;
-  return `${thousandths / 1000n}.${(thousandths % 1000n).toString().padStart(3, "0")}`;
+  return toPlaces(vtime, 3);
+}
+
+/** A virtual time to so many places that two of them are never told alike: 2^-22 is more than two of the last place. */
+function byWeightExactly(vtime) {
+  return toPlaces(vtime, 7);
 }
 
 /** The words of an answer behind its first one. */

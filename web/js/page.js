@@ -9,15 +9,17 @@ const MOST_IN_ADDRESS = 30_000;
 
 const AS_WORKED_OUT = "\u2713 Worked out before, by the rules. The machine gave this answer, and the whole state after it is the same.";
 
-const view = { machine: null, text: "", dials: null, course: null, services: null, future: null, place: 0, look: null, beside: null, given: null, waiting: 0 };
+const view = { machine: null, text: "", dials: null, course: null, services: null, future: null, place: 0, look: null, beside: null, given: null, waiting: 0,
+  // What was edited and has not run, or null.
+  draft: null };
 
 /** Begins: with what the address says, else with the script that this page was made with, else with the first of the menu. */
 async function begin() {
   const given = JSON.parse(byId("given").textContent), menu = JSON.parse(byId("menu-scripts").textContent);
   view.given = given;
   view.menu = menu;
-  byId("run").append(...(given.name ? [element("option", { value: given.name }, given.name)] : []),
-    ...menu.map((it) => element("option", { value: it.name }, it.name)), element("option", { value: "", hidden: true }, "a script of your own"));
+  byId("run").append(...(given.name ? [element("option", { value: given.name }, given.name)] : []), ...menuOf(menu),
+    element("option", { value: "", hidden: true }, "a script of your own"));
   // What may be typed, with words in capitals for what is to be put in.
   byId("forms").append(...TABLES.forms.map((form) => element("option", { value: form.join(" ") })));
   for (const { name, field, least, most, says } of OPTIONS) {
@@ -35,9 +37,16 @@ async function begin() {
   fromAddress();
 }
 
+/** The parts of the menu. What a page cannot run has no text, and says why; it cannot be chosen. */
+function menuOf(menu) {
+  const parts = [...new Set(menu.map((it) => it.part))];
+  const optionOf = (it) => element("option", { value: it.name ?? it.label, disabled: !("text" in it) }, it.label);
+  return parts.map((part) => element("optgroup", { label: part }, menu.filter((it) => it.part === part).map(optionOf)));
+}
+
 /** A script of the menu, or the one that this page was made with. */
 function scriptNamed(name) {
-  return name === view.given.name && name ? view.given : view.menu.find((it) => it.name === name);
+  return name === view.given.name && name ? view.given : view.menu.find((it) => it.name === name && "text" in it);
 }
 
 /** Shows what the address says. */
@@ -45,12 +54,12 @@ function fromAddress() {
   const words = new URLSearchParams(location.hash.slice(1));
   document.documentElement.classList.toggle("large", words.get("print") === "large");
   setLook(words.get("look"));
-  const named = scriptNamed(words.get("run")) ?? scriptNamed(view.given.name) ?? view.menu[0];
+  const named = scriptNamed(words.get("run")) ?? scriptNamed(view.given.name) ?? scriptNamed(TABLES.first);
   const text = words.get("script") ?? named.text, options = words.get("options")?.split(" ").filter((it) => it) ?? (words.has("script") ? [] : named.options);
   let dials = usualDials();
+  tellFault(words.get("run") && words.get("run") !== named.name ? `There is no run \u201c${words.get("run")}\u201d here. Shown is ${named.name}.` : "");
   try {
     dials = dialsOf(options);
-    tellFault("");
   } catch (fault) {
     if (!(fault instanceof BadOption)) throw fault;
     tellFault(`${fault.message}. The options are as usual.`);
@@ -61,7 +70,10 @@ function fromAddress() {
 
 /** Runs a script, and shows a place of a future. If these are no numbers of it: a script of the menu at its first choice, another at its end. */
 function runScript(text, dials, number = NaN, place = NaN, beside = NaN) {
+  // A text that lies open and was not touched becomes the new one.
+  const isOpenAsIs = isEditing() && !isChanged();
   Object.assign(view, { text, dials });
+  if (isOpenAsIs) byId("text").value = text;
   byId("scheduler").value = dials.scheduler;
   for (const { field } of OPTIONS) {
     byId(field).value = `${dials[field]}`;
@@ -75,21 +87,24 @@ function runScript(text, dials, number = NaN, place = NaN, beside = NaN) {
     return;
   }
   const { course } = view;
-  view.services = null;
+  Object.assign(view, { services: null, look: null });
   view.lanes = lanesOf(course);
-  const name = (it) => (it === course.standing ? "the one that stands" : `${it.number + 1}: dropped, from step ${it.fork} on`);
-  byId("future").replaceChildren(...course.futures.map((it) => element("option", { value: it.number }, name(it))));
+  const names = () => course.futures.map((it) => element("option", { value: it.number }, nameOfFuture(it)));
+  byId("future").replaceChildren(...names());
+  byId("beside").replaceChildren(element("option", { value: "" }, "none"), ...names());
   byId("futures").hidden = course.futures.length < 2;
   view.future = course.futures[number - 1] ?? course.standing;
-  view.beside = course.futures[beside - 1] ?? null;
+  view.beside = course.futures.filter((it) => it !== view.future).find((it) => it.number === beside - 1) ?? null;
   const end = view.future === course.standing ? course.stateAfter(course.rows.length).cursor : view.future.tip.depth;
-  tellFault(course.fault ? `Line ${course.fault.line} did not run: ${course.fault.why}. ${quotedLine(course.lines[course.fault.line - 1])}` : "", true);
+  tellFault(course.fault ? toldFault(course.fault, course.lines[course.fault.line - 1]) : "", true);
   const isOfMenu = view.menu.includes(scriptNamed(byId("run").value)) && view.future === course.standing;
   show(Number.isInteger(place) ? place : isOfMenu ? choiceFrom(0, 1) : end);
 }
 
-function quotedLine(line) {
-  return line === undefined ? "" : `It is \u201c${line.length > 80 ? `${line.slice(0, 80)}\u2026` : line}\u201d.`;
+/** Why a run ended early, with the line if the reason does not quote the whole of it. */
+function toldFault({ line, why, isBad }, text) {
+  const itself = text === undefined || why.includes(quoted(text)) ? "" : ` It is \u201c${text.length > 80 ? `${text.slice(0, 80)}\u2026` : text}\u201d.`;
+  return `Line ${line} ${isBad ? "is bad, so the run ends before it" : "did not run"}: ${why}.${itself}`;
 }
 
 /** Says what is wrong with what was given; nothing is wrong if the text is empty. A fault that was told stays until it is mended. */
@@ -99,8 +114,9 @@ function tellFault(text, isOfScript = false) {
   place.hidden = text === "";
 }
 
-/** Goes to a place of the chosen future, and draws it when there is time. */
+/** Goes to a place of the chosen future, and draws it when there is time. What was said of a line that was typed elsewhere is gone then. */
 function show(place) {
+  tellTyped("");
   view.place = Math.max(0, Math.min(place, view.future.tip.depth));
   drawTrack();
   clearTimeout(view.waiting);
@@ -113,44 +129,72 @@ function draw() {
   const { course, future, place } = view;
   try {
     view.look = course.lookAt(future, place);
+    view.lookBeside = view.beside === null ? null : course.lookAt(view.beside, Math.min(place, view.beside.tip.depth));
   } catch (fault) {
     if (!(fault instanceof MachineFault)) throw fault;
     tellFault(fault.message, true);
     return;
   }
   const { look } = view;
-  byId("clients").replaceChildren(element("h2", {}, "clients"), ...clientsOf(look));
-  const head = view.beside ? headOf("this future", place, course.nodeAt(future, place)) : [element("h2", {}, "groups")];
-  byId("groups").replaceChildren(...head, ...groupsOf(look));
+  drawClients();
   byId("device").replaceChildren(element("h2", {}, "device"), ...deviceOf(look, course.dials));
   byId("strip").replaceChildren(...stripOf(look, course.dials));
-  drawBeside();
-  drawRows();
   drawReason();
+  drawGroups();
+  drawRows();
   drawExactness();
   drawShares();
+  keepInSight();
   toAddress();
   document.documentElement.dataset.step = `${place}`;
 }
 
-/** The other future at the same place, if one lies beside. */
-function drawBeside() {
-  const { course, beside, place } = view;
+/** The clients. */
+function drawClients() {
+  const panel = byId("clients"), { scrollTop } = panel;
+  panel.replaceChildren(element("h2", {}, "clients"), ...clientsOf(view.look));
+  panel.scrollTop = scrollTop;
+}
+
+/** Keeps the client in service in sight, where they do not all have room. How much there is depends on all other panels. */
+function keepInSight() {
+  const panel = byId("clients"), card = panel.querySelector("[aria-current]");
+  if (card === null) return;
+  const above = card.offsetTop - panel.offsetTop, below = above + card.offsetHeight - panel.clientHeight;
+  // The first card keeps the head of the panel above it.
+  if (panel.scrollTop > above) panel.scrollTop = card.previousElementSibling.matches("h2") ? 0 : above;
+  else panel.scrollTop = Math.max(panel.scrollTop, below);
+}
+
+/** The groups, and those of the other future at the same place, if one lies beside, in drawings that are so wide, or as wide as there
+ * is room. */
+function drawGroups(wide = null) {
+  const { course, future, place, beside, look, lookBeside } = view;
   document.documentElement.classList.toggle("beside", beside !== null);
   byId("other").hidden = beside === null;
+  const head = beside ? headOf(shortNameOf(future), place, course.nodeAt(future, place)) : [element("h2", {}, "groups")];
+  const hasReasonMore = MORE_PLACES.are.test(byId("reason").textContent);
+  byId("groups").replaceChildren(...head, ...groupsOf(look, wide ?? wideIn(byId("groups")), hasReasonMore));
   if (beside === null) return;
-  const there = Math.min(place, beside.tip.depth);
-  const look = course.lookAt(beside, there);
-  byId("other").replaceChildren(...headOf(nameOfFuture(beside), there, course.nodeAt(beside, there)), ...groupsOf(look));
+  const there = lookBeside.place;
+  byId("other").replaceChildren(...headOf(shortNameOf(beside), there, course.nodeAt(beside, there)), ...groupsOf(lookBeside, wide ?? wideIn(byId("other"))));
 }
 
 /** The head of one of two futures that lie side by side. */
 function headOf(name, place, node) {
-  return [element("h2", {}, `${name}, ${place} steps`), element("p", { class: "words" }, node === NO_STEP ? "no step" : toldStep(node))];
+  return [element("h2", {}, `${name}: ${place} steps`), element("p", { class: "words" }, node === NO_STEP ? "no step" : toldStep(node))];
 }
 
+/** A future among others: which of its steps are its own, and the line that ended it. */
 function nameOfFuture(future) {
-  return future === view.course.standing ? "the future that stands" : `future ${future.number + 1}, which was dropped`;
+  const { course } = view, { number, fork, prefix, tip } = future;
+  if (future === course.standing) return `${number + 1}: the one that stands, ${tip.depth} steps`;
+  const steps = fork + 1 === tip.depth ? `step ${tip.depth}` : `steps ${fork + 1} to ${tip.depth}`;
+  return `${number + 1}: ${steps} dropped by line ${prefix + 1}, ${course.lines[prefix]}`;
+}
+
+function shortNameOf(future) {
+  return `future ${future.number + 1}, which ${future === view.course.standing ? "stands" : "was dropped"}`;
 }
 
 /** A step, as its line with its answer. */
@@ -168,23 +212,26 @@ function drawRows() {
   const rows = course.lines.slice(first, last).map((line, at) => rowOf(line, first + at, inWay, here));
   byId("rows").replaceChildren(...(first > 0 ? [element("li", { class: "more" }, `${first} lines before`)] : []), ...rows,
     ...(last < course.lines.length ? [element("li", { class: "more" }, `${course.lines.length - last} lines behind`)] : []));
-  const row = byId("rows").querySelector("[aria-current]");
-  const list = byId("rows");
+  const list = byId("rows"), row = list.querySelector("[aria-current]");
   list.scrollTop = row ? row.offsetTop - list.clientHeight / 2 : 0;
+  const has = (kind) => list.querySelector(`.${kind}`) !== null;
+  const said = [has("undone") && "Dotted at its left: undone here.", has("elsewhere") && "Struck through: a step of another future; a click leads there."];
+  byId("rows-legend").textContent = said.filter((it) => it).join(" ");
 }
 
-/** A row of the list. One that is a step of this future leads to it. */
+/** A row of the list. One that is a step leads to it. */
 function rowOf(line, row, inWay, here) {
   const { course, place } = view;
-  const answer = course.rows[row]?.answer ?? null, depth = inWay.get(row);
+  const answer = course.rows[row]?.answer ?? null, depth = inWay.get(row), node = course.nodes.get(row);
   const isBad = course.fault !== null && row === course.fault.line - 1;
+  const isElsewhere = depth === undefined && node !== undefined;
   const words = [isSilent(line) ? "silent" : "", isBad ? "bad" : "", row >= course.rows.length && !isBad ? "unrun" : "",
-    depth === undefined ? (course.nodes.has(row) ? "elsewhere" : "") : depth > place ? "undone" : ""];
+    isElsewhere ? "elsewhere" : depth > place ? "undone" : ""];
   const look = answer !== null && { class: isRefusal(answer) ? "answer refusal" : "answer", title: sentenceOf(answer) || null };
-  const answered = answer === null ? null : element("span", look, told(answer));
-  const it = element("li", { class: words.join(" ").trim() || null, "aria-current": row === here && here >= 0 ? "step" : null, "data-row": row },
-    element("span", { class: "number" }, `${row + 1}`), element("span", { class: "line" }, line), answered);
-  return it;
+  const title = isElsewhere ? `a step of ${shortNameOf(course.homeOf(node))}` : depth > place ? "undone at this place" : null;
+  const attributes = { class: words.join(" ").trim() || null, "aria-current": row === here && here >= 0 ? "step" : null, "data-row": row, title };
+  return element("li", attributes, element("span", { class: "number" }, `${row + 1}`), element("span", { class: "line" }, line),
+    node ? element("span", { class: "step" }, `step ${node.depth}`) : null, answer === null ? null : element("span", look, told(answer)));
 }
 
 /** The step that was made last, and its reason if it is a choice; and what would come next. */
@@ -197,11 +244,11 @@ function drawReason() {
     byId("why").replaceChildren();
   } else {
     const answer = course.rows[node.row].answer;
-    byId("told").textContent = `Step ${place} of ${most}: ${toldStep(node)}`;
-    const reason = course.lineOf(node) === "dispatch" ? reasonOf(look.before, answer, look.fresh, course.dials) : null;
+    byId("told").textContent = `Step ${place} of ${most}, line ${node.row + 1}: ${toldStep(node)}`;
+    const reason = course.lineOf(node) === "dispatch" ? reasonOf(look.before, answer, look.fresh, course.dials, MORE_PLACES) : null;
     byId("why").replaceChildren(...(reason === null ? [] : reasonParts(reason)));
   }
-  const next = new Choice(copyOf(look.fresh), course.dials).reason();
+  const next = new Choice(copyOf(look.fresh), course.dials, MORE_PLACES).reason();
   const [, , , operation, start, count] = (next.answer ?? "").split(" ");
   byId("next").textContent = next.seat === null ? `A dispatch now: ${next.answer ? told(next.answer) : "no answer"}, as ${next.parts.join("; ")}.`
     : `A dispatch now would send ${operation} ${start}+${count} of seat ${next.seat}: ${next.parts.join("; ")}.`;
@@ -217,15 +264,22 @@ function reasonParts(reason) {
 
 /** Whether undo and redo gave what a new machine gives. */
 function drawExactness() {
-  const { look, place } = view;
+  const { look, place, future } = view;
   const how = look.moves.map((it) => `${it.line} \u2192 ${it.answer}`).join(", ");
   const same = `gives the same ${look.answers.length} looks.`;
   const it = byId("exact");
   it.className = look.differences.length > 0 ? "otherwise" : "";
   if (look.differences.length > 0) it.textContent = `!!! UNDO IS NOT EXACT: ${look.differences.join("; ")}`;
   else if (look.isStuck) it.textContent = `${how}: the history is full, so this is a new machine that ran the lines up to this step.`;
-  else if (look.moves.length === 0) it.textContent = `The end of this run. \u2713 A new machine that ran the lines up to this step ${same}`;
+  else if (look.moves.length === 0) it.textContent = `${whereItIs(future, place)} \u2713 A new machine that ran the lines up to this step ${same}`;
   else it.textContent = `The machine was brought back: ${how}. \u2713 A new machine that ran the lines up to step ${place} alone ${same}`;
+}
+
+/** Where the script leaves the machine, which has not been moved from there. */
+function whereItIs(future, place) {
+  const most = future.tip.depth;
+  if (place === most) return future === view.course.standing ? "The end of this run." : "The end of this future.";
+  return `The script itself leaves the machine here: ${place} of ${most} steps stand, and the others are undone.`;
 }
 
 /** What each client was given. It is asked for when all else is shown, as that takes a run with looks before each dispatch. */
@@ -244,13 +298,15 @@ function drawShares() {
     return;
   }
   const points = view.services.points(future);
-  byId("shares").replaceChildren(sharesTable(points, place), ...[lagPicture(points, place)].filter((it) => it !== null));
+  const picture = aheadPicture(points, place, wideIn(byId("shares")));
+  byId("shares").replaceChildren(sharesTable(points, place), ...[picture].filter((it) => it !== null));
+  keepInSight();
 }
 
 /** The slider. */
 function drawTrack() {
   const { course, future, place } = view;
-  const { drawing, nearest } = trackOf(course, view.lanes, future, place, Math.max(300, byId("track").clientWidth));
+  const { drawing, nearest } = trackOf(course, view.lanes, future, place, byId("track").clientWidth || USUAL_WIDE);
   byId("track").replaceChildren(drawing);
   view.nearest = nearest;
   const slider = byId("slider");
@@ -259,9 +315,21 @@ function drawTrack() {
   slider.value = `${place}`;
   const node = course.nodeAt(future, place);
   slider.setAttribute("aria-valuetext", `step ${place} of ${future.tip.depth}, ${node === NO_STEP ? "no step stands" : toldStep(node)}`);
-  byId("count").textContent = `${place} / ${future.tip.depth}`;
+  byId("count").textContent = `step ${place} of ${future.tip.depth}`;
   byId("future").value = `${future.number}`;
-  byId("lay").setAttribute("aria-pressed", `${view.beside !== null}`);
+  byId("beside").value = `${view.beside?.number ?? ""}`;
+  for (const it of byId("beside").options) it.hidden = it.disabled = it.value === `${future.number}`;
+}
+
+/** Draws anew what depends on how much room there is. */
+function drawAsWide() {
+  if (!view.course) return;
+  drawTrack();
+  if (!view.look) return;
+  drawClients();
+  drawGroups();
+  drawRows();
+  drawShares();
 }
 
 /** The next place of a choice, forth or back; the end if there is none. */
@@ -271,11 +339,16 @@ function choiceFrom(place, by) {
   return by > 0 ? way.length : 0;
 }
 
+/** A place of a future. If that lay beside, the one that was shown lies there now. */
+function choosePlace(future, place) {
+  if (view.beside === future) view.beside = view.future === future ? null : view.future;
+  view.future = future;
+  show(place);
+}
+
 /** Another future, at the place at which it leaves the one that is shown, or where that was. */
 function choose(future) {
-  if (view.beside === future) view.beside = view.future;
-  view.future = future;
-  show(Math.min(view.place, future.tip.depth));
+  choosePlace(future, Math.min(view.place, future.tip.depth));
 }
 
 /** The future behind or before this one in the order in which they were dropped. */
@@ -284,11 +357,16 @@ function otherFuture(by) {
   return futures[(view.future.number + by + futures.length) % futures.length];
 }
 
-/** Lays another future beside, or takes it away. */
-function layBeside() {
-  if (view.course.futures.length < 2) return;
-  view.beside = view.beside === null ? otherFuture(-1) : null;
+/** Lays a future beside the one that is shown, or none. */
+function layBeside(future) {
+  view.beside = future;
   show(view.place);
+}
+
+/** The future behind the one that lies beside, in the order of the list; none behind the last. */
+function nextBeside() {
+  const others = view.course.futures.filter((it) => it !== view.future);
+  return others[others.indexOf(view.beside) + 1] ?? null;
 }
 
 /** Asks a line that was typed, at the place that is shown: steps behind it are undone first, and are another future then. */
@@ -318,11 +396,54 @@ function tellTyped(text, isFault) {
   byId("typed-answer").className = isFault ? "fault" : "";
 }
 
-/** Opens or closes the script as a text. */
+function isEditing() {
+  return document.documentElement.classList.contains("edits");
+}
+
+/** Whether the text that is edited is another one than the script. A field has no carriage return. */
+function isChanged() {
+  return byId("text").value !== view.text.replaceAll(/\r\n?/g, "\n");
+}
+
+/** Opens or closes the script as a text. What was edited and has not run is kept. */
 function edit(isOpen) {
+  const wasOpen = isEditing();
+  if (wasOpen) view.draft = isChanged() ? byId("text").value : null;
   document.documentElement.classList.toggle("edits", isOpen);
-  byId("text").value = isOpen ? view.text : "";
+  if (isOpen && !wasOpen) byId("text").value = view.draft ?? view.text;
   if (isOpen) byId("text").focus();
+  tellDraft();
+}
+
+/** Says whether there is a text that has not run. */
+function tellDraft() {
+  const has = isEditing() ? isChanged() : view.draft !== null;
+  byId("edit").textContent = has ? "your text, not run yet" : "edit the script";
+  byId("drop").disabled = !has;
+}
+
+/** Takes what was edited for the script, or the script for it. */
+function endEdit(isRun) {
+  const text = byId("text").value;
+  byId("text").value = view.text;
+  edit(false);
+  if (!isRun) return;
+  if (text !== view.text) byId("run").value = "";
+  runScript(text, view.dials);
+}
+
+/** Leaves what was opened last: a panel, the text of the script, or a field. */
+function leave() {
+  const panel = document.querySelector("details[open]");
+  if (panel) {
+    panel.open = false;
+    panel.querySelector("summary").focus();
+  } else if (isEditing()) {
+    edit(false);
+    byId("edit").focus();
+  } else {
+    document.activeElement.blur();
+  }
 }
 
 /** Runs what stands in the fields of options; a field that is wrong is marked, and the run stays. */
@@ -353,6 +474,7 @@ function isDark() {
 
 /** Puts what is shown into the address, so that a link or a reload shows it again. */
 function toAddress() {
+  if (!view.course) return;
   const words = new URLSearchParams();
   const named = scriptNamed(byId("run").value);
   if (named?.text === view.text) {
@@ -382,11 +504,11 @@ const KEYS = {
   ArrowDown: () => choose(otherFuture(1)),
   Home: () => show(0),
   End: () => show(view.future.tip.depth),
-  b: () => layBeside(),
+  b: () => layBeside(nextBeside()),
   e: () => edit(true),
-  t: () => byId("typed").focus(),
-  l: () => { document.documentElement.classList.toggle("large"); show(view.place); },
-  d: () => { setLook(isDark() ? "light" : "dark"); show(view.place); },
+  t: () => { edit(false); byId("typed").select(); },
+  l: () => { document.documentElement.classList.toggle("large"); drawAsWide(); toAddress(); },
+  d: () => { setLook(isDark() ? "light" : "dark"); toAddress(); },
 };
 
 /** Whether a key belongs to the element that has the focus. */
@@ -397,37 +519,33 @@ function isTyping(target) {
 /** Listens to keys, buttons, fields and the drawing of the slider. */
 function listen() {
   document.addEventListener("keydown", (event) => {
-    if (event.key === "Escape") {
-      edit(false);
-      document.activeElement.blur();
-    }
+    if (event.key === "Escape") leave();
     if (event.ctrlKey || event.altKey || event.metaKey || isTyping(event.target) || !(event.key in KEYS)) return;
     event.preventDefault();
     KEYS[event.key](event.shiftKey);
   });
   const pressed = [["first", "Home"], ["choice-back", "ArrowLeft", true], ["back", "ArrowLeft"], ["forth", "ArrowRight"], ["choice-forth", "ArrowRight", true],
-    ["last", "End"], ["lay", "b"], ["large", "l"], ["dark", "d"]];
+    ["last", "End"], ["large", "l"], ["dark", "d"]];
   for (const [id, key, shift] of pressed) byId(id).addEventListener("click", () => KEYS[key](shift));
   listenToScript();
   listenToTrack();
   for (const id of ["scheduler", "dials"]) byId(id).addEventListener("change", fromFields);
   byId("future").addEventListener("change", (event) => choose(view.course.futures[Number(event.target.value)]));
+  byId("beside").addEventListener("change", (event) => layBeside(event.target.value ? view.course.futures[Number(event.target.value)] : null));
   addEventListener("hashchange", () => { if (location.hash !== view.address) fromAddress(); });
 }
 
 /** Listens to the menu, to the list of lines, and to what is typed. */
 function listenToScript() {
-  byId("edit").addEventListener("click", () => edit(true));
-  byId("cancel").addEventListener("click", () => edit(false));
-  byId("run-text").addEventListener("click", () => {
-    const text = byId("text").value;
-    edit(false);
-    if (text !== view.text) byId("run").value = "";
-    runScript(text, view.dials);
-  });
+  for (const [id, act] of [["edit", () => edit(true)], ["keep", () => edit(false)], ["drop", () => endEdit(false)], ["run-text", () => endEdit(true)]]) {
+    byId(id).addEventListener("click", act);
+  }
+  byId("text").addEventListener("input", tellDraft);
   byId("run").addEventListener("change", (event) => {
     const it = scriptNamed(event.target.value);
-    if (it) runScript(it.text, dialsOf(it.options));
+    if (!it) return;
+    tellFault("");
+    runScript(it.text, dialsOf(it.options));
   });
   byId("typing").addEventListener("submit", (event) => {
     event.preventDefault();
@@ -443,8 +561,8 @@ function listenToTrack() {
   const drag = (event) => {
     const box = byId("track").getBoundingClientRect();
     const { future, place } = view.nearest(event.clientX - box.left, event.clientY - box.top);
-    if (event.type === "pointerdown") view.future = future;
-    show(place);
+    if (event.type === "pointerdown") choosePlace(future, place);
+    else show(place);
   };
   byId("track").addEventListener("pointerdown", (event) => {
     isDragged = true;
@@ -453,7 +571,9 @@ function listenToTrack() {
   });
   byId("track").addEventListener("pointermove", (event) => { if (isDragged) drag(event); });
   byId("track").addEventListener("pointerup", () => { isDragged = false; });
-  addEventListener("resize", drawTrack);
+  addEventListener("resize", drawAsWide);
+  addEventListener("beforeprint", () => { if (view.look) drawGroups(USUAL_WIDE); });
+  addEventListener("afterprint", drawAsWide);
 }
 
 /** Goes to the step of a row, in this future or in the one that has it. */
@@ -461,8 +581,7 @@ function goToRow(row) {
   const node = view.course.nodes.get(row);
   if (!node) return;
   const { course } = view;
-  if (course.way(view.future)[node.depth - 1] !== node) view.future = course.futures.find((it) => course.tail(it).includes(node)) ?? course.standing;
-  show(node.depth);
+  choosePlace(course.way(view.future)[node.depth - 1] === node ? view.future : course.homeOf(node), node.depth);
 }
 
 // A test that has no document takes the functions above alone.

@@ -9,15 +9,24 @@ function clientsOf({ machine, before }) {
   return cards.length > 0 ? cards : [element("p", { class: "none" }, "No client sits here yet.")];
 }
 
+/** The seat that is in service, or under `none` the one that was served last; null if there is none. */
+function servedSeat(machine) {
+  return machine.scheduler === "none" ? machine.lastSeat : machine.service?.seat ?? null;
+}
+
+function servedWord(machine) {
+  return machine.scheduler === "none" ? "served last" : "\u25b6 in service";
+}
+
 /** A client: its words, its queue as blocks with the head, and its outbox. */
 function clientOf(seat, queue, last, machine) {
-  const isServed = machine.service?.seat === seat;
+  const isServed = servedSeat(machine) === seat;
   const words = [`session ${queue.session}`, `group ${queue.group}`, `prio ${queue.prio}`, queue.word === "leaving" ? "leaving" : null];
   const head = nextRequest(machine, seat);
   const outbox = queue.outbox.map(([bio, end]) => `${bio} ${end}`).join(", ");
   const changed = (what) => (last === undefined ? what !== "queue" || queue.requests.length > 0 : factsOf(queue)[what] !== factsOf(last)[what]);
-  return element("article", { class: `client ${colourOf(seat)}` },
-    element("h3", {}, element("span", { class: "swatch" }), `seat ${seat}`, isServed ? element("b", { class: "served" }, " in service") : null),
+  return element("article", { class: `client ${colourOf(seat)}`, "aria-current": isServed ? "true" : null },
+    element("h3", {}, element("span", { class: "swatch" }), `seat ${seat}`, isServed ? element("b", { class: "served" }, ` ${servedWord(machine)}`) : null),
     element("p", { class: "words" }, words.filter((it) => it !== null).join(", ")),
     element("p", { class: classWords("words", changed("owed")) }, `owed ${queue.owed}, head at sector ${queue.head}`),
     element("div", { class: classWords("queue", changed("queue")), role: "group", "aria-label": `queue of seat ${seat}` },

@@ -25,17 +25,28 @@ function checked(vtime) {
   return vtime;
 }
 
-/** What tells virtual times: by weight, and whole as well if another one looks the same by weight. */
-function timesOf(vtimes) {
-  const counts = new Map();
-  for (const vtime of new Set(vtimes)) counts.set(byWeight(vtime), (counts.get(byWeight(vtime)) ?? 0) + 1);
-  return (vtime) => (counts.get(byWeight(vtime)) === 1 ? byWeight(vtime) : `${byWeight(vtime)} (${vtime})`);
+// How times are told that three places do not tell apart, and a difference that is less than they tell: tools/why gives the whole numbers of
+// which a time is made, and what a page shows has more places.
+const WHOLE = { alike: (vtime) => `${byWeight(vtime)} (${vtime})`, little: (vtime) => `${vtime}/2^${SCALE}` };
+const MORE_PLACES = { alike: byWeightExactly, little: byWeightExactly, are: /\d\.\d{7}/ };
+
+/** The times of some that three places do not tell apart. */
+function alikeIn(vtimes) {
+  const found = new Map();
+  for (const vtime of new Set(vtimes)) found.set(byWeight(vtime), [...(found.get(byWeight(vtime)) ?? []), vtime]);
+  return new Set([...found.values()].filter((it) => it.length > 1).flat());
 }
 
-/** How far two times are apart: by weight, or whole if that is less than it tells. */
-function apart(later, earlier) {
+/** What tells virtual times: by weight, and in another manner if another one looks the same by weight. */
+function timesOf(vtimes, manner) {
+  const alike = alikeIn(vtimes);
+  return (vtime) => (alike.has(vtime) ? manner.alike(vtime) : byWeight(vtime));
+}
+
+/** How far two times are apart. */
+function apart(later, earlier, manner) {
   const text = byWeight(later - earlier);
-  return text === byWeight(0n) ? `${later - earlier}/2^${SCALE}` : text;
+  return text === byWeight(0n) ? manner.little(later - earlier) : text;
 }
 
 /** Names in a row. */
@@ -93,8 +104,9 @@ function nextOf(machine, seat) {
 
 /** A dispatch by the rules: it changes a machine, and says why. */
 class Choice {
-  constructor(machine, dials) {
+  constructor(machine, dials, manner = WHOLE) {
     this.machine = machine;
+    this.manner = manner;
     this.limits = { maxBudget: Number(dials.maxBudget), timeout: Number(dials.timeout), tags: Number(dials.tags), history: Number(dials.history) };
     this.said = [];
   }
@@ -245,13 +257,13 @@ class Choice {
     const eligible = waiting.filter((it) => it.start <= vtime)
       .sort((one, other) => (one.finish === other.finish ? one.entity - other.entity : one.finish < other.finish ? -1 : 1));
     const [taken, ...others] = eligible;
-    const time = timesOf([before, vtime, ...waiting.map((it) => (it.start <= vtime ? it.finish : it.start))]);
+    const time = timesOf([before, vtime, ...waiting.map((it) => (it.start <= vtime ? it.finish : it.start))], this.manner);
     const ofClass = classesIn(machine, group).some((it) => it !== BEST_EFFORT) ? ` class ${name}` : "";
     const texts = [vtime === before ? `group ${group}${ofClass}: V ${time(vtime)}`
       : `group ${group}${ofClass}: V jumps from ${time(before)} to ${time(vtime)}, the least S`];
     texts.push(`eligible ${eligible.map((it) => `${nameOf(it.entity)} F ${time(it.finish)}`).join(", ")}`);
     const late = waiting.filter((it) => it.start > vtime);
-    const lateTexts = late.map((it) => `${nameOf(it.entity)}, S ${time(it.start)} is past V by ${apart(it.start, vtime)}`);
+    const lateTexts = late.map((it) => `${nameOf(it.entity)}, S ${time(it.start)} is past V by ${apart(it.start, vtime, this.manner)}`);
     if (late.length > 0) texts.push(`not eligible ${lateTexts.join(", ")}`);
     const tied = others.filter((it) => it.finish === taken.finish).map((it) => nameOf(it.entity));
     const why = tied.length > 0 ? `, of the same F as ${listed(tied)} and the lower number` : others.length > 0 ? ", the least F" : "";
@@ -312,9 +324,9 @@ function flat(machine) {
 }
 
 /** The reason of a dispatch by the looks before it, and where its answer and the looks after it are otherwise. A refusal changes nothing. */
-function reasonOf(before, answer, after, dials) {
+function reasonOf(before, answer, after, dials, manner = WHOLE) {
   const worked = copyOf(before);
-  const { parts, answer: byRules, seat } = new Choice(worked, dials).reason();
+  const { parts, answer: byRules, seat } = new Choice(worked, dials, manner).reason();
   const isNoRoom = answer === NO_ROOM && !BEFORE_MEMORY.includes(byRules);
   const wanted = isNoRoom ? answer : byRules;
   const told = isNoRoom ? [...parts.slice(0, -1), `${parts[parts.length - 1]}; no memory was found, which no look tells`] : parts;
