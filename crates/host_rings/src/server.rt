@@ -1,12 +1,17 @@
 // A host that is served.
-ghost use Rattle.std.specs.Prelude.{◌≤◌, length};
+ghost use Rattle.std.specs.Prelude.{◌≡◌, ◌≤◌, length, slice_get, IfOk, IfSome};
+ghost use Rattle.dispatch_core.specs.Running.{sizes_of};
+ghost use Rattle.plain.specs.Step.{of_sizes};
+ghost use Rattle.host_core.specs.Cores.{pages};
+ghost use Rattle.host_core.specs.Opening.{ArePaired, AreIdle, IsIdle};
 
-use crate::opening::host;
+use crate::opening::{Core, HostFault, host};
 use crate::recording::{drop_record, open_record};
 use crate::running::{start_core, start_looks};
 use crate::warning::Warning;
 use crate::watcher::Watcher;
 use base_image::Image;
+use host_core::{Caller, DeviceSeat, OperatorSeat};
 use host_paths::{
     DoorFault, Doors, ServeEnd, open_doors, remove_all, start_paths, start_workers, tell_closed,
 };
@@ -196,12 +201,7 @@ fn start_host<
 ) -> Result<Started, ServeEnd>
     requires { length images.items ≤ 4 }
 {
-    let sectors = match images.first() {
-        Some(image) => image.sectors(),
-        None => return Err(ServeEnd::OutOfMemory),
-    };
-    let workers = images.len() as u8;
-    let Ok((core, callers, devices, operator)) = host(alloc, config, sectors, workers) else {
+    let Ok((core, callers, devices, operator)) = host_over(alloc, config, images.as_slice()) else {
         return Err(ServeEnd::OutOfMemory);
     };
     let looks = start_looks(rt, alloc, &core, doors.inspect.take())?;
@@ -214,4 +214,22 @@ fn start_host<
     start_workers(rt, alloc, devices, images)?;
     let operator = start_paths(rt, alloc, doors, callers, operator)?;
     Ok(Started { operator, core })
+}
+
+// A host over the images, which has as many sectors as the first of them tells, and one worker for each.
+fn host_over<I: Image>(
+    alloc: Global,
+    config: Config,
+    images: &[I],
+) -> Result<(Core, Vec<Caller>, Vec<DeviceSeat>, OperatorSeat), HostFault>
+    requires { length images.now ≤ 4 }
+    ensures sectors { IfOk result (λ r. IfSome (slice_get images.now 0)
+        (λ image. (pages r.0).limits ≡ of_sizes (sizes_of config (I.disk image).sectors))) }
+    ensures workers { IfOk result (λ r. ArePaired (length images.now) r.0 r.1.items r.2.items r.3) }
+    ensures idle { IfOk result (λ r. AreIdle r.1.items × AreIdle r.2.items × IsIdle r.3) }
+{
+    let Some(image) = images.first() else {
+        return Err(HostFault::BadWorkers);
+    };
+    host(alloc, config, image.sectors(), images.len() as u8)
 }

@@ -5,30 +5,34 @@ use crate::opening::opened;
 use host_calls::OperatorCall;
 use host_paths::serve_operator;
 use host_rings::{Core, OperatorSeat};
-use plain::{Answer, Code};
+use plain::{Answer, Reply};
 use std::alloc::Global;
 use std::sync::Wait;
 use std::test::Fail;
 use std::thread::{self, Threads};
 
-// Freeze, Thaw, and Freeze again.
-const ASKED: [u8; 15] = [0, 0, 0, 1, 0x14, 0, 0, 0, 1, 0x15, 0, 0, 0, 1, 0x14];
+// Freeze twice, and then Thaw: asked in another order they have other answers.
+const ASKED: [u8; 15] = [0, 0, 0, 1, 0x14, 0, 0, 0, 1, 0x14, 0, 0, 0, 1, 0x15];
 
-// Done, twice.
-const ANSWERED: [u8; 10] = [0, 0, 0, 1, 0x92, 0, 0, 0, 1, 0x92];
+// Done, and refused as the host is frozen already.
+const ANSWERED: [u8; 11] = [0, 0, 0, 1, 0x92, 0, 0, 0, 2, 0xe0, ALREADY_FROZEN];
 
-// Whether of three frames on a connection just two are answered if two may be, and whether the host is thawed then. Stops the host.
+// The number of AlreadyFrozen.
+const ALREADY_FROZEN: u8 = 22;
+
+// Whether of three frames on a connection just the first two are answered if two may be, and whether the host is frozen then. Stops the
+// host.
 fn served<R: Wait>(rt: &R, alloc: Global, mut seat: OperatorSeat) -> (bool, bool)
     requires { IsIdle seat }
 {
     let mut written = Vec::new(alloc);
     serve_operator(rt, alloc, &mut ASKED.as_slice(), &mut written, &mut seat, 2);
-    let is_thawed = match seat.ask(rt, OperatorCall::Thaw) {
-        Ok(answer) => matches!(answer, Answer::Refused(Code::NotFrozen)),
+    let is_frozen = match seat.ask(rt, OperatorCall::Thaw) {
+        Ok(answer) => matches!(answer, Answer::Accepted(Reply::Done)),
         Err(_) => false,
     };
     let _closed = seat.ask(rt, OperatorCall::Stop);
-    (written.as_slice() == ANSWERED.as_slice(), is_thawed)
+    (written.as_slice() == ANSWERED.as_slice(), is_frozen)
 }
 
 // The same of a host whose core runs in another thread.

@@ -88,19 +88,44 @@ fn peers(rt: HostRuntime, dir: &str) -> Result<[UnixStream; 3], Fail> {
     Ok([zero, one, operator])
 }
 
-// Whether the host does what it is asked by the way of the operator's command, and then says that it has ended. This has no clauses, so
-// that nothing carries what an ask promises.
-fn freezes_and_stops(alloc: Global, stream: &UnixStream) -> bool {
+// How many steps are made by then: two clients come, three requests are asked, sent, answered and reaped.
+const STEPS: u32 = 14;
+
+// What is heard of a call, by the way of the operator's command. This has no clauses, so that nothing carries what an ask promises.
+fn heard(alloc: Global, stream: &UnixStream, call: OperatorCall) -> Option<RingReply> {
     let mut peer = stream;
-    let is_frozen = match ask_host(alloc, &mut &*stream, &mut peer, OperatorCall::Freeze) {
-        Ok(reply) => matches!(reply, RingReply::Answer(Answer::Accepted(Reply::Done))),
-        Err(_) => false,
-    };
-    let is_stopped = match ask_host(alloc, &mut &*stream, &mut peer, OperatorCall::Stop) {
-        Ok(reply) => matches!(reply, RingReply::Closed),
-        Err(_) => false,
-    };
-    is_frozen && is_stopped
+    ask_host(alloc, &mut &*stream, &mut peer, call).ok()
+}
+
+// Whether so many steps stand after a call, of all that were made.
+fn leaves(alloc: Global, stream: &UnixStream, call: OperatorCall, standing: u32) -> bool {
+    match heard(alloc, stream, call) {
+        Some(RingReply::Answer(Answer::Accepted(Reply::Moved { cursor, length }))) => {
+            cursor == standing && length == STEPS
+        }
+        _ => false,
+    }
+}
+
+// Whether a call is accepted, and nothing more is told.
+fn is_done(alloc: Global, stream: &UnixStream, call: OperatorCall) -> bool {
+    matches!(
+        heard(alloc, stream, call),
+        Some(RingReply::Answer(Answer::Accepted(Reply::Done)))
+    )
+}
+
+// Whether the host is held, goes a step back and forth, goes on, freezes, and then says that it has ended.
+fn goes_back_and_stops(alloc: Global, stream: &UnixStream) -> bool {
+    leaves(alloc, stream, OperatorCall::Hold, STEPS)
+        && leaves(alloc, stream, OperatorCall::Undo { k: 1 }, STEPS - 1)
+        && leaves(alloc, stream, OperatorCall::Redo { k: 1 }, STEPS)
+        && is_done(alloc, stream, OperatorCall::Release)
+        && is_done(alloc, stream, OperatorCall::Freeze)
+        && matches!(
+            heard(alloc, stream, OperatorCall::Stop),
+            Some(RingReply::Closed)
+        )
 }
 
 // Two images at one gate.
@@ -111,14 +136,14 @@ fn images_of(alloc: Global) -> Result<Vec<Gated>, Fail>
     Ok(vec![in alloc; first, second]?)
 }
 
-// Whether each talk goes as it is wanted, and the host then freezes and stops by what the operator's command does.
+// Whether each talk goes as it is wanted, and the host then does what the operator asks, and stops.
 fn all_answer(alloc: Global, peers: &[UnixStream; 3]) -> bool {
     for talk in &AT_ONCE {
         if !answers(alloc, &peers[talk.0.min(OPERATOR)], *talk) {
             return false;
         }
     }
-    freezes_and_stops(alloc, &peers[OPERATOR]) && has_ended(&peers[OPERATOR])
+    goes_back_and_stops(alloc, &peers[OPERATOR]) && has_ended(&peers[OPERATOR])
 }
 
 // Two clients are served at once, by two workers at once.
