@@ -13,7 +13,8 @@
 //! | `settling` | what is left of a seat that ends before all is answered and collected |
 //! | `threads` | a core that sleeps is woken from another thread |
 //! | `workers` | what a client reads if a worker does the device's work in a thread of its own, from images whose first read fails or not |
-//! | `served` | two clients at once over two images, each with a worker; the operator's freeze and stop by the asking of his command |
+//! | `failing` | what a client hears whichever read of the image fails, busy or for good |
+//! | `served` | two clients at once over two images, each with a worker; the operator goes a step back and forth, freezes and stops, by the asking of his command |
 //!
 //! `opening` has the usual configuration and the hosts of `looks`, `operators`, `runs`, `settling` and `threads`; `gate` the images of `served`,
 //! and `peer` its clients. What a core answers to each call of each kind of seat, whom it answers and when it dispatches is compared by
@@ -26,6 +27,8 @@ mod asking;
 mod book;
 #[cfg(test)]
 mod desks;
+#[cfg(test)]
+mod failing;
 #[cfg(test)]
 mod gate;
 #[cfg(test)]

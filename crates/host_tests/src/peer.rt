@@ -46,8 +46,8 @@ pub fn answers(alloc: Global, stream: &UnixStream, talk: Talk) -> bool {
     true
 }
 
-// The bytes of a frame.
-fn bytes_of(alloc: Global, frame: Frame) -> Result<Vec<u8>, AllocError> {
+// The bytes of a frame, or of frames.
+pub fn bytes_of(alloc: Global, frame: Frame) -> Result<Vec<u8>, AllocError> {
     let Frame(text, sector) = frame;
     let mut bytes = Vec::new(alloc);
     let mut high = None;

@@ -45,7 +45,7 @@ struct Seats {
 }
 
 // A host of 64 sectors with one worker, and its seats. Of what it promises stands here what its tests need.
-fn opened(alloc: Global) -> Result<(Core, Vec<Caller>, Vec<DeviceSeat>, OperatorSeat), Fail>
+pub fn opened(alloc: Global) -> Result<(Core, Vec<Caller>, Vec<DeviceSeat>, OperatorSeat), Fail>
     ensures idle { IfOk result (λ r. AreIdle r.1.items × AreIdle r.2.items × IsIdle r.3) }
 {
     match host(alloc, usual()?, 64, 1) {
@@ -55,7 +55,7 @@ fn opened(alloc: Global) -> Result<(Core, Vec<Caller>, Vec<DeviceSeat>, Operator
 }
 
 // The last of these, to which nothing has come.
-fn last_client(clients: &mut Vec<Caller>) -> Result<Caller, Fail>
+pub fn last_client(clients: &mut Vec<Caller>) -> Result<Caller, Fail>
     requires { AreIdle clients.old.items }
     ensures { IfOk result (λ s. IsIdle s) }
 {
@@ -65,7 +65,7 @@ fn last_client(clients: &mut Vec<Caller>) -> Result<Caller, Fail>
     }
 }
 
-fn last_device(devices: &mut Vec<DeviceSeat>) -> Result<DeviceSeat, Fail>
+pub fn last_device(devices: &mut Vec<DeviceSeat>) -> Result<DeviceSeat, Fail>
     requires { AreIdle devices.old.items }
     ensures { IfOk result (λ s. IsIdle s) }
 {
@@ -150,7 +150,7 @@ fn read_and_stop<R: Wait>(rt: &R, client: Caller, operator: OperatorSeat, sector
     heard
 }
 
-fn work<R: Wait + Clock>(
+pub fn work<R: Wait + Clock>(
     rt: &R,
     alloc: Global,
     mut device: DeviceSeat,
@@ -188,7 +188,7 @@ fn asked<R: Threads + Sync + Wait + Clock>(
     Ended { heard, worker }
 }
 
-fn run<R: Wait>(rt: &R, alloc: Global, mut core: Core) {
+pub fn run<R: Wait>(rt: &R, alloc: Global, mut core: Core) {
     core.run(rt, alloc);
 }
 
