@@ -39,30 +39,30 @@ class Host(Served):
         self.stop()
 
 
-def io_of(session, writes):
-    """The frame of one read or write."""
-    return store(session, START, SECTORS, BYTE) if writes else fetch(session, START, SECTORS)
-
-
-def attached_to(talk):
-    """The session of a client that comes."""
+def frames_of(talk, depth, writes):
+    """The frames of so many reads or writes at a time, and of their reaps, of a client that comes; and how many bytes answer them."""
     talk.send(ATTACH)
-    return int.from_bytes(talk.reply()[1:], "big")
+    session = int.from_bytes(talk.reply()[1:], "big")
+    one = store(session, START, SECTORS, BYTE) if writes else fetch(session, START, SECTORS)
+    return bytes.fromhex(depth * one + depth * reap(session)), depth * (QUEUED + (QUEUED if writes else QUEUED + SECTORS * 512))
+
+
+def answered(talk, frames, buffer):
+    """Sends the frames, and waits for as many bytes as the buffer holds."""
+    talk.socket.sendall(frames)
+    view = memoryview(buffer)
+    while view:
+        view = view[talk.socket.recv_into(view):]
 
 
 def ask(path, depth, writes, seconds, told):
     """One client for so long. Tells how many reads or writes were done, and how long each round of them took."""
     with Talk(path) as talk:
-        session = attached_to(talk)
-        frames = bytes.fromhex(depth * io_of(session, writes) + depth * reap(session))
-        due = depth * (QUEUED + (QUEUED if writes else QUEUED + SECTORS * 512))
+        frames, due = frames_of(talk, depth, writes)
         buffer, took = bytearray(due), []
         until = time.perf_counter() + seconds
         while (began := time.perf_counter()) < until:
-            talk.socket.sendall(frames)
-            view = memoryview(buffer)
-            while view:
-                view = view[talk.socket.recv_into(view):]
+            answered(talk, frames, buffer)
             took.append(time.perf_counter() - began)
         told.put((len(took) * depth, took))
 

@@ -28,7 +28,7 @@ ASKS = [1_000, 10_000]
 # A stream of 6,553 frames is fed twice.
 FED = ("serve_bench", ["feed", "4096", "2"], "13106\n")
 # The bounds of bench/record.py, in the order in which its parts tell them, of reads and of writes.
-RECORD_BOUNDS = [["{} with a record", "{} looked at ten times a second"], ["a record of {}"], ["calls a second of a replay of {} against sim"]]
+RECORD_BOUNDS = [["{} with a record", "{} looked at with pauses"], ["a record of {}"], ["calls a second of a replay of {} against sim"]]
 
 
 def builds(name):
@@ -120,16 +120,20 @@ def judged(rows):
             yield what, said == "kept"
 
 
+def recorded(*words):
+    """A run of bench/record.py with these words."""
+    return subprocess.run([sys.executable, os.path.join(TOP, "bench", "record.py"), *words], stdin=subprocess.DEVNULL, capture_output=True,
+                          text=True, timeout=SECONDS, check=False)
+
+
 def short_record():
     """bench/record.py with one short round: each bound is judged by its numbers, and the status goes by all. What it measures so is no figure."""
-    ran = subprocess.run([sys.executable, os.path.join(TOP, "bench", "record.py"), "--rounds", "1", "--seconds", "0.2"],
-                         stdin=subprocess.DEVNULL, capture_output=True, text=True, timeout=SECONDS, check=False)
+    ran = recorded("--rounds", "1", "--seconds", "0.2")
     *rows, last = ran.stdout.splitlines()
     bounds = dict(judged(rows))
     same("the bounds", [*bounds], [text.format(kind) for texts in RECORD_BOUNDS for kind in ("reads", "writes") for text in texts])
     same("the end", (last, ran.returncode, ran.stderr), ("as it should be", 0, "") if all(bounds.values()) else ("not as it should be", 1, ""))
-    refused = subprocess.run([sys.executable, os.path.join(TOP, "bench", "record.py"), "rate"], stdin=subprocess.DEVNULL, capture_output=True, text=True,
-                             timeout=SECONDS, check=False)
+    refused = recorded("rate")
     same("a part that is none", (refused.stdout, refused.stderr, refused.returncode), ("", "bench: the parts are rates, memory, replay\n", 1))
 
 
