@@ -1,4 +1,4 @@
-"""Runs of the programs that measure, as rt ci builds them: what they print is compared, and not their time.
+"""Runs of the programs that measure, as rt ci builds them, and of bench/record.py: what they print is compared, and not their time.
 
 The scripts of tests/rings are played on the seats of a host by the program of crates/ring_bench. What each must print was written by hand
 from the rules of turns and seats; that of calls-of-three-seats, which has 2,700 lines, was made by a plain program of the same rules,
@@ -6,6 +6,7 @@ which was written apart from this host. rt ci builds each program with two compi
 """
 
 import os
+import re
 import subprocess
 import sys
 import tempfile
@@ -26,6 +27,8 @@ OF_TWO = ["calls-of-three-seats", "devices-by-number", "take-while-held", "work-
 ASKS = [1_000, 10_000]
 # A stream of 6,553 frames is fed twice.
 FED = ("serve_bench", ["feed", "4096", "2"], "13106\n")
+# The bounds of bench/record.py, in the order in which its parts tell them, of reads and of writes.
+RECORD_BOUNDS = [["{} with a record", "{} looked at with pauses"], ["a record of {}"], ["calls a second of a replay of {} against sim"]]
 
 
 def builds(name):
@@ -108,6 +111,41 @@ def floor_runs():
             yield f"what a floor answers to {kind}s{which}", faults
 
 
+def judged(rows):
+    """Each bound that the rows tell, with whether it was said to be kept, which must be by its numbers."""
+    for row in rows:
+        if told := re.fullmatch(r"(.+?) +(\d+(?:\.\d+)?)(?: KiB)? +wanted at (least|most) (\d+(?:\.\d+)?)(?: KiB)? +(kept|NOT KEPT)", row):
+            what, found, side, bound, said = told.groups()
+            same(row, said == "kept", float(found) >= float(bound) if side == "least" else float(found) <= float(bound))
+            yield what, said == "kept"
+
+
+def recorded(*words):
+    """A run of bench/record.py with these words."""
+    return subprocess.run([sys.executable, os.path.join(TOP, "bench", "record.py"), *words], stdin=subprocess.DEVNULL, capture_output=True,
+                          text=True, timeout=SECONDS, check=False)
+
+
+def short_record():
+    """bench/record.py with one short round: each bound is judged by its numbers, and the status goes by all. What it measures so is no figure."""
+    ran = recorded("--rounds", "1", "--seconds", "0.2")
+    *rows, last = ran.stdout.splitlines()
+    bounds = dict(judged(rows))
+    same("the bounds", [*bounds], [text.format(kind) for texts in RECORD_BOUNDS for kind in ("reads", "writes") for text in texts])
+    same("the end", (last, ran.returncode, ran.stderr), ("as it should be", 0, "") if all(bounds.values()) else ("not as it should be", 1, ""))
+    refused = recorded("rate")
+    same("a part that is none", (refused.stdout, refused.stderr, refused.returncode), ("", "bench: the parts are rates, memory, replay\n", 1))
+
+
+def record_runs():
+    """The script that measures records."""
+    try:
+        short_record()
+        yield "bench/record.py", []
+    except (OSError, ValueError, Wrong, subprocess.SubprocessError) as fault:
+        yield "bench/record.py", [str(fault)]
+
+
 def bench_runs():
     """Each run of each build, with its faults."""
     files = {extension: {name for name, it in map(os.path.splitext, os.listdir(RINGS)) if it == extension} for extension in (".script", ".expected")}
@@ -117,3 +155,4 @@ def bench_runs():
         for path, which in builds(program):
             yield f"{name}{which}", faults_of(path, words, stdin, wanted)
     yield from floor_runs()
+    yield from record_runs()

@@ -8,6 +8,7 @@ Then the clients stand still, and some steps are undone and not redone. Of a cli
 place that the undo came to. Each client takes the results that it is still owed, reads all its sectors, which must be so, and goes on.
 """
 
+import contextlib
 import os
 import random
 import subprocess
@@ -27,7 +28,7 @@ OWN = 48
 MOST_IOS = 200_000
 MOST_UNDONE = 3000
 NOT_DRAINED, NOTHING_OWED = "e018", 16
-SWITCHES = ["00000002 16 00", "00000002 16 01"]
+TO_NONE, TO_BFQ = "00000002 16 00", "00000002 16 01"
 
 
 class Client(threading.Thread):
@@ -35,41 +36,52 @@ class Client(threading.Thread):
 
     def __init__(self, host, number, soak):
         super().__init__(daemon=True)
-        self.session = Session(host.path(f"client{number}"), 0, number % 8)
-        self.sectors = range(number * OWN, (number + 1) * OWN)
+        self.place = host.path(f"client{number}"), number % soak.GROUPS, number % 8
+        self.session = Session(*self.place)
+        self.sectors = range(number * soak.APART, number * soak.APART + OWN)
         self.depth = (1, 2, 8, 32)[number % 4]
         self.dice = random.Random(number)
         self.soak = soak
         # Of each sector the writes so far, each with its bio; a bio's number is the serial of its Submit.
         self.writes = {at: [(0, sector_of(at))] for at in self.sectors}
-        self.busy = set()
+        # Of each sector that is read or written just now what is written, and None of a read.
+        self.busy = {}
         self.fault = None
 
     def run(self):
         try:
-            self.load(self.soak.until, MOST_IOS)
+            self.begin()
             self.soak.meet()
             self.soak.meet()
             self.after_undo(self.soak.cursor)
-            self.load(time.monotonic() + 1, sys.maxsize)
-            self.session.close()
+            self.end()
         except Exception as fault:  # pylint: disable=broad-except
             self.fault = f"client at {self.sectors.start}: {type(fault).__name__}: {fault}"
             self.soak.barrier.abort()
 
-    def ios(self, until, most):
-        """Reads and writes of one sector at random, of which none meets another that is under way, till a time or a number of all clients."""
-        while time.monotonic() < until and self.soak.count < most:
+    def begin(self):
+        """What it does before steps are undone and not redone."""
+        self.load(self.soak.is_over)
+
+    def end(self):
+        """What it does after that."""
+        until = time.monotonic() + 1
+        self.load(lambda: time.monotonic() >= until)
+        self.session.close()
+
+    def ios(self, is_over):
+        """Reads and writes of one sector at random, of which none meets another that is under way, until it is over."""
+        while not is_over():
             at = self.dice.choice(self.sectors)
             if at in self.busy:
                 yield None
             else:
-                self.busy.add(at)
-                yield Io(at, 1, self.dice.randbytes(4) * (SECTOR // 4) if self.dice.random() < 0.5 else None)
+                self.busy[at] = self.dice.randbytes(4) * (SECTOR // 4) if self.dice.random() < 0.5 else None
+                yield Io(at, 1, self.busy[at])
 
-    def load(self, until, most):
-        for bio, io, data in self.session.run(self.ios(until, most), self.depth):
-            self.busy.discard(io.start)
+    def load(self, is_over):
+        for bio, io, data in self.session.run(self.ios(is_over), self.depth):
+            del self.busy[io.start]
             self.soak.count += 1
             if io.data is not None:
                 self.writes[io.start].append((bio, io.data))
@@ -90,6 +102,10 @@ class Client(threading.Thread):
         except Refused as refused:
             if refused.code != NOTHING_OWED:
                 raise
+        self.read_all()
+
+    def read_all(self):
+        """Each of its sectors has what it wrote there last."""
         data = self.session.read(self.sectors.start, OWN)
         for at in self.sectors:
             self.compare(at, data[(at - self.sectors.start) * SECTOR:][:SECTOR])
@@ -97,6 +113,9 @@ class Client(threading.Thread):
 
 class Soak:
     """The clients, and the operator among them."""
+
+    # How many groups the clients stand in: the root alone. The sectors of one client follow those of the one before.
+    GROUPS, APART = 1, OWN
 
     def __init__(self, host, seconds):
         self.host = host
@@ -106,6 +125,13 @@ class Soak:
         self.cursor = 0
         self.dice = random.Random(99)
         self.rounds = [0, 0]
+
+    def is_over(self):
+        return time.monotonic() >= self.until or self.count >= MOST_IOS
+
+    def kept(self):
+        """So many steps are never undone for good: those by which the clients have come, as they go on."""
+        return CLIENTS
 
     def meet(self):
         """Waits until all clients and the operator are here."""
@@ -129,10 +155,9 @@ class Soak:
         operator.asks((RELEASE, DONE))
         self.rounds[0] += 1
 
-    def switch(self, operator):
-        """Freezes the host, gives it the other scheduler as soon as no request is left, and thaws it."""
+    def switch(self, operator, wanted):
+        """Freezes the host, gives it this scheduler as soon as no request is left, and thaws it."""
         operator.asks((FREEZE, DONE))
-        wanted = SWITCHES[self.rounds[1] % 2]
         while (reply := self.ask(operator, wanted)) == NOT_DRAINED:
             time.sleep(0.001)
         same("a switch", reply, DONE)
@@ -141,15 +166,15 @@ class Soak:
 
     def operate(self):
         with self.host.operator() as operator:
-            while time.monotonic() < self.until and self.count < MOST_IOS and not self.barrier.broken:
+            while not (self.is_over() or self.barrier.broken):
                 if self.dice.random() < 0.1:
-                    self.switch(operator)
+                    self.switch(operator, TO_BFQ if self.rounds[1] % 2 else TO_NONE)
                 else:
                     self.back_and_forth(operator)
                 time.sleep(self.dice.random() * 0.05)
             self.meet()
             place = self.held(operator)
-            k = self.dice.randint(1, min(place - CLIENTS, MOST_UNDONE))
+            k = self.dice.randint(1, min(place - self.kept(), MOST_UNDONE))
             same("the place after the last undo", placed(self.ask(operator, undo(k))), (place - k, place))
             self.cursor = place - k
             operator.asks((RELEASE, DONE))
@@ -171,20 +196,26 @@ def soak(program, folder, seconds):
     os.mkdir(sockets)
     with Served(program, image_of(folder, CLIENTS * OWN), sockets, "--history", "16777216", clients=CLIENTS, workers=4) as host:
         run = Soak(host, seconds)
-        clients = [Client(host, number, run) for number in range(CLIENTS)]
-        for client in clients:
-            client.start()
-        try:
+        with at_work([Client(host, number, run) for number in range(CLIENTS)]):
             run.operate()
-        except threading.BrokenBarrierError:
-            pass
-        for client in clients:
-            client.join(60)
-        faults = [client.fault for client in clients if client.fault] + [f"{client.sectors} does not end" for client in clients if client.is_alive()]
-        if faults:
-            raise Wrong("; ".join(faults[:3]))
         host.stop()
     return run.count, *run.rounds
+
+
+@contextlib.contextmanager
+def at_work(clients):
+    """The clients run meanwhile, and must end well. What one of them has found is told first."""
+    for client in clients:
+        client.start()
+    try:
+        yield
+    except threading.BrokenBarrierError:
+        pass
+    for client in clients:
+        client.join(60)
+    faults = [client.fault for client in clients if client.fault] + [f"{client.sectors} does not end" for client in clients if client.is_alive()]
+    if faults:
+        raise Wrong("; ".join(faults[:3]))
 
 
 def soaks(program, seconds):
