@@ -61,46 +61,39 @@ def bytes_text(data):
 
 
 def client_call(seat, kind, fields):
-    match kind:
-        case 0x01 | 0x08:
-            group, prio = fields.number(1), fields.number(1)
-            return f"attach {seat} {group} {prio}" + (f" {fields.of(CLASSES)}" if kind == 0x08 else "")
-        case 0x02 | 0x03:
-            span = " ".join(str(fields.number(size)) for size in (8, 8, 2))
-            return f"read {seat} {span}" if kind == 0x02 else f"write {seat} {span} {bytes_text(fields.rest(64 * SECTOR))}"
-        case 0x04:
-            return f"reap {seat} {fields.number(8)}"
-        case 0x05:
-            return f"leave {seat}"
-        case 0x09 if fields.number(1) in WHYS:
-            return f"leave {seat}"
+    if kind in (0x01, 0x08):
+        group, prio = fields.number(1), fields.number(1)
+        return f"attach {seat} {group} {prio}" + (f" {fields.of(CLASSES)}" if kind == 0x08 else "")
+    if kind in (0x02, 0x03):
+        span = " ".join(str(fields.number(size)) for size in (8, 8, 2))
+        return f"read {seat} {span}" if kind == 0x02 else f"write {seat} {span} {bytes_text(fields.rest(64 * SECTOR))}"
+    if kind == 0x04:
+        return f"reap {seat} {fields.number(8)}"
+    if kind == 0x05 or kind == 0x09 and fields.number(1) in WHYS:
+        return f"leave {seat}"
     raise IndexError
 
 
 def device_call(kind, fields):
-    flight = f"{fields.number(1)} {fields.number(8)}" if kind in (0x21, 0x22, 0x23, 0x24) else ""
-    match kind:
-        case 0x21:
-            return f"finish {flight} stored"
-        case 0x22:
-            return f"finish {flight} fill {bytes_text(fields.rest(256 * SECTOR))}"
-        case 0x23:
-            return f"finish {flight} {fields.of(FAILURES)}"
-        case 0x24:
-            return f"requeue {flight}"
-    raise IndexError
+    if kind not in (0x21, 0x22, 0x23, 0x24):
+        raise IndexError
+    flight = f"{fields.number(1)} {fields.number(8)}"
+    if kind == 0x22:
+        return f"finish {flight} fill {bytes_text(fields.rest(256 * SECTOR))}"
+    if kind == 0x23:
+        return f"finish {flight} {fields.of(FAILURES)}"
+    return f"finish {flight} stored" if kind == 0x21 else f"requeue {flight}"
 
 
 def operator_call(kind, fields):
-    match kind:
-        case 0x11 | 0x13:
-            return f"{'group' if kind == 0x11 else 'weight'} {fields.number(1)} {fields.number(2)}"
-        case 0x12:
-            return f"drop {fields.number(1)}"
-        case 0x16:
-            return f"switch {fields.of(SCHEDULERS)}"
-        case 0x1a | 0x1b:
-            return f"{'undo' if kind == 0x1a else 'redo'} {fields.number(4)}"
+    if kind in (0x11, 0x13):
+        return f"{'group' if kind == 0x11 else 'weight'} {fields.number(1)} {fields.number(2)}"
+    if kind == 0x12:
+        return f"drop {fields.number(1)}"
+    if kind == 0x16:
+        return f"switch {fields.of(SCHEDULERS)}"
+    if kind in (0x1a, 0x1b):
+        return f"{'undo' if kind == 0x1a else 'redo'} {fields.number(4)}"
     return BARE[kind]
 
 

@@ -124,7 +124,8 @@ def listed(program, folder):
     same("serials", [line[1] for line in found], serials)
     answers = ["attached 1", "queued 2", "issued 0 3 store 5 1", "finished 1", "completed 2 written", "queued 6", "issued 0 7 fetch 5 2", "finished 1",
                None, "moved 9 9", "moved 6 9", "moved 8 9", "done", "done", "done", None, "left", "attached 14", "left"]
-    same("answers", [wanted and line[4] for line, wanted in zip(found, answers, strict=True)], answers)
+    same("how many answers", len(found), len(answers))
+    same("answers", [wanted and line[4] for line, wanted in zip(found, answers)], answers)
     with subprocess.Popen(["cat", file], stdout=subprocess.PIPE) as piped:
         ended = subprocess.run([program, "replay", "/dev/stdin", "--list"], stdin=piped.stdout, capture_output=True, text=True, timeout=SECONDS, check=False)
     same("a list of a pipe", (ended.stdout.splitlines(), ended.stderr, ended.returncode), (lines, "", 0))
