@@ -3,14 +3,13 @@ ghost use Rattle.std.specs.Prelude.{◌≡◌, ◌<◌, ◌^◌};
 ghost use Rattle.script_line.specs.declared.ending.ScriptEnd.{ScriptEnd};
 ghost use Rattle.bfqhost.specs.Status.{status_of, IsStatus};
 
-use crate::faults::{
-    DONE, Field, WRITE_FAULT, bad_entry, bad_field, no_image, no_memory, other_image, unread_record,
-};
+use crate::faults::{Field, bad_entry, bad_field, no_image, no_memory, other_image, unread_record};
 use crate::start::{OUTPUT_BYTES, status};
 use base_image::{Image, ZeroImage, file_image};
 use host_rings::Book;
 use run_replay::{Asked, ReplayFault, Replayed, load};
 use script_host::run_script_at;
+use script_line::ScriptEnd;
 use sector_core::ConfigFault;
 use std::fs::File;
 use std::io::{self, BufWriter, ErrorKind, Write};
@@ -110,12 +109,20 @@ fn finish<I: Image + Drop>(
     ensures { IsStatus result }
 {
     if list {
-        return match io::writer(rt).write_all(replayed.lines.as_slice()) {
-            Ok(()) => DONE,
-            Err(_) => WRITE_FAULT,
-        };
+        return print_lines(rt, replayed.lines.as_slice());
     }
     run_over(rt, replayed.book, image)
+}
+
+// Prints the lines of a record's entries.
+fn print_lines(rt: &(impl Print + Eprint), lines: &[u8]) -> u8
+    ensures { (end : ScriptEnd) × (result ≡ status_of end) }
+{
+    let end = match io::writer(rt).write_all(lines) {
+        Ok(()) => ScriptEnd::Done,
+        Err(_) => ScriptEnd::WriteFault,
+    };
+    status(rt, end)
 }
 
 // Runs the script of standard input on the keeper of a record, over an image.

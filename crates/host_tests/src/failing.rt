@@ -77,11 +77,13 @@ fn put_read(bytes: &mut Vec<u8>, bio: u64, is_failed: bool, byte: u8) -> Result<
     if is_failed {
         bytes.extend_from_slice(&[0, 0, 0, 10, 0x85])?;
         bytes.extend_from_slice(&bio.to_be_bytes())?;
-        return bytes.push(2);
+        bytes.push(2)?;
+        return Ok(());
     }
     bytes.extend_from_slice(&[0, 0, 2, 9, 0x83])?;
     bytes.extend_from_slice(&bio.to_be_bytes())?;
-    bytes.extend_from_slice(&[byte; 512])
+    bytes.extend_from_slice(&[byte; 512])?;
+    Ok(())
 }
 
 // What the client hears, and then the operator asks for the end.
