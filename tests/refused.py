@@ -8,8 +8,8 @@ request from the Nth on is. The program compares, and says which promise was bro
   by the program's fixed line.
 - What a script prints is what its row in tests/scripts says.
 
-Some requests are refused in a call that is not accepted anyway, or in a growth that need not succeed. No answer shows these. They are
-counted, and told with the others in one line for each row.
+Some requests are refused in a call that is not accepted anyway, as a Dispatch with nothing to send. No answer shows these. They are counted,
+and told with the others in one line for each row.
 
 Random scripts come from printed seeds. If one fails, lines are left out while it still does, and the shortest script is printed.
 """
@@ -23,7 +23,7 @@ import tempfile
 import time
 from concurrent.futures import ThreadPoolExecutor
 from dataclasses import dataclass, field
-from typing import List, Optional
+from typing import List, NamedTuple, Optional
 
 from benches import builds
 from checkout import kit
@@ -75,6 +75,13 @@ class Came:
     status: int
 
 
+class Before(NamedTuple):
+    """How many requests stand before a row: so many at least, and so many at most, if that is known."""
+
+    least: int
+    most: Optional[int]
+
+
 class NoShim(Exception):
     """Memory cannot be refused here, and why."""
 
@@ -100,8 +107,9 @@ class Program:
 
     def __init__(self, path, shim):
         self.path, self.shim = path, shim
-        came = self.run(Row("nothing", "nothing"), ONCE, 0)
-        if came.requests < 1:
+        # How many requests the words of a short row take.
+        self.of_words = self.run(Row("nothing", "nothing"), ONCE, 0).requests
+        if not self.of_words:
             raise NoShim(f"{os.path.basename(path)} asks for memory past the shim: another libc, or a static program")
 
     def run(self, row, mode, nth, word=None):
@@ -117,7 +125,8 @@ class Program:
 
 @dataclass
 class Told:
-    """How many runs of a row there were: in all, before the row began, with a call without memory, half way, and with no trace of it."""
+    """How many runs of a row there were in which a request was refused: in all, before the row, met by a call, by a redo half way, and by
+    none."""
 
     runs: int = 0
     before: int = 0
@@ -125,20 +134,25 @@ class Told:
     half_way: int = 0
     hidden: int = 0
 
-    def note(self, came):
-        """Counts a run in which a request was refused."""
+    def note(self, came, is_before):
+        """Counts a run in which a request was refused, maybe one of those that are known to come before the row."""
         self.runs += 1
-        self.before += came.last == UNPREPARED
+        self.before += came.last == UNPREPARED or is_before
         self.wanting += came.last in (WANTING, HALF_WAY)
         self.half_way += came.last == HALF_WAY
-        self.hidden += came.last == KEPT
+        self.hidden += came.last == KEPT and not is_before
+
+    def add(self, other):
+        """Adds what was counted elsewhere."""
+        for name, count in vars(other).items():
+            setattr(self, name, getattr(self, name) + count)
 
     def __str__(self):
         return f"{self.runs} N, {self.before} before the row, {self.wanting} met by a call, {self.hidden} by none"
 
 
 def faults_of(came, mode, nth, before, texts):
-    """What a run did in another way than it must. So many requests stand before the row, if that is known."""
+    """What a run did in another way than it must."""
     faults = []
     if came.status != 0 or came.last not in (UNPREPARED, KEPT, WANTING, HALF_WAY):
         return [f"N {nth}, {mode}: {came.last or 'nothing was printed'}, with status {came.status}"]
@@ -147,29 +161,38 @@ def faults_of(came, mode, nth, before, texts):
     if came.refused == 0 and came.last != KEPT:
         faults.append(f"{came.last}, and no request was refused")
     # A growth before the row that need not succeed leaves no trace.
-    if before is not None and came.refused and came.last not in ((UNPREPARED, KEPT) if nth <= before else (KEPT, WANTING, HALF_WAY)):
-        faults.append(f"{came.last}, and {before} requests stand before the row")
+    if came.refused and nth <= before.least and came.last not in (UNPREPARED, KEPT):
+        faults.append(f"{came.last}, and {before.least} requests stand before the row")
+    if came.refused and before.most is not None and nth > before.most and came.last == UNPREPARED:
+        faults.append(f"{came.last}, and only {before.most} requests stand before the row")
     if came.last != UNPREPARED and texts is not None and came.texts != texts:
         faults.append("the script prints something else")
     return [f"N {nth}, {mode}: {'; '.join(faults)}"] if faults else []
 
 
+def requests_before(program, row):
+    """How many requests stand before a row."""
+    if row.lines is None:
+        return Before(program.of_words, None)
+    count = program.run(row, ONCE, 0, "ready").requests
+    return Before(count, count)
+
+
 def refuse_all(program, row, pool, told):
     """Refuses each request of a row in turn, alone and with all behind it. Gives what went wrong."""
-    clean = program.run(row, ONCE, 0)
-    faults = faults_of(clean, ONCE, 0, None, row.texts)
-    if faults or clean.refused:
-        return faults or ["a request was refused with N 0"]
-    before = program.run(row, ONCE, 0, "ready").requests if row.lines is not None else None
+    faults = []
+    before = requests_before(program, row)
     for mode in (ONCE, ALWAYS):
+        clean = program.run(row, mode, 0)
+        faults += faults_of(clean, mode, 0, before, row.texts)
         numbers = range(1, clean.requests + 2)
         for nth, came in zip(numbers, pool.map(lambda nth, mode=mode: program.run(row, mode, nth), numbers)):
             faults += faults_of(came, mode, nth, before, row.texts)
-            # One behind the last request there is nothing to refuse.
+            # Behind the last request there is nothing to refuse.
             if (came.refused > 0) != (nth <= clean.requests):
                 faults.append(f"N {nth}, {mode}: {came.refused} requests were refused, of {clean.requests}")
             elif came.refused:
-                told[mode].note(came)
+                told[mode].note(came, nth <= before.least)
     return faults[:3]
 
 
@@ -192,10 +215,10 @@ def rows():
 
 def words_take_none(program):
     """What is wrong with the operator's words: reading them takes no memory."""
-    nothing, words = (program.run(Row(it, it), ONCE, 0) for it in ("nothing", "words"))
-    faults = faults_of(words, ONCE, 0, None, None)
-    # The program's own words take as much in both runs, as each is a text of its own.
-    return faults + ([] if words.requests == nothing.requests else [f"{words.requests - nothing.requests} requests for memory"])
+    row = Row("words", "words")
+    came = program.run(row, ONCE, 0)
+    faults = faults_of(came, ONCE, 0, requests_before(program, row), None)
+    return faults + ([] if came.requests == program.of_words else [f"{came.requests - program.of_words} requests for memory"])
 
 
 def random_row(seed, host):
@@ -205,28 +228,26 @@ def random_row(seed, host):
     return Row(f"random calls of seed {seed}", "calls", script.options, lines[:CALLS])
 
 
-def random_faults(program, row, seed, told):
-    """What went wrong with a random script whose requests are refused behind a random one, in each mode."""
-    clean, before = program.run(row, ONCE, 0), program.run(row, ONCE, 0, "ready").requests
-    faults = faults_of(clean, ONCE, 0, None, None)
+def random_faults(program, row, seed):
+    """What went wrong with a random script whose requests are refused from a random one on, and alone; and what was met."""
+    told = {ONCE: Told(), ALWAYS: Told()}
+    clean, before = program.run(row, ONCE, 0), requests_before(program, row)
+    faults = faults_of(clean, ONCE, 0, before, None)
     dice = random.Random(f"refused {seed}")
-    if clean.requests == before:
-        return faults
-    for mode in (ONCE, ALWAYS):
-        nth = dice.randrange(before + 1, clean.requests + 1)
+    for mode in (ONCE, ALWAYS) if clean.requests > before.most else ():
+        nth = dice.randrange(before.most + 1, clean.requests + 1)
         came = program.run(row, mode, nth)
         faults += faults_of(came, mode, nth, before, clean.texts)
-        told[mode].note(came)
-    return faults
+        told[mode].note(came, False)
+    return faults, told
 
 
 def fails(program, row, until):
     """Whether a script fails with some N, in some mode."""
-    clean = program.run(row, ONCE, 0)
-    before = program.run(row, ONCE, 0, "ready").requests
-    if faults_of(clean, ONCE, 0, None, None):
+    clean, before = program.run(row, ONCE, 0), requests_before(program, row)
+    if faults_of(clean, ONCE, 0, before, None):
         return True
-    for nth in range(before + 1, clean.requests + 1):
+    for nth in range(before.most + 1, clean.requests + 1):
         for mode in (ONCE, ALWAYS):
             if time.monotonic() > until:
                 return False
@@ -250,16 +271,22 @@ def shortest(program, row):
     return lines
 
 
+def random_run(program, seed, host):
+    """A random script, what went wrong with it, and what was met."""
+    row = random_row(seed, host)
+    return row, *random_faults(program, row, seed)
+
+
 def random_runs(program, which, host, pool):
     """Random scripts, each with its faults."""
-    told = {ONCE: Told(), ALWAYS: Told()}
-    made = pool.map(lambda seed: random_row(seed, host), range(1, RUNS + 1))
-    for seed, row in enumerate(made, 1):
-        faults = random_faults(program, row, seed, told)
+    sums = {ONCE: Told(), ALWAYS: Told()}
+    for row, faults, told in pool.map(lambda seed: random_run(program, seed, host), range(1, RUNS + 1)):
         if faults:
-            print(f"seed {seed}, options {' '.join(row.options)}, the shortest script that fails:", *shortest(program, row), sep="\n")
+            print(f"{row.name}, options {' '.join(row.options)}, the shortest script that fails:", *shortest(program, row), sep="\n")
+        for mode, found in told.items():
+            sums[mode].add(found)
         yield f"{row.name}{which}", faults
-    print(f"refused: {RUNS} random scripts{which}: alone {told[ONCE]}; with all behind {told[ALWAYS]}", flush=True)
+    print(f"refused: {RUNS} random scripts{which}: alone {sums[ONCE]}; with all behind {sums[ALWAYS]}", flush=True)
 
 
 def runs_of(program, which, host, pool):

@@ -29,7 +29,7 @@
 //! | `kept` | 0 | no call found memory wanting |
 //! | `kept without memory` | 0 | one did, or in the mode `always` some did |
 //! | `kept half way` | 0 | so did a Redo, behind its first step |
-//! | `broken at N: PROMISE: WHAT` | 1 | a promise was broken, at the call of this number; 0 if calls have none |
+//! | `broken at N: PROMISE: WHAT` | 1 | a promise was broken, at the call of this number, or at 0; the last part is what was changed |
 //! | `bad words` | 2 | there is no such row, or its script has a bad line |
 //!
 //! Before it stands what the script has printed.
@@ -115,8 +115,10 @@ fn tell_broken(rt: &impl Print, fault: Broken, at: usize) {
     print(rt, &digits(at));
     print(rt, b": ");
     print(rt, fault.promise.as_bytes());
-    print(rt, b": ");
-    print(rt, fault.by.as_bytes());
+    if !fault.by.is_empty() {
+        print(rt, b": ");
+        print(rt, fault.by.as_bytes());
+    }
     print(rt, b"\n");
 }
 
