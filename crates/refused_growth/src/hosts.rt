@@ -29,28 +29,27 @@ pub fn host_row(alloc: Global, mode: Mode) -> Verdict {
 
 fn make_host(alloc: Global, mode: Mode) -> Result<Met, Broken> {
     let mut met = Met::new();
-    if is_made(alloc, 5)?.is_some() {
+    if made(alloc, 5) != Some(HostFault::BadWorkers) {
         return breaks("five workers are too many, whatever memory does", "");
     }
-    if is_made(alloc, 2)? == Some(false) {
+    let mut fault = made(alloc, 2);
+    if fault == Some(HostFault::OutOfMemory) {
         met.note(mode)?;
-        if is_made(alloc, 2)? == Some(false) {
-            met.note(mode)?;
-        }
+        fault = made(alloc, 2);
     }
-    Ok(met)
+    match fault {
+        None => Ok(met),
+        Some(HostFault::OutOfMemory) if mode == Mode::Always => Ok(met),
+        _ => breaks("a host of two workers is made, if memory is there", ""),
+    }
 }
 
-// Whether a host of so many workers is made, or none if these are too many.
-fn is_made(alloc: Global, workers: u8) -> Result<Option<bool>, Broken> {
-    let Ok(config) = usual() else {
-        return breaks("the usual configuration is one", "");
-    };
-    Ok(match host(alloc, config, SECTORS, workers) {
-        Ok(_) => Some(true),
-        Err(HostFault::OutOfMemory) => Some(false),
-        Err(HostFault::BadWorkers) => None,
-    })
+// Why a host of so many workers is not made, if it is not.
+fn made(alloc: Global, workers: u8) -> Option<HostFault> {
+    match usual() {
+        Ok(config) => host(alloc, config, SECTORS, workers).err(),
+        Err(_) => None,
+    }
 }
 
 // A host of two devices; those who play are client 0, device 0 and the operator.
