@@ -7,11 +7,13 @@ request from the Nth on is. The program compares, and says which promise was bro
 - What stands before the calls of a script takes as many requests as the row `ready`. So a refusal among these, and no other, ends the run
   by the program's fixed line.
 - What a script prints is what its row in tests/scripts says.
+- If all calls of a script are accepted with ample memory, one of them tells of each refusal behind what stands before.
 
-Some requests are refused in a call that is not accepted anyway, as a Dispatch with nothing to send. No answer shows these. They are counted,
-and told with the others in one line for each row.
+Elsewhere a request may be refused in a call that is not accepted anyway, as a Dispatch with nothing to send. No answer shows that. Such
+refusals are counted, and told with the others in one line for each row.
 
-Random scripts come from printed seeds. If one fails, lines are left out while it still does, and the shortest script is printed.
+Random scripts come from seeds. If one fails, its seed is printed. Of the first that does, lines are left out while it still fails, and the
+shortest script is printed, too.
 """
 
 import os
@@ -43,6 +45,8 @@ RUN_ROWS = ["write_and_read_back", "failed_read_undone_and_redone"]
 # more. So both steps of that redo take memory.
 TWO_STORES = ["attach 0 0 4", "write 0 1 0 64 65", "write 0 1 100 64 66", "dispatch", "dispatch", "finish 0 4 stored", "finish 1 5 stored",
               "hold", "undo 2", "redo 2", "undo 1", "release"]
+OF_TWO_STORES = ["attached 1", "queued 2", "queued 3", "issued 0 4 store 0 64", "issued 1 5 store 100 64", "finished 1", "finished 1",
+                 "moved 7 7", "moved 5 7", "moved 7 7", "moved 6 7", "done"]
 SHORT_ROWS = ["host", "turn", "work", "serve", "feed"]
 ONCE, ALWAYS = "once", "always"
 UNPREPARED, KEPT, WANTING, HALF_WAY = "no memory before the row", "kept", "kept without memory", "kept half way"
@@ -94,8 +98,8 @@ def shim_in(folder):
         if os.path.exists(words[0]):
             # The toolchain's linker lies beside its clang.
             places = {**os.environ, "PATH": f"{os.path.dirname(words[0])}:{os.environ.get('PATH', '')}"}
-            ran = subprocess.run([*words, *COMPILING, "-o", made, SHIM], stdin=subprocess.DEVNULL, capture_output=True, text=True, env=places,
-                                 check=False)
+            ran = subprocess.run([*words, *COMPILING, "-o", made, SHIM], stdin=subprocess.DEVNULL, capture_output=True, text=True,
+                                 env=places, check=False)
             if ran.returncode == 0:
                 return made
             said = f"{words[0]} does not make tests/refuse_nth.c: {ran.stderr.strip()[:200]}"
@@ -167,6 +171,8 @@ def faults_of(came, mode, nth, before, texts):
         faults.append(f"{came.last}, and only {before.most} requests stand before the row")
     if came.last != UNPREPARED and texts is not None and came.texts != texts:
         faults.append("the script prints something else")
+    if came.last == KEPT and came.refused and nth > before.least and texts and not any(map(grammar.is_refusal, texts)):
+        faults.append("no call found memory wanting, and each is one that is accepted")
     return [f"N {nth}, {mode}: {'; '.join(faults)}"] if faults else []
 
 
@@ -203,7 +209,7 @@ def script_rows_of_calls():
         for words in runs:
             for word in ("calls", "run") if name in RUN_ROWS else ("calls",):
                 yield Row(f"{word} of {' '.join([name, *words[1:]])}", word, words[1:], lines, texts)
-    yield Row("calls of a redo of two stores", "calls", [], TWO_STORES)
+    yield Row("calls of a redo of two stores", "calls", [], TWO_STORES, OF_TWO_STORES)
 
 
 def rows():
@@ -228,18 +234,35 @@ def random_row(seed, host):
     return Row(f"random calls of seed {seed}", "calls", script.options, lines[:CALLS])
 
 
-def random_faults(program, row, seed):
-    """What went wrong with a random script whose requests are refused from a random one on, and alone; and what was met."""
-    told = {ONCE: Told(), ALWAYS: Told()}
-    clean, before = program.run(row, ONCE, 0), requests_before(program, row)
-    faults = faults_of(clean, ONCE, 0, before, None)
-    dice = random.Random(f"refused {seed}")
+def accepted_of(row, texts):
+    """The lines of a script that are accepted, alone. What the others change is nothing."""
+    lines = [line for line, text in zip(row.lines, texts) if not grammar.is_refusal(text)]
+    return Row(f"{row.name}, those accepted", row.word, row.options, lines)
+
+
+def random_faults(program, row, clean, dice, told):
+    """What went wrong with a script if a random request of its calls is refused, in each mode."""
+    before, faults = requests_before(program, row), []
     for mode in (ONCE, ALWAYS) if clean.requests > before.most else ():
         nth = dice.randrange(before.most + 1, clean.requests + 1)
         came = program.run(row, mode, nth)
         faults += faults_of(came, mode, nth, before, clean.texts)
         told[mode].note(came, False)
-    return faults, told
+    return faults
+
+
+def random_run(program, seed, host):
+    """A random script, what went wrong with it and with its accepted lines alone, and what was met."""
+    told, dice = {ONCE: Told(), ALWAYS: Told()}, random.Random(f"refused {seed}")
+    row = random_row(seed, host)
+    clean = program.run(row, ONCE, 0)
+    if faults := faults_of(clean, ONCE, 0, requests_before(program, row), None):
+        return row, faults, told
+    accepted = accepted_of(row, clean.texts)
+    for it, came in ((row, clean), (accepted, program.run(accepted, ONCE, 0))):
+        if faults := random_faults(program, it, came, dice, told):
+            return it, faults, told
+    return row, [], told
 
 
 def fails(program, row, until):
@@ -271,18 +294,15 @@ def shortest(program, row):
     return lines
 
 
-def random_run(program, seed, host):
-    """A random script, what went wrong with it, and what was met."""
-    row = random_row(seed, host)
-    return row, *random_faults(program, row, seed)
-
-
 def random_runs(program, which, host, pool):
     """Random scripts, each with its faults."""
-    sums = {ONCE: Told(), ALWAYS: Told()}
+    sums, has_failed = {ONCE: Told(), ALWAYS: Told()}, False
     for row, faults, told in pool.map(lambda seed: random_run(program, seed, host), range(1, RUNS + 1)):
         if faults:
-            print(f"{row.name}, options {' '.join(row.options)}, the shortest script that fails:", *shortest(program, row), sep="\n")
+            print(f"{row.name}, options {' '.join(row.options)}", flush=True)
+        if faults and not has_failed:
+            print("the shortest script that fails:", *shortest(program, row), sep="\n", flush=True)
+            has_failed = True
         for mode, found in told.items():
             sums[mode].add(found)
         yield f"{row.name}{which}", faults
