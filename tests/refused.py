@@ -111,16 +111,22 @@ class Program:
 
     def __init__(self, path, shim):
         self.path, self.shim = path, shim
+        came = self.run(Row("nothing", "nothing"), ONCE, 0)
+        if (came.last, came.status) != (KEPT, 0):
+            raise OSError(f"it ends with status {came.status} and {came.last!r}")
         # How many requests the words of a short row take.
-        self.of_words = self.run(Row("nothing", "nothing"), ONCE, 0).requests
+        self.of_words = came.requests
         if not self.of_words:
             raise NoShim(f"{os.path.basename(path)} asks for memory past the shim: another libc, or a static program")
 
     def run(self, row, mode, nth, word=None):
         """What comes of a row if the Nth request is refused, and in the mode `always` each behind it."""
         given = {**os.environ, "LD_PRELOAD": self.shim, "REFUSE_NTH": str(nth), **({"REFUSE_ALL": "1"} if mode == ALWAYS else {})}
-        ran = subprocess.run([self.path, word or row.word, mode, *row.options], input=ended(row.lines or []),
-                             stdout=subprocess.PIPE, stderr=subprocess.PIPE, timeout=SECONDS, env=given, check=False)
+        try:
+            ran = subprocess.run([self.path, word or row.word, mode, *row.options], input=ended(row.lines or []),
+                                 stdout=subprocess.PIPE, stderr=subprocess.PIPE, timeout=SECONDS, env=given, check=False)
+        except subprocess.TimeoutExpired:
+            return Came(0, 0, f"no end within {SECONDS} seconds", [], 1)
         told = re.fullmatch(rb"refuse_nth: (\d+) requests, (\d+) refused\n", ran.stderr)
         texts = ran.stdout.decode().splitlines()
         counts = (int(told[1]), int(told[2])) if told else (0, 0)
@@ -306,7 +312,7 @@ def random_runs(program, which, host, pool):
         for mode, found in told.items():
             sums[mode].add(found)
         yield f"{row.name}{which}", faults
-    print(f"refused: {RUNS} random scripts{which}: alone {sums[ONCE]}; with all behind {sums[ALWAYS]}", flush=True)
+    print(f"refused: random scripts of the seeds 1 to {RUNS}{which}: alone {sums[ONCE]}; with all behind {sums[ALWAYS]}", flush=True)
 
 
 def runs_of(program, which, host, pool):
