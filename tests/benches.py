@@ -45,9 +45,9 @@ def builds(name):
     return [(made, "")] + [(it, " (built by Rattle's own compiler)") for it in [f"{made}.by-rattle"] if os.path.exists(it)]
 
 
-def lacking_programs():
-    """The programs that are not built."""
-    return [it for it in ("ring_bench", "serve_bench") if not os.path.exists(builds(it)[0][0])]
+def lacking_programs(names):
+    """Those of these programs that are not built."""
+    return [it for it in names if not os.path.exists(builds(it)[0][0])]
 
 
 def text(name):

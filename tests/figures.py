@@ -18,7 +18,7 @@ BEGIN = "<!-- figures: tests/figures.py --write makes this table -->\n"
 END = "<!-- end of figures -->\n"
 MOST_LINES, COLUMNS, MOST_WORDS = 130, 120, 2000
 # Crates that test or measure the others, and are in neither program.
-OF_TESTS = re.compile(r".*_(tests|bench)|failing_io")
+OF_TESTS = re.compile(r".*_(tests|bench)|failing_io|refused_growth")
 # What begins a contract, or what only the prover reads; it goes on to the end of its last brace.
 CLAUSE = re.compile(r"(pub )?(requires|ensures|ghost)\b")
 COMMENTS = {".rt": "//", ".antt": "--", ".py": "#"}
