@@ -1,11 +1,12 @@
 // The connections of the operator's path, one after the other.
-ghost use Rattle.std.specs.Prelude.{◌≡◌, length, false};
+ghost use Rattle.std.specs.Prelude.{◌≡◌, [], ◌∷◌, length, false};
 ghost use Rattle.host_core.specs.Opening.{IsIdle};
-ghost use Rattle.host_paths.specs.Operating.{IsBetween, Asks};
+ghost use Rattle.host_paths.specs.Operating.{IsBetween, Asks, HasAsked, IsOperated};
 ghost use Rattle.host_core.specs.Seats.{SameSeat, is_closed};
 
 use crate::clients::FRAME_LIMIT;
 use crate::threads::breathe;
+use byte_writing::write_whole;
 use host_calls::{OperatorCall, RingReply};
 use host_core::OperatorSeat;
 use session_proto::{Feeder, Host, Operator, encode};
@@ -73,6 +74,7 @@ pub fn serve_operator<T: Wait, R: Read, W: Write>(
     requires { IsBetween seat.old }
     ensures seat { SameSeat seat.old seat.new }
     ensures between { IsBetween seat.new }
+    ensures operated { IsOperated (R.remaining reader.old) (R.remaining reader.new) (W.contents writer.old) (W.contents writer.new) seat.old seat.new }
 {
     let mut feeder = Feeder::<Operator>::new(alloc);
     let mut piece = [0u8; PIECE_BYTES];
@@ -88,8 +90,15 @@ pub fn serve_operator<T: Wait, R: Read, W: Write>(
         let Ok(fed) = feeder.feed(alloc, &piece[..count]) else {
             return;
         };
-        let is_last = count == 0 || fed.fault.is_some();
-        if !answer_all(rt, alloc, writer, seat, fed.values, &mut left) || is_last {
+        let fault = fed.fault;
+        if !answer_all(rt, alloc, writer, seat, fed.values, &mut left) {
+            return;
+        }
+        // Of a fault, and of the end of the input, it is known once the calls before it are answered.
+        if fault.is_some() {
+            return;
+        }
+        if count == 0 {
             return;
         }
     }
@@ -107,9 +116,13 @@ fn answer_all<T: Wait, W: Write>(
     requires { IsBetween seat.old }
     ensures seat { SameSeat seat.old seat.new }
     ensures between { IsBetween seat.new }
+    ensures asked { HasAsked seat.old seat.new (W.contents writer.old) (W.contents writer.new) calls.items result }
 {
     for call in calls {
-        if *left == 0 || !answer(rt, alloc, writer, seat, call.0) {
+        if *left == 0 {
+            return false;
+        }
+        if !answer(rt, alloc, writer, seat, call.0) {
             return false;
         }
         *left -= 1;
@@ -129,6 +142,7 @@ fn answer<T: Wait, W: Write>(
     ensures seat { SameSeat seat.old seat.new }
     ensures between { IsBetween seat.new }
     ensures asked { is_closed seat.old ≡ false → Asks call seat.old seat.new }
+    ensures one { HasAsked seat.old seat.new (W.contents writer.old) (W.contents writer.new) (record { 0 = call } ∷ []) result }
 {
     let Ok(answer) = seat.ask(rt, call) else {
         return false;
@@ -136,5 +150,5 @@ fn answer<T: Wait, W: Write>(
     let Ok(frame) = encode(alloc, &Host(RingReply::Answer(answer))) else {
         return false;
     };
-    writer.write_all(frame.as_slice()).is_ok()
+    write_whole(writer, frame.as_slice())
 }
