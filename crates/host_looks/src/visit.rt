@@ -9,9 +9,13 @@ use std::time::{Clock, Duration, Instant};
 // Who asks nothing for so many milliseconds, or takes nothing, is not waited for.
 const IDLE: u64 = 1000;
 
-// Who has been met for so many makes room if another one waits. A read or a write may take IDLE besides, and the next is to be met within two
-// seconds.
+// Who has been met for so many makes room if another one waits. A write may take IDLE besides, and the next is to be met within two seconds.
 const SHARE: u64 = 500;
+
+// A read waits for so many, and so often: then who waits is looked for again. Together that is longer than IDLE.
+const PATIENCE: u64 = 100;
+
+const TRIES: u32 = 11;
 
 // What is read at once. Most of it may be lines that are not asked yet.
 const PIECE_BYTES: usize = 4096;
@@ -41,7 +45,7 @@ impl<'a, R: Clock> Visit<'a, R> {
         listener: &'a UnixListener,
         stream: &'a UnixStream,
     ) -> io::Result<Visit<'a, R>> {
-        stream.set_read_timeout(Some(Duration::from_millis(IDLE)))?;
+        stream.set_read_timeout(Some(Duration::from_millis(PATIENCE)))?;
         stream.set_write_timeout(Some(Duration::from_millis(IDLE)))?;
         let reader = BufReader::with_capacity(alloc, PIECE_BYTES, stream)?;
         let begun = Instant::now(clock)?;
@@ -82,19 +86,33 @@ impl<'a, R: Clock> Visit<'a, R> {
             Err(_) => Ok(false),
         }
     }
+
+    // Waits until something was read, or the input has ended. An end that is made here for who is over would let a line run of which only a
+    // front was read.
+    fn wait(&mut self) -> io::Result<()> {
+        for _ in 0..TRIES {
+            if self.is_over()? {
+                break;
+            }
+            match self.reader.fill_buf() {
+                // The write of an answer may take as long as a read, so who waits is looked for behind the read too.
+                Ok(_) => {
+                    if self.is_over()? {
+                        break;
+                    }
+                    return Ok(());
+                }
+                Err(error) if error.kind() == ErrorKind::WouldBlock => {}
+                Err(error) => return Err(error),
+            }
+        }
+        Err(ErrorKind::TimedOut.into())
+    }
 }
 
 impl<'a, R: Clock> Read for Visit<'a, R> {
     fn read(&mut self, buf: &mut [u8]) -> io::Result<usize> {
-        // An end of the input would let a line run of which only a front was read.
-        if self.is_over()? {
-            return Err(ErrorKind::TimedOut.into());
-        }
-        self.reader.fill_buf()?;
-        // The read may have waited for IDLE, and what is asked next may take as long again.
-        if self.is_over()? {
-            return Err(ErrorKind::TimedOut.into());
-        }
+        self.wait()?;
         let held = self.reader.buffer();
         let count = line_length(held).min(buf.len());
         buf[..count].copy_from_slice(&held[..count]);

@@ -3,9 +3,9 @@
 use run_record::Header;
 use run_recording::Recorder;
 use std::alloc::Global;
-use std::fs::{self, OpenOptions, Permissions};
+use std::fs::{self, OpenOptions};
 use std::io::{self, BufWriter, ErrorKind, Write};
-use std::os::unix::fs::PermissionsExt;
+use std::os::unix::fs::OpenOptionsExt;
 use std::rt::Files;
 
 // A record is written in pieces of this size.
@@ -32,6 +32,7 @@ where
     let file = match OpenOptions::new()
         .write(true)
         .create_new(true)
+        .mode(OWNER_ALONE)
         .open(rt, path)
     {
         Ok(file) => file,
@@ -41,7 +42,7 @@ where
         }
         Err(error) => return Err(error),
     };
-    let begun = begin(rt, alloc, path, file, header);
+    let begun = begin(alloc, file, header);
     if begun.is_err() {
         drop_record(rt, path);
     }
@@ -49,17 +50,11 @@ where
 }
 
 // Writes the first line. It is to be on the way before the host serves.
-fn begin<R: Files>(
-    rt: &R,
+fn begin<W: Write + Drop>(
     alloc: Global,
-    path: &str,
-    file: R::File,
+    file: W,
     header: &Header,
-) -> io::Result<Recorder<BufWriter<R::File>>>
-where
-    R::File: Write + Drop,
-{
-    fs::set_permissions(rt, path, Permissions::from_mode(OWNER_ALONE))?;
+) -> io::Result<Recorder<BufWriter<W>>> {
     let writer = BufWriter::with_capacity(alloc, PIECE_BYTES, file)?;
     let Some(mut recorder) = Recorder::new(alloc, writer, header) else {
         return Err(ErrorKind::OutOfMemory.into());

@@ -156,10 +156,10 @@ count_pages entries pages made =
 
 -- a record that was read to its end, and its keeper
 pub ended : (r0 r1 : Known) (reel : Reel) (book : Pages) (asked : Asked) (r : Replayed) (s : Stands r0 r1 reel book)
-    → r.header ≡ reel.header → r.entries ≡ length (calls_of book.entries) → (IsFalse r.is_torn ↔ reel.feeder.bytes ≡ []) → reel.header.sectors < 2 ^ 55
+    → r.header ≡ reel.header → r.entries ≡ length (calls_of book.entries) → r.entries ≤ reel.header.config.history_max → (IsFalse r.is_torn ↔ reel.feeder.bytes ≡ []) → reel.header.sectors < 2 ^ 55
     → r.book.entries ≡ before asked.to book.entries → r.book.limits ≡ of_sizes (sizes_of reel.header.config reel.header.sectors) → r.book.most ≡ unwrap_or asked.history reel.header.config.history_max
     → IsReplayOf s.bytes asked r
-ended r0 r1 reel book asked r s header count torn few made limits most =
+ended r0 r1 reel book asked r s header count fits torn few made limits most =
     let come = s.read.come in
     let held : reel.feeder.bytes ++ come.unheld ≡ reel.feeder.bytes = ap (λ (x : List ℕ). reel.feeder.bytes ++ x) (come.all_held s.good) ∙ append-nil reel.feeder.bytes in
     let stream : s.read.stream ≡ frames entry_body s.entries ++ reel.feeder.bytes = come.reads.whole ∙ ap (λ (x : List ℕ). frames entry_body s.entries ++ x) held in
@@ -171,6 +171,7 @@ ended r0 r1 reel book asked r s header count torn few made limits most =
       each = come.reads.each;
       ends = ap (λ (x : List ℕ). next_of entry_at 131083 x) (sym held) ∙ come.reads.ends ∙ ap rest_of s.good;
       torn = torn;
+      fits = subst (λ (it : Header). length s.entries ≤ it.config.history_max) (sym header) (omega (arith, fits, count, count_pages s.entries book.entries s.made));
       count = count ∙ count_pages s.entries book.entries s.made;
       few = subst (λ (it : Header). it.sectors < 2 ^ 55) (sym header) few;
       limits = limits ∙ ap (λ (it : Header). of_sizes (sizes_of it.config it.sectors)) (sym header);

@@ -1,5 +1,5 @@
 -- A record read, and replayed: the calls of its entries, one after the other.
-use Rattle.std.specs.Prelude.{◌≡◌, ℕ, ◌-◌, ◌<◌, ◌^◌, ◌↔◌, List, [], ◌++◌, take, length, map, Bool, IsFalse, Option, None, Some, is_some, unwrap_or}
+use Rattle.std.specs.Prelude.{◌≡◌, ℕ, ◌-◌, ◌<◌, ◌≤◌, ◌^◌, ◌↔◌, List, [], ◌++◌, take, length, map, Bool, IsFalse, Option, None, Some, is_some, unwrap_or}
 use Rattle.std.specs.List.{AllByRecursion}
 use Rattle.std.specs.Io.KnownBytes.{Consumes, IsAtEnd}
 use Rattle.plain.specs.Step.{of_sizes}
@@ -56,7 +56,7 @@ before None xs = xs
 before (Some number) xs = take (number - 1) xs
 
 -- a record is its first line, the frames of its entries, and perhaps a front of one more; its keeper has made the calls of the entries before the
--- one that is asked for, each of which was accepted, with the record's history or with the one that is asked for (our profile)
+-- one that is asked for, each of which was accepted, with the record's history, which has room for all, or with the one that is asked for (our profile)
 pub record IsReplayOf (bytes : List ℕ) (asked : Asked) (r : Replayed) : Type 0 where
   pub entries : List Entry
   pub rest : List ℕ
@@ -66,6 +66,7 @@ pub record IsReplayOf (bytes : List ℕ) (asked : Asked) (r : Replayed) : Type 0
   pub torn : IsFalse r.is_torn ↔ rest ≡ []
   pub count : r.entries ≡ length entries
   pub few : r.header.sectors < 2 ^ 55
+  pub fits : length entries ≤ r.header.config.history_max
   pub limits : r.book.limits ≡ of_sizes (sizes_of r.header.config r.header.sectors)
   pub most : r.book.most ≡ unwrap_or asked.history r.header.config.history_max
   pub made : ArePages (before asked.to entries) r.book.entries

@@ -54,6 +54,11 @@ pub fn load<R: Read>(alloc: Global, reader: &mut R, asked: Asked) -> Result<Repl
             Some(batch) => make_all(alloc, &mut book, batch, &mut lines, asked)?,
             None => {
                 let entries = book.view().journal_len();
+                // Its host has refused each call behind its own history.
+                if entries > reel.header.config.history_max as usize {
+                    let first = u64::from(reel.header.config.history_max).saturating_add(1);
+                    return Err(ReplayFault::BadEntry(first));
+                }
                 let book = kept(alloc, book, config, reel.header.sectors, asked.to)?;
                 return Ok(Replayed {
                     book,

@@ -1,4 +1,4 @@
-use Rattle.std.proofs.Common.{◌≡◌, ◌<◌, ◌^◌, [], refl, sym, ap, subst, ◌∙◌, ◌++◌, map, length, unwrap_or}
+use Rattle.std.proofs.Common.{◌≡◌, ◌<◌, ◌^◌, [], refl, sym, ap, subst, ◌∙◌, ◌++◌, map, length, unwrap_or, arith}
 use Rattle.plain.specs.Step.{of_sizes}
 use Rattle.dispatch_core.specs.Running.{sizes_of}
 use Rattle.run_record.specs.declared.header.Header.{Header}
@@ -42,5 +42,6 @@ returns-in-None g c =
       s.bytes,
       s.consumes,
       over.1,
-      ended _ _ c.next.new.self c.loop.book c.args.asked _ s refl (c.journal_len-entries.ensures ∙ ap length c.view.ensures.journal) c.is_torn.ensures few c.in_ok-book-in-None.ensures.entries limits most,
+      ended _ _ c.next.new.self c.loop.book c.args.asked _ s refl (c.journal_len-entries.ensures ∙ ap length c.view.ensures.journal)
+          (omega (arith, c.if-entries-reel.false)) c.is_torn.ensures few c.in_ok-book-in-None.ensures.entries limits most,
     )
