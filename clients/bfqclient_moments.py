@@ -191,7 +191,9 @@ class Look(Moment):
 
 
 def moment_of(text: str) -> Moment:
-    """The moment that a text names. Raises ValueError if it names none. What stands behind the first word of a look, the machine judges."""
+    """The moment that a text names. Raises ValueError if it names none, and TypeError if it is no text. What stands behind the first word of a look, the machine judges."""
+    if not isinstance(text, str):
+        raise TypeError(f"a moment is a text, and not {text!r}")
     look, equals, wanted = text.partition(EQUALS)
     if equals and look.split(" ")[0] in LOOKS:
         return Look(look, wanted)

@@ -251,6 +251,8 @@ def hostile(host):
             thread.join()
         with Look(host):
             meets_next(host, "one that says nothing")
+        with Look(host), Look(host), Look(host):
+            meets_next(host, "three that say nothing")
         with Look(host) as look:
             late = threading.Thread(target=asks_late, args=(look,))
             late.start()

@@ -12,6 +12,7 @@ import signal
 import subprocess
 import sys
 import tempfile
+import time
 
 from inspecting import told
 from record_file import BadEntry, read_record
@@ -126,11 +127,19 @@ def listed(program, folder):
                None, "moved 9 9", "moved 6 9", "moved 8 9", "done", "done", "done", None, "left", "attached 14", "left"]
     same("how many answers", len(found), len(answers))
     same("answers", [wanted and line[4] for line, wanted in zip(found, answers)], answers)
-    with subprocess.Popen(["cat", file], stdout=subprocess.PIPE) as piped:
-        ended = subprocess.run([program, "replay", "/dev/stdin", "--list"], stdin=piped.stdout, capture_output=True, text=True, timeout=SECONDS, check=False)
-    same("a list of a pipe", (ended.stdout.splitlines(), ended.stderr, ended.returncode), (lines, "", 0))
+    same("a list of a pipe", piped(program, bytes_of(file)), ("".join(f"{line}\n" for line in lines), "", 0))
     for stop in (0, 1, 4, len(lines) + 1, 2**64 - 1):
         same(f"a list to {stop}", Ended(program, [file, "--list", "--to", str(stop)]).lines(), lines[:max(stop - 1, 0)])
+
+
+def piped(program, data):
+    """What a list of a record says that comes through a pipe, its first line byte by byte, and its status."""
+    with subprocess.Popen([program, "replay", "/dev/stdin", "--list"], stdin=subprocess.PIPE, stdout=subprocess.PIPE, stderr=subprocess.PIPE) as process:
+        for at in range(len(HEADER)):
+            os.write(process.stdin.fileno(), data[at:at + 1])
+            time.sleep(0.002)
+        said = process.communicate(data[len(HEADER):], SECONDS)
+    return said[0].decode(), said[1].decode(), process.returncode
 
 
 def is_what_was_served(program, folder):
@@ -256,7 +265,8 @@ def refused_files(program, folder):
     for file in (os.path.join(folder, "none"), folder, os.path.join(folder, "none", "none")):
         Ended(program, [file]).is_refused("record: cannot be read")
     file = put_bytes(folder, short_record())
-    Ended(program, [file, "--image", put_bytes(folder, b"\0" * 512 * 65, "greater")], "line\n").is_refused("image: cannot be read")
+    for count in (63, 65):
+        Ended(program, [file, "--image", put_bytes(folder, b"\0" * 512 * count, "other")], "line\n").is_refused("image: cannot be read")
     for words in ([], ["--list"]):
         Ended(program, [file, "--image", os.path.join(folder, "none"), *words], "line\n").is_refused("image: cannot be read")
     for history in ("13", "0", "16777217"):
@@ -277,6 +287,10 @@ def full_history(program, folder):
     file = recorded(program, folder, act, "--history", "8")
     same("no more room", Ended(program, [file], "freeze\n").lines(), ["refused 33"])
     same("more room", Ended(program, [file, "--history", "9"], "freeze\nthaw\n").lines(), ["done", "refused 33"])
+    # No host has written more entries than its history holds.
+    data = bytes_of(file).replace(b" 8 8 0 64\n", b" 8 7 0 64\n", 1)
+    for words in ([], ["--history", "9"]):
+        Ended(program, [put_bytes(folder, data), *words], "line\n").is_refused("record: bad entry 8")
 
 
 def files_that_are_there(program, folder):
@@ -300,9 +314,14 @@ def files_that_are_there(program, folder):
 
 
 def none_is_left(program, folder):
-    """Of a host that finds no memory for its history no record is left, and the sockets are removed."""
+    """Of a host whose first line cannot be written, or that finds no memory for its history, no record is left, and the sockets are removed."""
     image, sockets, file = image_of(folder), os.path.join(folder, "sockets"), os.path.join(folder, "run")
     os.mkdir(sockets)
+    # The first line cannot be written.
+    ended = subprocess.run([program, "serve", "--image", image, "--dir", sockets, "--record", file], stdin=subprocess.DEVNULL, capture_output=True,
+                           text=True, timeout=SECONDS, check=False, preexec_fn=lambda: small_files_alone(10))
+    same("the end", (ended.stderr, ended.stdout, ended.returncode), ("record: failed\n", "", NO_SOCKET))
+    same("what is left", (os.path.exists(file), os.listdir(sockets)), (False, []))
     little = 1 << 25
     # The names of a full history alone take 16 MB, and its journal more.
     ended = subprocess.run([program, "serve", "--image", image, "--dir", sockets, "--record", file, "--history", "16777216"], stdin=subprocess.DEVNULL,
@@ -312,10 +331,10 @@ def none_is_left(program, folder):
     same("what is left", (os.path.exists(file), os.listdir(sockets)), (False, []))
 
 
-def small_files_alone():
-    """No file may be longer than 600 bytes, and a write past that fails and does not kill."""
+def small_files_alone(most=600):
+    """No file may be longer than so many bytes, and a write past that fails and does not kill."""
     signal.signal(signal.SIGXFSZ, signal.SIG_IGN)
-    resource.setrlimit(resource.RLIMIT_FSIZE, (600, 600))
+    resource.setrlimit(resource.RLIMIT_FSIZE, (most, most))
 
 
 def full_disk(program, folder):

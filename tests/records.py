@@ -128,6 +128,11 @@ def exported(program, folder):
     for serial, stored in ((4, STATES[4]), (8, STATES[8]), (16, {**STATES[8], 9: 67})):
         same(f"state {serial}", contents(folder, f"states/after-{serial:08}.img"), place.over(stored))
     same("how many", len(os.listdir(os.path.join(folder, "states"))), 3)
+    # A write that the record's host has sent is completed by the script.
+    written(folder, "later", "finish 0 3 stored\n")
+    place.is_so([*head[0], "--each", "stored", "--into", "later-states", "--script", "later", "--", "--to", "4"], "",
+                f"later-states/after-00000004.img: {len(STATES[4])} sectors stored over image, 4 of 4 steps stand\n")
+    same("a write of the record, completed later", contents(folder, "later-states/after-00000004.img"), place.over(STATES[4]))
     # The standard input is not read.
     place.is_so([*head[0], "again"], "Bad line", f"again: 2{head[1].format(13)}")
 
