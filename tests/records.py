@@ -133,6 +133,8 @@ def exported(program, folder):
     place.is_so([*head[0], "--each", "stored", "--into", "later-states", "--script", "later", "--", "--to", "4"], "",
                 f"later-states/after-00000004.img: {len(STATES[4])} sectors stored over image, 4 of 4 steps stand\n")
     same("a write of the record, completed later", contents(folder, "later-states/after-00000004.img"), place.over(STATES[4]))
+    stdout, stderr, status = place.tool(*head[0], "--each", "stored", "--into", "none", "--", "--history", "13")
+    same("no room to go back", (stdout, "hold -> refused 33" in stderr, "-- --history N" in stderr, status), ("", True, True, 1))
     # The standard input is not read.
     place.is_so([*head[0], "again"], "Bad line", f"again: 2{head[1].format(13)}")
 
