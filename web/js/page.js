@@ -369,25 +369,36 @@ function nextBeside() {
   return others[others.indexOf(view.beside) + 1] ?? null;
 }
 
-/** Asks a line that was typed, at the place that is shown: steps behind it are undone first, and are another future then. */
+/** Asks a line that was typed, at the place that is shown: steps behind it are undone first, and are another future then. A line that cannot
+ * be asked stays in its field, and the script as it is. */
 function ask(line) {
-  const why = whyBad(line);
-  if (why !== null || isSilent(line)) {
-    tellTyped(why ?? "This line asks for nothing.", true);
+  const why = whyNotAsked(line);
+  if (why !== null) {
+    tellTyped(why, true);
     return;
   }
-  const { course, future, place } = view;
-  const { cursor, isHeld } = course.stateAfter(future.prefix);
-  const moves = course.movesTo(future, place);
-  const before = course.lines.slice(0, future.prefix);
+  const { course, place } = view, { standing } = course;
+  const { cursor, isHeld } = course.stateAfter(standing.prefix);
+  const moves = course.movesTo(standing, place);
   // Who typed `hold` wants it to stay; a host that was held for the way is released.
-  const lines = [...before, ...moves, ...(place !== cursor && !isHeld ? ["release"] : []), line];
+  const lines = [...course.lines, ...moves, ...(place !== cursor && !isHeld ? ["release"] : []), line];
   byId("run").value = "";
   byId("typed").value = "";
-  // A script that is cut at a dropped future goes on from there.
   runScript(lines.map((it) => `${it}\n`).join(""), view.dials);
   const answer = view.course.rows[lines.length - 1]?.answer ?? "no answer";
   tellTyped(`${line} \u2192 ${told(answer)}${isRefusal(answer) ? `: ${sentenceOf(answer)}` : ""}`, isRefusal(answer));
+}
+
+/** Why a line cannot be asked at the place that is shown, or null. It goes behind all lines of the script, so these must have run, and the
+ * steps that stand there must be those of the future that stands. */
+function whyNotAsked(line) {
+  const { course, future, place } = view, { fault, standing } = course;
+  if (fault) return fault.isBad ? `Line ${fault.line} of the script is bad: mend it first (e edits the script).` : `Line ${fault.line} of the script did not run, so no line goes behind it.`;
+  if (isSilent(line)) return "This line asks for nothing.";
+  const why = whyBad(line);
+  if (why !== null) return why;
+  const isShared = place <= standing.tip.depth && course.nodeAt(standing, place) === course.nodeAt(future, place);
+  return isShared ? null : `This future was dropped: go to the one that stands (${standing.number + 1}) to type, or back to a step of both.`;
 }
 
 /** Says what came of a line that was typed. */
