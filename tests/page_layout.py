@@ -329,6 +329,15 @@ def menu_in_page(it, _):
     it.run(CHOOSE, "merges")
     if it.run(IS_SEEN, "fault-of-options"):
         yield "the word on a name stays when another one is chosen"
+    # As who chose it by a key, with the focus in the menu.
+    it.run("document.getElementById('run').focus()")
+    it.run(CHOOSE, "timeout")
+    for pressed, change in (("left", -1), ("right", 1), ("down", 0)):
+        step = int(it.run(STEP))
+        it.press(pressed)
+        name, now = it.run("return document.getElementById('run').value"), int(it.run(STEP))
+        if (name, now) != ("timeout", step + change):
+            yield f"behind a choice in the menu {pressed} leads from step {step} to {now} of {name}"
 
 
 LAYOUT = {"widths": widths, "one column": one_column, "who is in service is in sight": in_sight, "equal times": equal_times, "Escape": left_by_escape,

@@ -393,7 +393,8 @@ function ask(line) {
  * steps that stand there must be those of the future that stands. */
 function whyNotAsked(line) {
   const { course, future, place } = view, { fault, standing } = course;
-  if (fault) return fault.isBad ? `Line ${fault.line} of the script is bad: mend it first (e edits the script).` : `Line ${fault.line} of the script did not run, so no line goes behind it.`;
+  if (fault?.isBad) return `Line ${fault.line} of the script is bad: mend it first (e edits the script).`;
+  if (fault) return `Line ${fault.line} of the script did not run, so no line goes behind it.`;
   if (isSilent(line)) return "This line asks for nothing.";
   const why = whyBad(line);
   if (why !== null) return why;
@@ -557,6 +558,8 @@ function listenToScript() {
     if (!it) return;
     tellFault("");
     runScript(it.text, dialsOf(it.options));
+    // In the menu an arrow would choose another script.
+    byId("slider").focus({ preventScroll: true });
   });
   byId("typing").addEventListener("submit", (event) => {
     event.preventDefault();
