@@ -240,6 +240,31 @@ def large_print(it, _):
         yield "the script cannot be edited"
 
 
+OWN = """return [view.text, wordsOf(view.dials).join(' '), document.getElementById('run').selectedOptions[0].textContent,
+  [...document.querySelectorAll('#run > option')].map((it) => it.value)]"""
+
+
+def own_scripts(it, _):
+    """A script of one's own comes back from the menu as it ran last, also behind another one that began with a run of the menu."""
+    first = "attach 0 0 4\nread 0 1 5 1\n"
+    opened(it, address(script=first, options="--tags 2"))
+    it.press("t", *"dispatch", "enter")
+    own = [f"{first}dispatch\n", "--tags 2", "a script of your own", ["own/1"]]
+    if it.run(OWN) != own:
+        yield f"a script that was typed is {it.run(OWN)}"
+    it.run(CHOOSE, "timeout")
+    it.press("end", "t", *"line", "enter")
+    timeout = (TOP / "examples" / "timeout.script").read_text()
+    other = [f"{timeout}line\n", "--timeout 1", "a script of your own, 2", ["own/1", "own/2"]]
+    if it.run(OWN) != other:
+        yield f"another script that was typed is {it.run(OWN)}"
+    for value, wanted in (("own/1", own), ("own/2", other), ("own/1", own)):
+        it.run(CHOOSE, "merges")
+        it.run(CHOOSE, value)
+        if it.run(OWN) != [*wanted[:3], other[3]]:
+            yield f"{value} comes back from the menu as {it.run(OWN)}"
+
+
 # How the browser prints a page, and what begins one in what it makes.
 PRINTED = {"preferCSSPageSize": True, "printBackground": False}
 PAGE_BEGINS = re.compile(rb"/Type /Page\b")
@@ -341,4 +366,5 @@ def menu_in_page(it, _):
 
 
 LAYOUT = {"widths": widths, "one column": one_column, "who is in service is in sight": in_sight, "equal times": equal_times, "Escape": left_by_escape,
-          "large print": large_print, "slides": slides, "contrast": contrast, "names of futures": futures_by_name, "answers of now": answers_of_now, "menu": menu_in_page}
+          "large print": large_print, "slides": slides, "contrast": contrast, "names of futures": futures_by_name, "answers of now": answers_of_now,
+          "menu": menu_in_page, "scripts of one's own": own_scripts}

@@ -252,8 +252,8 @@ def not_typed(it, _):
     bad = "attach 0 0 4\nread 0 1 5 1\nDispatch\nread 0 1 9 1\n"
     timeout = (TOP / "examples" / "timeout.script").read_text()
     for words, script, why in (
-            ({"script": bad}, bad, "Line 3 of the script is bad: mend it first (e edits the script)."),
-            ({"script": bad, "step": 1}, bad, "Line 3 of the script is bad: mend it first (e edits the script)."),
+            ({"script": bad}, bad, "Line 3 of the script is bad: mend it first (edit the script)."),
+            ({"script": bad, "step": 1}, bad, "Line 3 of the script is bad: mend it first (edit the script)."),
             ({"run": "timeout", "future": 1}, timeout, "This future was dropped: go to the one that stands (2) to type, or back to a step of both.")):
         opened(it, address(**words))
         step = it.run(STEP)

@@ -11,15 +11,16 @@ const AS_WORKED_OUT = "\u2713 Worked out before, by the rules. The machine gave 
 
 const view = { machine: null, text: "", dials: null, course: null, services: null, future: null, place: 0, look: null, beside: null, given: null, waiting: 0,
   // What was edited and has not run, or null.
-  draft: null };
+  draft: null,
+  // The scripts of one's own by their values in the menu, each with its text and its words of options as it ran last.
+  own: new Map() };
 
 /** Begins: with what the address says, else with the script that this page was made with, else with the first of the menu. */
 async function begin() {
   const given = JSON.parse(byId("given").textContent), menu = JSON.parse(byId("menu-scripts").textContent);
   view.given = given;
   view.menu = menu;
-  byId("run").append(...(given.name ? [element("option", { value: given.name }, given.name)] : []), ...menuOf(menu),
-    element("option", { value: "", hidden: true }, "a script of your own"));
+  byId("run").append(...(given.name ? [element("option", { value: given.name }, given.name)] : []), ...menuOf(menu));
   // What may be typed, with words in capitals for what is to be put in.
   byId("forms").append(...TABLES.forms.map((form) => element("option", { value: form.join(" ") })));
   for (const { name, field, least, most, says } of OPTIONS) {
@@ -44,6 +45,17 @@ function menuOf(menu) {
   return parts.map((part) => element("optgroup", { label: part }, menu.filter((it) => it.part === part).map(optionOf)));
 }
 
+/** Chooses a script of one's own in the menu: the one that is chosen there, or one more. */
+function chooseOwn() {
+  const menu = byId("run");
+  if (view.own.has(menu.value)) return;
+  // No name of a run has this sign, nor has that of a file.
+  const number = view.own.size + 1, value = `own/${number}`;
+  view.own.set(value, null);
+  menu.append(element("option", { value }, `a script of your own${number > 1 ? `, ${number}` : ""}`));
+  menu.value = value;
+}
+
 /** A script of the menu, or the one that this page was made with. */
 function scriptNamed(name) {
   return name === view.given.name && name ? view.given : view.menu.find((it) => it.name === name && "text" in it);
@@ -64,7 +76,9 @@ function fromAddress() {
     if (!(fault instanceof BadOption)) throw fault;
     tellFault(`${fault.message}. The options are as usual.`);
   }
-  byId("run").value = words.has("script") ? "" : named.name;
+  const own = [...view.own].find(([, it]) => it.text === text);
+  byId("run").value = words.has("script") ? own?.[0] ?? "" : named.name;
+  if (words.has("script")) chooseOwn();
   runScript(text, dials, Number(words.get("future") ?? NaN), Number(words.get("step") ?? NaN), Number(words.get("beside") ?? NaN));
 }
 
@@ -73,6 +87,7 @@ function runScript(text, dials, number = NaN, place = NaN, beside = NaN) {
   // A text that lies open and was not touched becomes the new one.
   const isOpenAsIs = isEditing() && !isChanged();
   Object.assign(view, { text, dials });
+  if (view.own.has(byId("run").value)) view.own.set(byId("run").value, { text, options: wordsOf(dials) });
   if (isOpenAsIs) byId("text").value = text;
   byId("scheduler").value = dials.scheduler;
   for (const { field } of OPTIONS) {
@@ -382,7 +397,7 @@ function ask(line) {
   const moves = course.movesTo(standing, place);
   // Who typed `hold` wants it to stay; a host that was held for the way is released.
   const lines = [...course.lines, ...moves, ...(place !== cursor && !isHeld ? ["release"] : []), line];
-  byId("run").value = "";
+  chooseOwn();
   byId("typed").value = "";
   runScript(lines.map((it) => `${it}\n`).join(""), view.dials);
   const answer = view.course.rows[lines.length - 1]?.answer ?? "no answer";
@@ -393,7 +408,7 @@ function ask(line) {
  * steps that stand there must be those of the future that stands. */
 function whyNotAsked(line) {
   const { course, future, place } = view, { fault, standing } = course;
-  if (fault?.isBad) return `Line ${fault.line} of the script is bad: mend it first (e edits the script).`;
+  if (fault?.isBad) return `Line ${fault.line} of the script is bad: mend it first (edit the script).`;
   if (fault) return `Line ${fault.line} of the script did not run, so no line goes behind it.`;
   if (isSilent(line)) return "This line asks for nothing.";
   const why = whyBad(line);
@@ -440,7 +455,7 @@ function endEdit(isRun) {
   byId("text").value = view.text;
   edit(false);
   if (!isRun) return;
-  if (text !== view.text) byId("run").value = "";
+  if (text !== view.text) chooseOwn();
   runScript(text, view.dials);
 }
 
@@ -554,7 +569,7 @@ function listenToScript() {
   }
   byId("text").addEventListener("input", tellDraft);
   byId("run").addEventListener("change", (event) => {
-    const it = scriptNamed(event.target.value);
+    const it = view.own.get(event.target.value) ?? scriptNamed(event.target.value);
     if (!it) return;
     tellFault("");
     runScript(it.text, dialsOf(it.options));
