@@ -25,6 +25,7 @@ SHOW = "show(arguments[0])"
 IS_SEEN = "const it = document.getElementById(arguments[0]); return it.checkVisibility() && it.getBoundingClientRect().height > 0"
 CHOOSE = "const it = document.getElementById('run'); it.value = arguments[0]; it.dispatchEvent(new Event('change'))"
 PRESS_BUTTON = "document.getElementById(arguments[0]).click()"
+HOST = "return document.querySelector('#device > p:last-child').textContent"
 FOCUS = "return document.activeElement.id || document.activeElement.parentNode.id"
 
 # What is wrong with the layout: what passes an edge, texts of a drawing that lie over each other or are small.
@@ -240,6 +241,25 @@ def large_print(it, _):
         yield "the script cannot be edited"
 
 
+def held(it, _):
+    """Of a host that the script leaves held it is told that it is, and that a dispatch waits; of one that is held for a look alone it is not."""
+    opened(it, address(script="attach 0 0 4\nread 0 1 5 1\nhold\n"))
+    waits = "The host is held, so a dispatch now waits: notyet 41 (Held). Once it is released, a dispatch"
+    for pressed, wanted in (("end", f"{waits} sends fetch 5+1 of seat 0: "), ("left", f"{waits}: refused 17 (NothingQueued), as ")):
+        it.press(pressed)
+        if not it.run(TEXT, "next").startswith(wanted) or not it.run(HOST).startswith("held; no queue in service"):
+            yield f"of a held host after {pressed} it is told {it.run(TEXT, 'next')!r}, {it.run(HOST)!r}"
+    # Here the answer is what was told.
+    it.press("end", "t", *"dispatch", "enter")
+    if "dispatch \u2192 notyet 41 (Held)" not in it.run(TEXT, "typed-answer"):
+        yield f"a dispatch is answered {it.run(TEXT, 'typed-answer')!r}"
+    it.press(*"release", "enter")
+    for pressed, wanted in (("escape", "A dispatch now would send fetch 5+1 of seat 0: "), ("left", "A dispatch now: refused 17 (NothingQueued), as ")):
+        it.press(pressed)
+        if not it.run(TEXT, "next").startswith(wanted) or "held" in it.run(HOST):
+            yield f"of a released host after {pressed} it is told {it.run(TEXT, 'next')!r}, {it.run(HOST)!r}"
+
+
 OWN = """return [view.text, wordsOf(view.dials).join(' '), document.getElementById('run').selectedOptions[0].textContent,
   [...document.querySelectorAll('#run > option')].map((it) => it.value)]"""
 
@@ -367,4 +387,4 @@ def menu_in_page(it, _):
 
 LAYOUT = {"widths": widths, "one column": one_column, "who is in service is in sight": in_sight, "equal times": equal_times, "Escape": left_by_escape,
           "large print": large_print, "slides": slides, "contrast": contrast, "names of futures": futures_by_name, "answers of now": answers_of_now,
-          "menu": menu_in_page, "scripts of one's own": own_scripts}
+          "menu": menu_in_page, "scripts of one's own": own_scripts, "held": held}

@@ -265,8 +265,10 @@ function drawReason() {
   }
   const next = new Choice(copyOf(look.fresh), course.dials, MORE_PLACES).reason();
   const [, , , operation, start, count] = (next.answer ?? "").split(" ");
-  byId("next").textContent = next.seat === null ? `A dispatch now: ${next.answer ? told(next.answer) : "no answer"}, as ${next.parts.join("; ")}.`
-    : `A dispatch now would send ${operation} ${start}+${count} of seat ${next.seat}: ${next.parts.join("; ")}.`;
+  const [now, wouldSend] = look.isHeld ? [`The host is held, so a dispatch now waits: ${told(HELD)}. Once it is released, a dispatch`, "sends"]
+    : ["A dispatch now", "would send"];
+  byId("next").textContent = next.seat === null ? `${now}: ${next.answer ? told(next.answer) : "no answer"}, as ${next.parts.join("; ")}.`
+    : `${now} ${wouldSend} ${operation} ${start}+${count} of seat ${next.seat}: ${next.parts.join("; ")}.`;
 }
 
 /** The parts of a reason, and whether the machine did as was worked out. */
