@@ -260,6 +260,24 @@ def held(it, _):
             yield f"of a released host after {pressed} it is told {it.run(TEXT, 'next')!r}, {it.run(HOST)!r}"
 
 
+def options_told(it, _):
+    """Beside the script the options stand with which it runs, also while it is edited, and those that a script of one's own has from the run before."""
+    opened(it, address(run="timeout"))
+    told = ["with --timeout 1"]
+    it.press("e")
+    told.append(it.run(TEXT, "dials-told") if it.run(IS_SEEN, "dials-told") else None)
+    it.run("document.getElementById('text').value = 'attach 0 0 4\\n'")
+    it.run(PRESS_BUTTON, "run-text")
+    told.append(it.run(TEXT, "dials-told"))
+    it.run("let it = document.getElementById('timeout'); it.value = '1000'; it.dispatchEvent(new Event('change', {bubbles: true}))")
+    it.run("let it = document.getElementById('scheduler'); it.value = 'none'; it.dispatchEvent(new Event('change', {bubbles: true}))")
+    told.append(it.run(TEXT, "dials-told"))
+    opened(it, address(script="attach 0 0 4\n"))
+    told.append(it.run(TEXT, "dials-told"))
+    if told != ["with --timeout 1", "with --timeout 1", "with --timeout 1", "with --scheduler none --timeout 1000", "with the usual options"]:
+        yield f"the options are told as {told}"
+
+
 OWN = """return [view.text, wordsOf(view.dials).join(' '), document.getElementById('run').selectedOptions[0].textContent,
   [...document.querySelectorAll('#run > option')].map((it) => it.value)]"""
 
@@ -387,4 +405,5 @@ def menu_in_page(it, _):
 
 LAYOUT = {"widths": widths, "one column": one_column, "who is in service is in sight": in_sight, "equal times": equal_times, "Escape": left_by_escape,
           "large print": large_print, "slides": slides, "contrast": contrast, "names of futures": futures_by_name, "answers of now": answers_of_now,
-          "menu": menu_in_page, "scripts of one's own": own_scripts, "held": held}
+          "menu": menu_in_page, "scripts of one's own": own_scripts, "held": held,
+          "options are told": options_told}

@@ -89,6 +89,7 @@ function runScript(text, dials, number = NaN, place = NaN, beside = NaN) {
   Object.assign(view, { text, dials });
   if (view.own.has(byId("run").value)) view.own.set(byId("run").value, { text, options: wordsOf(dials) });
   if (isOpenAsIs) byId("text").value = text;
+  byId("dials-told").textContent = `with ${wordsOf(dials).join(" ") || "the usual options"}`;
   byId("scheduler").value = dials.scheduler;
   for (const { field } of OPTIONS) {
     byId(field).value = `${dials[field]}`;
