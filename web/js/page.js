@@ -89,7 +89,7 @@ function runScript(text, dials, number = NaN, place = NaN, beside = NaN) {
   Object.assign(view, { text, dials });
   if (view.own.has(byId("run").value)) view.own.set(byId("run").value, { text, options: wordsOf(dials) });
   if (isOpenAsIs) byId("text").value = text;
-  byId("dials-told").textContent = `with ${wordsOf(dials).join(" ") || "the usual options"}`;
+  tellOptions(dials);
   byId("scheduler").value = dials.scheduler;
   for (const { field } of OPTIONS) {
     byId(field).value = `${dials[field]}`;
@@ -115,6 +115,13 @@ function runScript(text, dials, number = NaN, place = NaN, beside = NaN) {
   tellFault(course.fault ? toldFault(course.fault, course.lines[course.fault.line - 1]) : "", true);
   const isOfMenu = view.menu.includes(scriptNamed(byId("run").value)) && view.future === course.standing;
   show(Number.isInteger(place) ? place : isOfMenu ? choiceFrom(0, 1) : end);
+}
+
+/** Tells the options with which the script runs. No line of the page breaks within one. */
+function tellOptions(dials) {
+  const words = wordsOf(dials);
+  const options = range(words.length / 2).flatMap((at) => [" ", element("span", {}, `${words[2 * at]} ${words[2 * at + 1]}`)]);
+  byId("dials-told").replaceChildren("with", ...(options.length > 0 ? options : [" the usual options"]));
 }
 
 /** Why a run ended early, with the line if the reason does not quote the whole of it. */
