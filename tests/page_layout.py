@@ -25,6 +25,7 @@ SHOW = "show(arguments[0])"
 IS_SEEN = "const it = document.getElementById(arguments[0]); return it.checkVisibility() && it.getBoundingClientRect().height > 0"
 CHOOSE = "const it = document.getElementById('run'); it.value = arguments[0]; it.dispatchEvent(new Event('change'))"
 PRESS_BUTTON = "document.getElementById(arguments[0]).click()"
+HOST = "return document.querySelector('#device > p:last-child').textContent"
 FOCUS = "return document.activeElement.id || document.activeElement.parentNode.id"
 
 # What is wrong with the layout: what passes an edge, texts of a drawing that lie over each other or are small.
@@ -240,6 +241,68 @@ def large_print(it, _):
         yield "the script cannot be edited"
 
 
+def held(it, _):
+    """Of a host that the script leaves held it is told that it is, and that a dispatch waits; of one that is held for a look alone it is not."""
+    opened(it, address(script="attach 0 0 4\nread 0 1 5 1\nhold\n"))
+    waits = "The host is held, so a dispatch now waits: notyet 41 (Held). Once it is released, a dispatch"
+    for pressed, wanted in (("end", f"{waits} sends fetch 5+1 of seat 0: "), ("left", f"{waits}: refused 17 (NothingQueued), as ")):
+        it.press(pressed)
+        if not it.run(TEXT, "next").startswith(wanted) or not it.run(HOST).startswith("held; no queue in service"):
+            yield f"of a held host after {pressed} it is told {it.run(TEXT, 'next')!r}, {it.run(HOST)!r}"
+    # Here the answer is what was told.
+    it.press("end", "t", *"dispatch", "enter")
+    if "dispatch \u2192 notyet 41 (Held)" not in it.run(TEXT, "typed-answer"):
+        yield f"a dispatch is answered {it.run(TEXT, 'typed-answer')!r}"
+    it.press(*"release", "enter")
+    for pressed, wanted in (("escape", "A dispatch now would send fetch 5+1 of seat 0: "), ("left", "A dispatch now: refused 17 (NothingQueued), as ")):
+        it.press(pressed)
+        if not it.run(TEXT, "next").startswith(wanted) or "held" in it.run(HOST):
+            yield f"of a released host after {pressed} it is told {it.run(TEXT, 'next')!r}, {it.run(HOST)!r}"
+
+
+def options_told(it, _):
+    """Beside the script the options stand with which it runs, also while it is edited, and those that a script of one's own has from the run before."""
+    opened(it, address(run="timeout"))
+    told = ["with --timeout 1"]
+    it.press("e")
+    told.append(it.run(TEXT, "dials-told") if it.run(IS_SEEN, "dials-told") else None)
+    it.run("document.getElementById('text').value = 'attach 0 0 4\\n'")
+    it.run(PRESS_BUTTON, "run-text")
+    told.append(it.run(TEXT, "dials-told"))
+    it.run("let it = document.getElementById('timeout'); it.value = '1000'; it.dispatchEvent(new Event('change', {bubbles: true}))")
+    it.run("let it = document.getElementById('scheduler'); it.value = 'none'; it.dispatchEvent(new Event('change', {bubbles: true}))")
+    told.append(it.run(TEXT, "dials-told"))
+    opened(it, address(script="attach 0 0 4\n"))
+    told.append(it.run(TEXT, "dials-told"))
+    if told != ["with --timeout 1", "with --timeout 1", "with --timeout 1", "with --scheduler none --timeout 1000", "with the usual options"]:
+        yield f"the options are told as {told}"
+
+
+OWN = """return [view.text, wordsOf(view.dials).join(' '), document.getElementById('run').selectedOptions[0].textContent,
+  [...document.querySelectorAll('#run > option')].map((it) => it.value)]"""
+
+
+def own_scripts(it, _):
+    """A script of one's own comes back from the menu as it ran last, also behind another one that began with a run of the menu."""
+    first = "attach 0 0 4\nread 0 1 5 1\n"
+    opened(it, address(script=first, options="--tags 2"))
+    it.press("t", *"dispatch", "enter")
+    own = [f"{first}dispatch\n", "--tags 2", "a script of your own", ["own/1"]]
+    if it.run(OWN) != own:
+        yield f"a script that was typed is {it.run(OWN)}"
+    it.run(CHOOSE, "timeout")
+    it.press("end", "t", *"line", "enter")
+    timeout = (TOP / "examples" / "timeout.script").read_text()
+    other = [f"{timeout}line\n", "--timeout 1", "a script of your own, 2", ["own/1", "own/2"]]
+    if it.run(OWN) != other:
+        yield f"another script that was typed is {it.run(OWN)}"
+    for value, wanted in (("own/1", own), ("own/2", other), ("own/1", own)):
+        it.run(CHOOSE, "merges")
+        it.run(CHOOSE, value)
+        if it.run(OWN) != [*wanted[:3], other[3]]:
+            yield f"{value} comes back from the menu as {it.run(OWN)}"
+
+
 # How the browser prints a page, and what begins one in what it makes.
 PRINTED = {"preferCSSPageSize": True, "printBackground": False}
 PAGE_BEGINS = re.compile(rb"/Type /Page\b")
@@ -329,7 +392,18 @@ def menu_in_page(it, _):
     it.run(CHOOSE, "merges")
     if it.run(IS_SEEN, "fault-of-options"):
         yield "the word on a name stays when another one is chosen"
+    # As who chose it by a key, with the focus in the menu.
+    it.run("document.getElementById('run').focus()")
+    it.run(CHOOSE, "timeout")
+    for pressed, change in (("left", -1), ("right", 1), ("down", 0)):
+        step = int(it.run(STEP))
+        it.press(pressed)
+        name, now = it.run("return document.getElementById('run').value"), int(it.run(STEP))
+        if (name, now) != ("timeout", step + change):
+            yield f"behind a choice in the menu {pressed} leads from step {step} to {now} of {name}"
 
 
 LAYOUT = {"widths": widths, "one column": one_column, "who is in service is in sight": in_sight, "equal times": equal_times, "Escape": left_by_escape,
-          "large print": large_print, "slides": slides, "contrast": contrast, "names of futures": futures_by_name, "answers of now": answers_of_now, "menu": menu_in_page}
+          "large print": large_print, "slides": slides, "contrast": contrast, "names of futures": futures_by_name, "answers of now": answers_of_now,
+          "menu": menu_in_page, "scripts of one's own": own_scripts, "held": held,
+          "options are told": options_told}

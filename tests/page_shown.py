@@ -229,17 +229,38 @@ def keys(it, program):
 
 
 def branch_by_typing(it, program):
-    """A line that is typed where steps stand behind it makes another future, and the one before stays."""
+    """A line that is typed where steps stand behind it makes another future, and each one before stays."""
     options, lines = example("timeout")
-    rows = steps_of(program, options, lines[:lines.index("hold")])
-    opened(it, address(run="timeout", future=1, step=len(rows) - 2))
-    it.press("t", *"dispatch", "enter")
-    if it.run("return document.getElementById('future').options.length") != 2:
-        yield f"there are {it.run('return document.getElementById(arguments[0]).options.length', 'future')} futures, and not 2"
-    machine, answer = machine_after(program, options, [*lines[:lines.index("hold")], "hold", "undo 2", "release", "dispatch"])
-    yield from differences(it, machine, "another future by a typed line")
-    if answer not in it.run(TEXT, "told"):
-        yield f"{answer!r} is not told"
+    fork = len(steps_of(program, options, lines[:lines.index("hold")])) - 2
+    # Of both futures these steps are the same, and the line goes behind all lines in each.
+    for future in (1, 2):
+        opened(it, address(run="timeout", future=future, step=fork))
+        it.press("t", *"dispatch", "enter")
+        if it.run("return document.getElementById('future').options.length") != 3:
+            yield f"there are {it.run('return document.getElementById(arguments[0]).options.length', 'future')} futures, and not 3"
+        asked = [*lines, "hold", "undo 1", "release", "dispatch"]
+        machine, answer = machine_after(program, options, asked)
+        yield from differences(it, machine, "another future by a typed line")
+        if answer not in it.run(TEXT, "told"):
+            yield f"{answer!r} is not told"
+        if it.run("return view.text") != "".join(f"{line}\n" for line in asked):
+            yield f"the script is {it.run('return view.text')!r}"
+
+
+def not_typed(it, _):
+    """A line that cannot be asked is not, and nothing is lost of it and of the script: behind a bad line, and in a dropped future."""
+    bad = "attach 0 0 4\nread 0 1 5 1\nDispatch\nread 0 1 9 1\n"
+    timeout = (TOP / "examples" / "timeout.script").read_text()
+    for words, script, why in (
+            ({"script": bad}, bad, "Line 3 of the script is bad: mend it first (edit the script)."),
+            ({"script": bad, "step": 1}, bad, "Line 3 of the script is bad: mend it first (edit the script)."),
+            ({"run": "timeout", "future": 1}, timeout, "This future was dropped: go to the one that stands (2) to type, or back to a step of both.")):
+        opened(it, address(**words))
+        step = it.run(STEP)
+        it.press("t", *"tick", "enter")
+        shown = it.run("return [view.text, document.getElementById('typed').value, document.getElementById('typed-answer').textContent]")
+        if shown != [script, "tick", why] or it.run(STEP) != step:
+            yield f"{words}: after a line that is not asked there are {shown} at step {it.run(STEP)}"
 
 
 # Bad scripts and options: the words of the address, and what must be told where.
@@ -317,7 +338,7 @@ def nothing_sent(it, _):
 
 # In this order: the one before the last takes WebAssembly away.
 SHOWN = {"places": places, "branches": branches, "many steps": many_steps, "keys": keys, "another future by typing": branch_by_typing,
-         "bad input": bad_input, "many lines": many_lines, **LAYOUT, "nothing is sent": nothing_sent, "what is missing": without}
+         "a line that is not asked": not_typed, "bad input": bad_input, "many lines": many_lines, **LAYOUT, "nothing is sent": nothing_sent, "what is missing": without}
 
 
 def shown_runs(program):

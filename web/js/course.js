@@ -132,7 +132,8 @@ class Course {
   /**
    * The host at a place of a future: its looks there as undo and redo give them, and those of a new machine that ran the lines of the script
    * up to this step alone, with where the two differ. `moves` has the lines that were asked to get there, with their answers; if the host
-   * refuses one, the history being full, the looks are those of the new machine. `before` are the looks before this step.
+   * refuses one, the history being full, the looks are those of the new machine. `before` are the looks before this step. `isHeld` is
+   * whether the script itself leaves the host held there, and not the moves alone.
    */
   lookAt(future, place) {
     const moves = this.movesTo(future, place);
@@ -144,7 +145,7 @@ class Course {
     const { before, after } = this.around(this.nodeAt(future, place).row, looks);
     const now = isStuck ? after : answers.slice(moves.length);
     return {
-      future, place, moves: told, isStuck, differences: differencesOf(looks, now, after), answers: now,
+      future, place, moves: told, isStuck, isHeld: this.stateAfter(future.prefix).isHeld, differences: differencesOf(looks, now, after), answers: now,
       machine: machineIn(now), fresh: machineIn(after), before: machineIn(before),
       sectors: sectorsIn(marks, now), sectorsBefore: sectorsIn(marks, before),
     };

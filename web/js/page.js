@@ -11,15 +11,16 @@ const AS_WORKED_OUT = "\u2713 Worked out before, by the rules. The machine gave 
 
 const view = { machine: null, text: "", dials: null, course: null, services: null, future: null, place: 0, look: null, beside: null, given: null, waiting: 0,
   // What was edited and has not run, or null.
-  draft: null };
+  draft: null,
+  // The scripts of one's own by their values in the menu, each with its text and its words of options as it ran last.
+  own: new Map() };
 
 /** Begins: with what the address says, else with the script that this page was made with, else with the first of the menu. */
 async function begin() {
   const given = JSON.parse(byId("given").textContent), menu = JSON.parse(byId("menu-scripts").textContent);
   view.given = given;
   view.menu = menu;
-  byId("run").append(...(given.name ? [element("option", { value: given.name }, given.name)] : []), ...menuOf(menu),
-    element("option", { value: "", hidden: true }, "a script of your own"));
+  byId("run").append(...(given.name ? [element("option", { value: given.name }, given.name)] : []), ...menuOf(menu));
   // What may be typed, with words in capitals for what is to be put in.
   byId("forms").append(...TABLES.forms.map((form) => element("option", { value: form.join(" ") })));
   for (const { name, field, least, most, says } of OPTIONS) {
@@ -44,6 +45,17 @@ function menuOf(menu) {
   return parts.map((part) => element("optgroup", { label: part }, menu.filter((it) => it.part === part).map(optionOf)));
 }
 
+/** Chooses a script of one's own in the menu: the one that is chosen there, or one more. */
+function chooseOwn() {
+  const menu = byId("run");
+  if (view.own.has(menu.value)) return;
+  // No name of a run has this sign, nor has that of a file.
+  const number = view.own.size + 1, value = `own/${number}`;
+  view.own.set(value, null);
+  menu.append(element("option", { value }, `a script of your own${number > 1 ? `, ${number}` : ""}`));
+  menu.value = value;
+}
+
 /** A script of the menu, or the one that this page was made with. */
 function scriptNamed(name) {
   return name === view.given.name && name ? view.given : view.menu.find((it) => it.name === name && "text" in it);
@@ -64,7 +76,9 @@ function fromAddress() {
     if (!(fault instanceof BadOption)) throw fault;
     tellFault(`${fault.message}. The options are as usual.`);
   }
-  byId("run").value = words.has("script") ? "" : named.name;
+  const own = [...view.own].find(([, it]) => it.text === text);
+  byId("run").value = words.has("script") ? own?.[0] ?? "" : named.name;
+  if (words.has("script")) chooseOwn();
   runScript(text, dials, Number(words.get("future") ?? NaN), Number(words.get("step") ?? NaN), Number(words.get("beside") ?? NaN));
 }
 
@@ -73,7 +87,9 @@ function runScript(text, dials, number = NaN, place = NaN, beside = NaN) {
   // A text that lies open and was not touched becomes the new one.
   const isOpenAsIs = isEditing() && !isChanged();
   Object.assign(view, { text, dials });
+  if (view.own.has(byId("run").value)) view.own.set(byId("run").value, { text, options: wordsOf(dials) });
   if (isOpenAsIs) byId("text").value = text;
+  tellOptions(dials);
   byId("scheduler").value = dials.scheduler;
   for (const { field } of OPTIONS) {
     byId(field).value = `${dials[field]}`;
@@ -99,6 +115,13 @@ function runScript(text, dials, number = NaN, place = NaN, beside = NaN) {
   tellFault(course.fault ? toldFault(course.fault, course.lines[course.fault.line - 1]) : "", true);
   const isOfMenu = view.menu.includes(scriptNamed(byId("run").value)) && view.future === course.standing;
   show(Number.isInteger(place) ? place : isOfMenu ? choiceFrom(0, 1) : end);
+}
+
+/** Tells the options with which the script runs. No line of the page breaks within one. */
+function tellOptions(dials) {
+  const words = wordsOf(dials);
+  const options = range(words.length / 2).flatMap((at) => [" ", element("span", {}, `${words[2 * at]} ${words[2 * at + 1]}`)]);
+  byId("dials-told").replaceChildren("with", ...(options.length > 0 ? options : [" the usual options"]));
 }
 
 /** Why a run ended early, with the line if the reason does not quote the whole of it. */
@@ -250,8 +273,10 @@ function drawReason() {
   }
   const next = new Choice(copyOf(look.fresh), course.dials, MORE_PLACES).reason();
   const [, , , operation, start, count] = (next.answer ?? "").split(" ");
-  byId("next").textContent = next.seat === null ? `A dispatch now: ${next.answer ? told(next.answer) : "no answer"}, as ${next.parts.join("; ")}.`
-    : `A dispatch now would send ${operation} ${start}+${count} of seat ${next.seat}: ${next.parts.join("; ")}.`;
+  const [now, wouldSend] = look.isHeld ? [`The host is held, so a dispatch now waits: ${told(HELD)}. Once it is released, a dispatch`, "sends"]
+    : ["A dispatch now", "would send"];
+  byId("next").textContent = next.seat === null ? `${now}: ${next.answer ? told(next.answer) : "no answer"}, as ${next.parts.join("; ")}.`
+    : `${now} ${wouldSend} ${operation} ${start}+${count} of seat ${next.seat}: ${next.parts.join("; ")}.`;
 }
 
 /** The parts of a reason, and whether the machine did as was worked out. */
@@ -369,25 +394,37 @@ function nextBeside() {
   return others[others.indexOf(view.beside) + 1] ?? null;
 }
 
-/** Asks a line that was typed, at the place that is shown: steps behind it are undone first, and are another future then. */
+/** Asks a line that was typed, at the place that is shown: steps behind it are undone first, and are another future then. A line that cannot
+ * be asked stays in its field, and the script as it is. */
 function ask(line) {
-  const why = whyBad(line);
-  if (why !== null || isSilent(line)) {
-    tellTyped(why ?? "This line asks for nothing.", true);
+  const why = whyNotAsked(line);
+  if (why !== null) {
+    tellTyped(why, true);
     return;
   }
-  const { course, future, place } = view;
-  const { cursor, isHeld } = course.stateAfter(future.prefix);
-  const moves = course.movesTo(future, place);
-  const before = course.lines.slice(0, future.prefix);
+  const { course, place } = view, { standing } = course;
+  const { cursor, isHeld } = course.stateAfter(standing.prefix);
+  const moves = course.movesTo(standing, place);
   // Who typed `hold` wants it to stay; a host that was held for the way is released.
-  const lines = [...before, ...moves, ...(place !== cursor && !isHeld ? ["release"] : []), line];
-  byId("run").value = "";
+  const lines = [...course.lines, ...moves, ...(place !== cursor && !isHeld ? ["release"] : []), line];
+  chooseOwn();
   byId("typed").value = "";
-  // A script that is cut at a dropped future goes on from there.
   runScript(lines.map((it) => `${it}\n`).join(""), view.dials);
   const answer = view.course.rows[lines.length - 1]?.answer ?? "no answer";
   tellTyped(`${line} \u2192 ${told(answer)}${isRefusal(answer) ? `: ${sentenceOf(answer)}` : ""}`, isRefusal(answer));
+}
+
+/** Why a line cannot be asked at the place that is shown, or null. It goes behind all lines of the script, so these must have run, and the
+ * steps that stand there must be those of the future that stands. */
+function whyNotAsked(line) {
+  const { course, future, place } = view, { fault, standing } = course;
+  if (fault?.isBad) return `Line ${fault.line} of the script is bad: mend it first (edit the script).`;
+  if (fault) return `Line ${fault.line} of the script did not run, so no line goes behind it.`;
+  if (isSilent(line)) return "This line asks for nothing.";
+  const why = whyBad(line);
+  if (why !== null) return why;
+  const isShared = place <= standing.tip.depth && course.nodeAt(standing, place) === course.nodeAt(future, place);
+  return isShared ? null : `This future was dropped: go to the one that stands (${standing.number + 1}) to type, or back to a step of both.`;
 }
 
 /** Says what came of a line that was typed. */
@@ -428,7 +465,7 @@ function endEdit(isRun) {
   byId("text").value = view.text;
   edit(false);
   if (!isRun) return;
-  if (text !== view.text) byId("run").value = "";
+  if (text !== view.text) chooseOwn();
   runScript(text, view.dials);
 }
 
@@ -542,10 +579,12 @@ function listenToScript() {
   }
   byId("text").addEventListener("input", tellDraft);
   byId("run").addEventListener("change", (event) => {
-    const it = scriptNamed(event.target.value);
+    const it = view.own.get(event.target.value) ?? scriptNamed(event.target.value);
     if (!it) return;
     tellFault("");
     runScript(it.text, dialsOf(it.options));
+    // In the menu an arrow would choose another script.
+    byId("slider").focus({ preventScroll: true });
   });
   byId("typing").addEventListener("submit", (event) => {
     event.preventDefault();

@@ -56,7 +56,7 @@ function blockOf(request, isNext = false) {
 }
 
 /** The device: a place for each tag, and what it gave back. */
-function deviceOf({ machine, before }, dials) {
+function deviceOf({ machine, before, isHeld }, dials) {
   const tags = range(Number(dials.tags)).map((tag) => tagOf(tag, machine.flight.get(tag), before.flight.get(tag)));
   const free = tags.filter((it) => it === null).length;
   const list = (it) => it.returned.map((of) => `seat ${of.seat} ${textOf(of.request)}`);
@@ -70,7 +70,7 @@ function deviceOf({ machine, before }, dials) {
       ? element("ol", { class: classWords("returned", hasChanged) }, returned.map((it) => element("li", {}, it)))
       : element("p", { class: classWords("none", hasChanged) }, "Nothing was given back."),
     element("h3", {}, "host"),
-    element("p", { class: classWords("words", modeOf(machine) !== modeOf(before)) }, modeOf(machine)),
+    element("p", { class: classWords("words", modeOf(machine) !== modeOf(before)) }, `${isHeld ? "held; " : ""}${modeOf(machine)}`),
   ];
 }
 
