@@ -19,7 +19,7 @@ VERSION := $(shell cat VERSION)
 PROGRAMS := bfqhost bfqctl
 BUILT := $(foreach name,$(PROGRAMS),crates/$(name)/out/$(name))
 # A tool has a name of its own where it is installed, as `step` and `export` are those of others.
-TOOLS := compare expect export futures iolog page plot step top why
+TOOLS := compare crashes expect export futures iolog page plot step top why
 SHARED := $(wildcard tools/*.py)
 # The page that tools/page puts scripts into.
 WEB := web/bfqhost.html
@@ -61,14 +61,14 @@ install:
 	$(INSTALL) -m 644 $(WEB) "$(OWN)/web"
 	set -eu; for name in $(TOOLS); do $(INSTALL) -m 755 tools/$$name "$(OWN)/tools/bfq-$$name"; done
 	set -eu; put() { $(INSTALL) -m 755 /dev/null "$(BIN)/$$2"; sed "s/@NAME@/$$2/g" packaging/$$1 > "$(BIN)/$$2"; }; \
-	for name in $(PROGRAMS); do put program $$name; done; put client bfqclient; for name in $(TOOLS); do put tool bfq-$$name; done
+	for name in $(PROGRAMS); do put program $$name; done; for name in bfqclient bfqnbd; do put client $$name; done; for name in $(TOOLS); do put tool bfq-$$name; done
 	set -eu; for page in $(PAGES); do folder="$(MAN)/man$${page##*.}"; $(INSTALL) -d "$$folder"; \
 	$(INSTALL) -m 644 /dev/null "$$folder/$${page##*/}"; sed 's/@VERSION@/$(VERSION)/g' $$page > "$$folder/$${page##*/}"; done
 	set -eu; for name in $(COMPLETIONS); do $(INSTALL) -m 644 completions/$$name "$(COMPLETION)/$$name"; done
 
 uninstall:
 	rm -rf "$(OWN)"
-	set -eu; for name in $(PROGRAMS) bfqclient $(addprefix bfq-,$(TOOLS)); do rm -f "$(BIN)/$$name"; done
+	set -eu; for name in $(PROGRAMS) bfqclient bfqnbd $(addprefix bfq-,$(TOOLS)); do rm -f "$(BIN)/$$name"; done
 	set -eu; for page in $(PAGES); do rm -f "$(MAN)/man$${page##*.}/$${page##*/}"; done
 	set -eu; for name in $(COMPLETIONS); do rm -f "$(COMPLETION)/$$name"; done
 

@@ -1,5 +1,5 @@
 #!/usr/bin/env python3
-"""A client of a host that serves (`bfqhost serve`): reads and writes its sectors over a socket.
+"""A client of a host that serves (`bfqhost serve`): reads, writes and discards its sectors over a socket.
 
     from bfqclient import Io, Session
 

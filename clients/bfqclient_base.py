@@ -22,6 +22,8 @@ MOST_SECTORS = 64
 LONGEST = 9 + MOST_SECTORS * SECTOR
 # No line that a host prints is longer: a request has at most 256 bios, of 20 digits each, and there are 256 requests.
 LONGEST_LINE = 1 << 21
+# What is said if a connection ends.
+HOST_CLOSED = "the host closed the connection"
 # How long to wait before another try to connect, where as many wait already as the system lets wait: seconds.
 AGAIN = 0.01
 FAILURES = {1: ("short", "the device ended before the range"), 2: ("fault", "the device reported a fault")}
@@ -39,8 +41,8 @@ REFUSALS: Dict[int, Tuple[str, str]] = {
     9: ("TooDeep", "groups stand at most four levels under the root"),
     10: ("GroupsFull", "there are 32 groups, the root among them, and there can be no more"),
     11: ("GroupInUse", "another group is in this group, or a session, even one that has left with a request that is not finished"),
-    12: ("BadCount", "a read or a write has 1 to 64 sectors"),
-    13: ("BadLength", "a write brings 512 bytes for each sector, and a read none; no line of a script breaks this"),
+    12: ("BadCount", "a read, a write or a discard has 1 to 64 sectors"),
+    13: ("BadLength", "a write brings 512 bytes for each sector, and a read or a discard none; no line of a script breaks this"),
     14: ("OutOfRange", "the last of these sectors is past the end of the device"),
     15: ("TooManyBios", "the session has 32 reads and writes that are not reaped; reap one first"),
     16: ("NothingOwed", "the session has no result to come: it has reaped one for each read and write, if it made any"),
@@ -48,7 +50,7 @@ REFUSALS: Dict[int, Tuple[str, str]] = {
     18: ("NoTag", "every tag bears a request in flight; one must be finished or given back first"),
     19: ("BadTag", "tags are numbered from 0, and are as many as --tags says"),
     20: ("NotInFlight", "no request is in flight under this tag and issue; perhaps it was undone or has been finished"),
-    21: ("BadOutcome", "a write is finished by stored alone, and a read by fill, short or fault"),
+    21: ("BadOutcome", "a write or a discard is finished by stored alone, and a read by fill, short or fault"),
     22: ("AlreadyFrozen", "the host is frozen already"),
     23: ("NotFrozen", "the host is not frozen; thaw and switch want a frozen host"),
     24: ("NotDrained", "a request is still queued, in flight or given back by the device"),
@@ -78,7 +80,7 @@ class ClientError(Exception):
     text      what happened, in one line
     name      its name: of a refusal that of docs/FORMATS.md, of a failed read `short` or `fault`, else that of the class
     sentence  what the name says
-    kind      what was asked: `connect`, `attach`, `read`, `write`, `reap`, `leave` or `run`; None if that is not known
+    kind      what was asked: `connect`, `attach`, `read`, `write`, `discard`, `reap`, `leave` or `run`; None if that is not known
     sectors   the sectors that it is about, as a `range`; None if there are none
     bios      the numbers of the reads and writes that it is about, as the host counts them
     also      what was refused or failed besides, in the same call
@@ -288,7 +290,7 @@ class Wire:
         except OSError as error:
             raise Lost(str(error)) from error
         if not piece:
-            raise Lost("the host closed the connection")
+            raise Lost(HOST_CLOSED)
         self.unread += piece
 
     def reply(self, until: Optional[float] = None) -> Reply:

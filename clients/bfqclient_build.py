@@ -17,10 +17,11 @@ from typing import Dict, Optional
 
 HERE = os.path.dirname(os.path.abspath(__file__))
 NAME, TAG = "bfqclient", "py3-none-any"
-# What the library is made of; its command; and what builds it.
+# What the library is made of; its command and the bridge from NBD, whose modules nobody imports; and what builds it.
 LIBRARY = [NAME, *(f"{NAME}_{part}" for part in ("base", "moments", "operator", "record", "serve", "session"))]
-COMMAND = f"{NAME}_command.py"
-SOURCES = [*(f"{module}.py" for module in LIBRARY), COMMAND, "bfqclient_build.py", "pyproject.toml"]
+COMMANDS = [f"{NAME}_command.py", "bfqnbd.py", *(f"bfqnbd_{part}.py" for part in (
+    "connection", "handshake", "host", "line", "log", "look", "requests", "session", "transmission", "watch", "wire"))]
+SOURCES = [*(f"{module}.py" for module in LIBRARY), *COMMANDS, "bfqclient_build.py", "pyproject.toml"]
 # A zip archive has no time before this one: 1980-01-01, in seconds since 1970 and by its parts.
 SECONDS, PARTS = 315_532_800, (1980, 1, 1, 0, 0, 0)
 MODE = 0o644
@@ -63,9 +64,9 @@ def build_wheel(wheel_directory: str, config_settings: Optional[Dict[str, object
     """Writes the wheel into a folder, and gives its name."""
     info = f"{stem()}.dist-info"
     texts = {**{f"{module}/__init__.py": source(f"{module}.py") for module in LIBRARY}, **{f"{module}/py.typed": "" for module in LIBRARY},
-             f"{NAME}/__main__.py": MAIN, COMMAND: source(COMMAND), f"{info}/METADATA": metadata(),
+             f"{NAME}/__main__.py": MAIN, **{name: source(name) for name in COMMANDS}, f"{info}/METADATA": metadata(),
              f"{info}/WHEEL": f"Wheel-Version: 1.0\nGenerator: {stem()}\nRoot-Is-Purelib: true\nTag: {TAG}\n",
-             f"{info}/entry_points.txt": "[console_scripts]\nbfqclient = bfqclient_command:main\n"}
+             f"{info}/entry_points.txt": "[console_scripts]\nbfqclient = bfqclient_command:main\nbfqnbd = bfqnbd:main\n"}
     files = {name: text.encode() for name, text in texts.items()}
     files[f"{info}/RECORD"] = record(files, f"{info}/RECORD")
     made = f"{stem()}-{TAG}.whl"

@@ -116,7 +116,7 @@ def flight_of(line: Line) -> List[List[str]]:
 
 
 class Stored(Moment):
-    """The device has stored a write of a sector."""
+    """The device has stored a write of a sector, or discarded it."""
 
     def __init__(self, sector: int) -> None:
         self.sector = sector
@@ -130,7 +130,7 @@ class Stored(Moment):
 
 
 def sectors_stored(line: Line, step: Step) -> range:
-    """The sectors that a `finish .. stored` stores. The machine stands before it."""
+    """The sectors that a `finish .. stored` stores, or discards. The machine stands before it."""
     words = step.line.split(" ")[1:3]
     for item in flight_of(line):
         if item[:2] == words:
@@ -207,8 +207,8 @@ def moment_of(text: str) -> Moment:
 
 
 class State(NamedTuple):
-    """The device as a crash could have left it: the step that stored a write, what that has changed, and all that is stored by then, each
-    sector by its number with its 512 bytes. What is not among it is as the image has it."""
+    """The device as a crash could have left it: the step that stored a write or a discard, what that has changed, and all that is stored
+    by then, each sector by its number with its 512 bytes: zeros if it was discarded. What is not among it is as the image has it."""
 
     step: Step
     changed: Dict[int, bytes]
@@ -229,8 +229,8 @@ class State(NamedTuple):
 
 
 def states(line: Line) -> Iterator[State]:
-    """The state of the device after each step of a line that stored a write, from the first on. At the end, or if it is left before, the
-    machine stands where it stood. Raises NotMoved."""
+    """The state of the device after each step of a line that stored a write or a discard, from the first on. At the end, or if it is left
+    before, the machine stands where it stood. Raises NotMoved."""
     origin = line.cursor
     stored: Dict[int, bytes] = {}
     moment = Stored(0)

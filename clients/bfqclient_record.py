@@ -147,7 +147,7 @@ class Record:
                 self.ask("release")
 
     def states(self, kind: str = "stored") -> Iterator[State]:
-        """The state of the device after each write that was stored, from the first step of the line on. At the end, or if it is left
+        """The state of the device after each write or discard that was stored, from the first step of the line on. At the end, or if it is left
         before, the host stands where it stood. Raises Misuse for another kind, and what `ask` raises."""
         if kind != "stored":
             raise Misuse(f"states are those after each write that is `stored`, and not {kind!r}")

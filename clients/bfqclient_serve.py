@@ -14,7 +14,7 @@ from typing import Iterator, List, Optional, Sequence
 from bfqclient_base import ClientError, Lost, Misuse, NotFound, NotServing, NotYet, Path, Refused
 from bfqclient_moments import Line, NotMoved, Serial, State, Step, moment_of, states
 from bfqclient_operator import Operator
-from bfqclient_session import Session
+from bfqclient_session import BEST_EFFORT, Session
 
 # Where the program is if nobody says: in this variable, or of this name on the path.
 VARIABLE, NAME = "BFQHOST", "bfqhost"
@@ -127,9 +127,10 @@ class Served:
         """The path of the socket of a client."""
         return os.path.join(self.folder, f"client{number}")
 
-    def session(self, number: int = 0, group: int = 0, prio: int = 4, timeout: Optional[float] = None) -> Session:
+    def session(self, number: int = 0, group: int = 0, prio: int = 4, timeout: Optional[float] = None, prio_class: str = BEST_EFFORT,
+                version: Optional[int] = None) -> Session:
         """A Session at the socket of a client."""
-        return Session(self.path(number), group, prio, timeout)
+        return Session(self.path(number), group, prio, timeout, prio_class, version)
 
     def look(self, line: str, timeout: Optional[float] = None) -> str:
         """What it answers to a look, as `Operator.look`."""
@@ -175,7 +176,7 @@ class Served:
         return False
 
     def states(self, kind: str = "stored", timeout: Optional[float] = None) -> Iterator[State]:
-        """The state of the device after each write that was stored, from the first step of the line on. The host is held meanwhile. At the
+        """The state of the device after each write or discard that was stored, from the first step of the line on. The host is held meanwhile. At the
         end, or if it is left before, the host is as it was. Raises Misuse for another kind, and what Operator raises."""
         if kind != "stored":
             raise Misuse(f"states are those after each write that is `stored`, and not {kind!r}")

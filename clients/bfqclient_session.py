@@ -1,4 +1,4 @@
-"""Sessions with a host that serves: reads and writes, one at a time or many at once."""
+"""Sessions with a host that serves: reads, writes and discards, one at a time or many at once."""
 
 from __future__ import annotations
 
@@ -7,25 +7,32 @@ import contextlib
 import struct
 from typing import Any, Callable, Deque, Dict, Generator, Iterable, Iterator, List, NamedTuple, Optional, Set, Tuple, Union
 
-from bfqclient_base import (MOST_SECTORS, SECTOR, ClientError, Ended, Failed, Lost, Misuse, Path, Refused, Reply, Undone, Wire, deadline,
-                            framed, in_range)
+from bfqclient_base import (HOST_CLOSED, MOST_SECTORS, SECTOR, ClientError, Ended, Failed, Lost, Misuse, Path, Refused, Reply, Undone, Wire,
+                            deadline, framed, in_range)
 
-# A session has at most so many reads and writes that are not reaped.
+# A session has at most so many reads, writes and discards that are not reaped.
 MOST_BIOS = 32
 # Groups are numbered 0 to 31, priorities 0 to 7, and sectors below 2^64.
 MOST_GROUP, MOST_PRIO, MOST_SECTOR = 31, 7, 2**64 - 1
 NOTHING_OWED = 16
+# The versions of the frames. The second has discards and classes.
+FIRST, SECOND = 1, 2
+# The classes of a session, and the number of each in an Attach; best effort is what an Attach without a class has.
+BEST_EFFORT = "be"
+CLASSES: Dict[str, Optional[int]] = {"rt": 1, BEST_EFFORT: None, "idle": 3}
 
 Data = Union[bytes, bytearray, memoryview]
 
 
 class Io(NamedTuple):
-    """A read or a write: its first sector, how many sectors it has (1 to 64), and the bytes of a write, 512 for each; None for a read."""
+    """A read, a write or a discard: its first sector, how many sectors it has (1 to 64), the bytes of a write, 512 for each, and whether it
+    is a discard. A read and a discard have None for bytes."""
 
     start: int
     # A tuple has a method of this name, which nobody calls here.
     count: int  # type: ignore[assignment]
     data: Optional[bytes]
+    is_discard: bool = False
 
     @classmethod
     def read(cls, start: int, count: int) -> Io:
@@ -38,10 +45,15 @@ class Io(NamedTuple):
         given = bytes(data)
         return checked(cls(start, whole_sectors(given), given))
 
+    @classmethod
+    def discard(cls, start: int, count: int) -> Io:
+        """A discard of so many sectors, which are zeros behind it. Raises Misuse if it is none that a host can take."""
+        return checked(cls(start, count, None, True))
+
     @property
     def kind(self) -> str:
-        """`read` or `write`."""
-        return "read" if self.data is None else "write"
+        """`read`, `write` or `discard`."""
+        return "discard" if self.is_discard else "read" if self.data is None else "write"
 
     @property
     def sectors(self) -> range:
@@ -62,23 +74,54 @@ def whole_sectors(data: Data) -> int:
     return size // SECTOR
 
 
-def checked(io: Io) -> Io:
-    """A read or a write as it is. Raises Misuse if it is none that a host can take."""
-    in_range("the first sector of a read or a write", io.start, 0, MOST_SECTOR)
-    in_range("the number of sectors of a read or a write", io.count, 1, MOST_SECTORS)
-    in_range("the last sector of a read or a write", io.start + io.count - 1, 0, MOST_SECTOR)
+def checked(io: Io, version: int = SECOND) -> Io:
+    """A read, a write or a discard as it is. Raises Misuse if it is none that a host can take, or the version has no frame for it."""
+    in_range(f"the first sector of a {io.kind}", io.start, 0, MOST_SECTOR)
+    in_range(f"the number of sectors of a {io.kind}", io.count, 1, MOST_SECTORS)
+    in_range(f"the last sector of a {io.kind}", io.start + io.count - 1, 0, MOST_SECTOR)
+    if io.is_discard:
+        if io.data is not None:
+            raise Misuse("a discard has no bytes")
+        has_discards(version)
     if io.data is not None and whole_sectors(io.data) != io.count:
         raise Misuse(f"a write of {io.count} sectors has {io.count * SECTOR} bytes, and not {len(io.data)}")
     return io
 
 
-def attach(group: int, prio: int) -> bytes:
+def has_discards(version: int) -> None:
+    """Raises Misuse if a version of the frames has no discard."""
+    if version < SECOND:
+        raise Misuse(f"version {version} of the frames has no discard: connect with `version=2`")
+
+
+def version_of(given: Optional[int], prio_class: str) -> int:
+    """The version of a session's frames: the given one, or else the least that has its class. Raises Misuse if there is none."""
+    if prio_class not in CLASSES:
+        raise Misuse(f"a class is {' or '.join(CLASSES)}, and not {prio_class!r}")
+    least = FIRST if CLASSES[prio_class] is None else SECOND
+    if given is None:
+        return least
+    in_range("a version of the frames", given, FIRST, SECOND)
+    if given < least:
+        raise Misuse(f"version {given} of the frames has no class {prio_class!r}: connect with `version=2`")
+    return given
+
+
+def opening(version: int) -> bytes:
+    """What a stream begins with: nothing in version 1, else the frame that tells the version."""
+    return b"" if version == FIRST else framed(0x07, "B", version)
+
+
+def attach(group: int, prio: int, prio_class: str = BEST_EFFORT) -> bytes:
     """The frame of an Attach."""
-    return framed(0x01, "BB", group, prio)
+    number = CLASSES[prio_class]
+    return framed(0x01, "BB", group, prio) if number is None else framed(0x08, "BBB", group, prio, number)
 
 
 def submit(session: int, io: Io) -> bytes:
-    """The frame of a Submit of a read, or of a write where there are bytes to be written."""
+    """The frame of a Submit of a discard, of a read, or of a write where there are bytes to be written."""
+    if io.is_discard:
+        return framed(0x06, "QQH", session, io.start, io.count)
     if io.data is None:
         return framed(0x02, "QQH", session, io.start, io.count)
     return framed(0x03, "QQH", session, io.start, io.count, rest=io.data)
@@ -90,8 +133,11 @@ def reap(session: int) -> bytes:
 
 
 LEAVE = framed(0x05)
-ATTACHED, QUEUED, READ, WRITTEN, FAILED, LEFT, REFUSED = 0x81, 0x82, 0x83, 0x84, 0x85, 0x86, 0xE0
-FORMS = {ATTACHED: "Q", QUEUED: "Q", WRITTEN: "Q", FAILED: "QB", LEFT: "", REFUSED: "B", 0xE1: "B"}
+ATTACHED, QUEUED, READ, WRITTEN, FAILED, LEFT, DISCARDED, REFUSED = 0x81, 0x82, 0x83, 0x84, 0x85, 0x86, 0x87, 0xE0
+FORMS = {ATTACHED: "Q", QUEUED: "Q", WRITTEN: "Q", FAILED: "QB", LEFT: "", DISCARDED: "Q", REFUSED: "B", 0xE1: "B"}
+# What answers a Reap.
+RESULTS = (READ, WRITTEN, DISCARDED, FAILED)
+KINDS = {"read": (READ, FAILED), "write": (WRITTEN,), "discard": (DISCARDED,)}
 
 
 def reply_of(body: bytes) -> Reply:
@@ -105,10 +151,10 @@ def reply_of(body: bytes) -> Reply:
 
 
 def result_of(reply: Reply, io: Optional[Io]) -> Optional[bytes]:
-    """What was read, or None for a write; `io` is what the reply is about, if that is known.
+    """What was read, or None for a write or a discard; `io` is what the reply is about, if that is known.
 
-    Raises Failed if the read failed, and Lost if the reply does not answer this read or write."""
-    kinds = (READ, WRITTEN, FAILED) if io is None else (READ, FAILED) if io.data is None else (WRITTEN,)
+    Raises Failed if the read failed, and Lost if the reply does not answer this read, write or discard."""
+    kinds = RESULTS if io is None else KINDS[io.kind]
     if reply.kind not in kinds or (io and reply.kind == READ and len(reply.fields[1]) != io.count * SECTOR):
         raise Lost(f"another reply than was waited for: {reply.kind:02x}")
     if reply.kind == FAILED:
@@ -117,12 +163,13 @@ def result_of(reply: Reply, io: Optional[Io]) -> Optional[bytes]:
 
 
 class Flight:
-    """The reads and writes of one run that are under way, up to `depth` of them.
+    """The reads, writes and discards of one run that are under way, up to `depth` of them.
 
     `sent` has those whose Submit is not answered yet, in their order, and `going` those that the host has queued, by their bios."""
 
-    def __init__(self, wire: Wire, session: int, dropped: Set[int], ios: Iterator[Optional[Io]], depth: int) -> None:
-        self.wire, self.session, self.dropped, self.ios, self.depth = wire, session, dropped, ios, depth
+    def __init__(self, session: Session, ios: Iterator[Optional[Io]], depth: int) -> None:
+        self.wire, self.session, self.version, self.dropped = session.wire, session.number, session.version, session.dropped
+        self.ios, self.depth = ios, depth
         self.is_open = True
         self.sent: Deque[Io] = collections.deque()
         self.going: Dict[int, Io] = {}
@@ -134,11 +181,11 @@ class Flight:
     def next_io(self) -> Optional[Io]:
         """The next that is to be sent; None if one that is under way is to end first, or there is no more.
 
-        If the caller's own iterator raises an exception, or gives what is no read or write, nothing was sent for it."""
+        If the caller's own iterator raises an exception, or gives what cannot be sent, nothing was sent for it."""
         try:
             io: Any = next(self.ios, END)
             self.is_open = io is not END
-            return checked(io) if self.is_open and io is not None else None
+            return checked(io, self.version) if self.is_open and io is not None else None
         except Exception as fault:
             self.certain = fault
             raise
@@ -190,14 +237,14 @@ class Flight:
         self.is_asked = False
         if reply.kind == REFUSED:
             raise self.refused(reply.fields[0], "reap", None, self.going)
-        if reply.kind not in (READ, WRITTEN, FAILED):
+        if reply.kind not in RESULTS:
             raise Lost(f"another reply than was waited for: {reply.kind:02x}")
         bio: int = reply.fields[0]
         if bio in self.dropped:
             self.dropped.remove(bio)
             return None
         if bio not in self.going:
-            raise Undone(f"the host told of read or write {bio}, which is not waited for: were steps undone?").about("reap", None, [bio])
+            raise Undone(f"the host told of read, write or discard {bio}, which is not waited for: were steps undone?").about("reap", None, [bio])
         io = self.going[bio]
         try:
             data = result_of(reply, io)
@@ -240,12 +287,16 @@ class Session:
 
     A `timeout` is in seconds, above 0. If it is None a call waits as long as the host lets it wait: for ever, if the host stays held."""
 
-    def __init__(self, path: Path, group: int = 0, prio: int = 4, timeout: Optional[float] = None) -> None:
-        """Connects to the socket of a client and attaches, to a group (0 to 31) with a priority (0 to 7; 0 has the greatest weight).
+    def __init__(self, path: Path, group: int = 0, prio: int = 4, timeout: Optional[float] = None, prio_class: str = BEST_EFFORT,
+                 version: Optional[int] = None) -> None:
+        """Connects to the socket of a client and attaches, to a group (0 to 31) with a priority (0 to 7; 0 has the greatest weight) and of a
+        class: `rt`, `be` or `idle`.
 
-        The time limit is for both, and for the Leave at the end of a `with`. Raises Misuse, Lost, Refused and TimedOut."""
+        Discards need version 2 of the frames. If no version is given it is 2 for another class than `be`, else 1. The time limit is for both,
+        and for the Leave at the end of a `with`. Raises Misuse, Lost, Refused and TimedOut."""
         in_range("a group", group, 0, MOST_GROUP)
         in_range("a priority", prio, 0, MOST_PRIO)
+        self.version = version_of(version, prio_class)
         until = deadline(timeout)
         self._timeout = timeout
         # Why it has ended; empty while it stands.
@@ -253,17 +304,28 @@ class Session:
         self._is_running = False
         # What `submit` has queued and `reap` has not taken yet, by its bio.
         self._owed: Dict[int, Io] = {}
-        # Reads and writes of earlier calls that could not be reaped then.
-        self._dropped: Set[int] = set()
+        # What earlier calls could not reap.
+        self.dropped: Set[int] = set()
         try:
             self.wire = Wire(path, until, reply_of)
         except ClientError as fault:
             raise fault.about("connect")
         try:
-            self.number: int = self._ask("attach", attach(group, prio), until, ATTACHED)[0]
+            self.number = self._attach(attach(group, prio, prio_class), until)
         except BaseException:
             self.wire.close()
             raise
+
+    def _attach(self, frame: bytes, until: Optional[float]) -> int:
+        """Begins the stream and attaches. Gives the number of the session."""
+        try:
+            number: int = self._ask("attach", opening(self.version) + frame, until, ATTACHED)[0]
+        except Lost as fault:
+            # A host that does not know the version ends the connection, as it does for any frame that it does not know.
+            if self.version == FIRST or not (isinstance(fault.__cause__, OSError) or fault.text == HOST_CLOSED):
+                raise
+            raise Lost(f"{fault.text}; perhaps the host does not know version {self.version} of the frames").about("attach") from fault
+        return number
 
     def __enter__(self) -> Session:
         return self
@@ -338,10 +400,10 @@ class Session:
             return self._expect(until, *kinds).fields
 
     def submit(self, io: Io, timeout: Optional[float] = None) -> int:
-        """Queues a read or a write, and gives its number at the host, the bio. Its result is taken by `reap`.
+        """Queues a read, a write or a discard, and gives its number at the host, the bio. Its result is taken by `reap`.
 
         Raises Misuse, Refused, Lost and TimedOut."""
-        checked(io)
+        checked(io, self.version)
         until = deadline(timeout)
         with self._one_call(io.kind, io.sectors):
             self.wire.send(submit(self.number, io))
@@ -350,7 +412,7 @@ class Session:
         return bio
 
     def reap(self, timeout: Optional[float] = None) -> Tuple[int, Optional[bytes]]:
-        """Waits for a read or write of `submit` that is done. Gives its bio, and the bytes that were read, or None for a write.
+        """Waits for one of `submit` that is done. Gives its bio, and the bytes that were read, or None for a write or a discard.
 
         After steps were undone it may be one that was reaped before. Raises Refused (16 if none is to come), Failed, Lost and TimedOut."""
         until = deadline(timeout)
@@ -359,23 +421,23 @@ class Session:
                 self.wire.send(reap(self.number))
                 reply = self._reaped(until)
                 bio: int = reply.fields[0]
-                if bio in self._dropped:
-                    self._dropped.remove(bio)
+                if bio in self.dropped:
+                    self.dropped.remove(bio)
                     continue
                 return bio, result_of(reply, self._owed.pop(bio, None))
 
     def _reaped(self, until: Optional[float]) -> Reply:
         """The answer to a Reap."""
         try:
-            return self._expect(until, READ, WRITTEN, FAILED)
+            return self._expect(until, *RESULTS)
         except Refused as fault:
             if fault.code == NOTHING_OWED:
                 self._owed.clear()
             raise
 
     def run(self, ios: Iterable[Optional[Io]], depth: int = MOST_BIOS, timeout: Optional[float] = None) -> Results:
-        """Does reads and writes, up to `depth` at a time (1 to 32). Gives three values for each, in the order in which they end: its bio,
-        the read or write itself, and the bytes that were read, or None for a write.
+        """Does reads, writes and discards, up to `depth` at a time (1 to 32). Gives three values for each, in the order in which they end:
+        its bio, the read, write or discard itself, and the bytes that were read, or None.
 
         If the next of `ios` is None, one that is under way is to end first. Each result must come within the time limit. If the run is left
         before its end the session has ended. Raises Misuse, Refused, Failed, Lost, Undone and TimedOut, and what `ios` raises."""
@@ -391,7 +453,7 @@ class Session:
         if self._owed:
             raise Misuse(f"{len(self._owed)} reads and writes of `submit` are not reaped: reap them first")
         self._is_running = True
-        flight = Flight(self.wire, self.number, self._dropped, ios, depth)
+        flight = Flight(self, ios, depth)
         try:
             while flight.fill():
                 yield flight.next_result(until())
@@ -442,12 +504,36 @@ class Session:
         with contextlib.closing(self._results(ios, MOST_BIOS, lambda: until, "write", sectors)) as results:
             collections.deque(results, 0)
 
+    def discard(self, start: int, count: int, timeout: Optional[float] = None) -> None:
+        """Discards `count` sectors from the sector `start` on: they are zeros then. The session must be of version 2.
+
+        They are discarded by 64: the last ones first and alone, so that sectors past the end of the device are refused before any is
+        discarded, and then up to 32 of these discards at a time. If it raises another exception some of them may be done. For 0 sectors
+        nothing is asked. Raises Misuse, Refused, Lost, Undone and TimedOut."""
+        self._stands()
+        has_discards(self.version)
+        sectors = span(start, count)
+        until = deadline(timeout)
+        for part in last_first(sectors):
+            ios = (io._replace(is_discard=True) for io in pieces(part))
+            with contextlib.closing(self._results(ios, MOST_BIOS, lambda: until, "discard", sectors)) as results:
+                collections.deque(results, 0)
+
 
 def span(start: int, count: int) -> range:
     """The numbers of so many sectors. Raises Misuse if there are no such sectors on any device."""
     in_range("the first sector", start, 0, MOST_SECTOR)
     in_range("the number of sectors", count, 0, MOST_SECTOR + 1 - start)
     return range(start, start + count)
+
+
+def last_first(sectors: range) -> Iterator[range]:
+    """The sectors of the last piece, and then those before it, if there are any."""
+    last = sectors.stop - ((sectors.stop - sectors.start - 1) % MOST_SECTORS + 1)
+    if sectors.start < sectors.stop:
+        yield range(last, sectors.stop)
+    if sectors.start < last:
+        yield range(sectors.start, last)
 
 
 def pieces(sectors: range) -> Iterator[Io]:

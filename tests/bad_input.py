@@ -63,7 +63,10 @@ BAD_LINES = [
     bad_line(name, line)
     for name, line in [
         ("unknown word", b"submit 0 1 0 1"),
-        ("a line that is not there yet", b"discard 0 1 0 1"),
+        ("a line that is not there yet", b"flush 0 1"),
+        ("a discard with a byte", b"discard 0 1 0 1 0"),
+        ("a discard of no count", b"discard 0 1 0"),
+        ("count of a discard past u16", b"discard 0 1 0 65536"),
         ("capital letter", b"Dispatch"),
         ("part of a word", b"dispatc"),
         ("a word and more", b"dispatched"),

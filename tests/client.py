@@ -18,9 +18,9 @@ import threading
 TOP = os.path.dirname(os.path.dirname(os.path.abspath(__file__)))
 sys.path.insert(0, os.path.join(TOP, "clients"))
 sys.dont_write_bytecode = True
-from bfqclient import (ClientError, Ended, Failed, Io, Lost, Misuse, Refused, Session, TimedOut, Undone)  # noqa: E402
-from served import (ATTACH, DONE, HOLD, LEAVE, LEFT, RELEASE, SECONDS, SECTOR, Served, Wrong, attached, fetch, image_of,  # noqa: E402
-                    moved, queued, read, reap, redo, same, sector_of, store, undo, written)
+from bfqclient import (ClientError, Ended, Failed, Io, Lost, Misuse, Operator, Refused, Session, TimedOut, Undone)  # noqa: E402
+from served import (ATTACH, DONE, HOLD, LEAVE, LEFT, RELEASE, SECONDS, SECTOR, VERSION, Served, Wrong, attached, discard,  # noqa: E402
+                    discarded, fetch, image_of, moved, queued, read, reap, redo, same, sector_of, store, undo, written)
 
 # The sectors of the image.
 SECTORS = 512
@@ -57,7 +57,7 @@ def goes_on(session, *sectors):
 def has_ended(session, why):
     """Each use of the session says that it has ended, and why."""
     for use in (lambda: session.read(0, 1), lambda: session.write(0, bytes(SECTOR)), lambda: next(session.run([Io.read(0, 1)])),
-                lambda: session.submit(Io.read(0, 1)), session.reap):
+                lambda: session.submit(Io.read(0, 1)), session.reap, lambda: session.discard(0, 1)):
         with raises(Ended, sentence=f"the session has ended: {why}"):
             use()
     # Whoever leaves its block need not know.
@@ -283,10 +283,10 @@ def time_limits(host):
     """A call that waits longer than it may ends the session, also where it waits for other replies after a fault."""
     acts = [("read", lambda it: it.read(5, 200, timeout=SOON)), ("write", lambda it: it.write(5, bytes(SECTOR), timeout=SOON)),
             ("run", lambda it: list(it.run([Io.read(0, 1)], timeout=SOON))), ("read", lambda it: it.submit(Io.read(0, 1), timeout=SOON)),
-            ("reap", lambda it: it.reap(timeout=SOON))]
+            ("reap", lambda it: it.reap(timeout=SOON)), ("discard", lambda it: it.discard(5, 200, timeout=SOON))]
     with host.operator() as operator:
         for number, (kind, act) in enumerate(acts):
-            with host.session(number) as session:
+            with host.session(number, version=2 if kind == "discard" else None) as session:
                 hold(operator)
                 with raises(TimedOut, kind=kind, text=PASSED):
                     act(session)
@@ -316,7 +316,7 @@ def undone(host):
         operator.asks((HOLD, moved(5, 5)), (undo(1), moved(4, 5)), (RELEASE, DONE))
         with raises(Undone, bios=(2,), kind="reap"):
             next(run)
-        has_ended(session, "the host told of read or write 2, which is not waited for: were steps undone?")
+        has_ended(session, "the host told of read, write or discard 2, which is not waited for: were steps undone?")
     host.stop()
 
 
@@ -369,24 +369,74 @@ def attach_undone(host):
     host.stop()
 
 
+def discards(host):
+    """What is discarded is zeros, and its neighbours are as they were; also of many sectors, and among reads and writes."""
+    with host.session(version=2) as session:
+        session.write(4, 4 * SECTOR * b"w")
+        same("a discard", session.discard(5, 2), None)
+        same("sectors 4 to 7", session.read(4, 4), SECTOR * b"w" + bytes(2 * SECTOR) + SECTOR * b"w")
+        session.discard(100, 200)
+        same("sectors 99 to 300", session.read(99, 202), sector_of(99) + bytes(200 * SECTOR) + sector_of(300))
+        bio = session.submit(Io.discard(400, 1))
+        same("a reap of a discard", session.reap(), (bio, None))
+        ios = [Io.discard(0, 1), Io.write(1, SECTOR * b"x"), Io.read(4, 1), Io.discard(2, 64)]
+        found = {io: data for _, io, data in session.run(ios, 4)}
+        same("a run", found, {ios[0]: None, ios[1]: None, ios[2]: SECTOR * b"w", ios[3]: None})
+        same("sectors 0 to 2", session.read(0, 3), bytes(SECTOR) + SECTOR * b"x" + bytes(SECTOR))
+        # The last piece of 64 sectors and less is the first that is asked for, so nothing is discarded.
+        with raises(Refused, code=OUT_OF_RANGE, kind="discard", sectors=range(593, 600)):
+            session.discard(401, 199)
+        same("what is there still", session.read(401, 64), b"".join(map(sector_of, range(401, 465))))
+    host.stop()
+
+
+def discard_undone(host):
+    """An undo of a discard gives the bytes from before it back; a redo makes zeros of them."""
+    with host.session(version=2) as session, host.operator() as operator:
+        session.write(5, SECTOR * b"a")
+        session.discard(5, 1)
+        # Attach; then Submit, Dispatch, Finish and Reap of both.
+        operator.asks((HOLD, moved(9, 9)), (undo(4), moved(5, 9)), (redo(4), moved(9, 9)), (RELEASE, DONE))
+        same("redone", session.read(5, 1), bytes(SECTOR))
+        operator.asks((HOLD, moved(13, 13)), (undo(8), moved(5, 13)), (RELEASE, DONE))
+        same("undone", session.read(5, 2), SECTOR * b"a" + sector_of(6))
+    host.stop()
+
+
+def classes(host):
+    """The class of a session is seen by a look, with its group and priority; and each class reads and writes."""
+    look = Operator(host.folder).look
+    with host.operator() as operator:
+        operator.asks(("00000004 11 00 0064", "91 01"))
+    for number, (group, prio, name) in enumerate([(0, 4, "rt"), (1, 7, "idle"), (1, 0, "be"), (0, 3, "be")]):
+        with host.session(number, group=group, prio=prio, prio_class=name, version=2 if number == 2 else None) as session:
+            same(f"the class at seat {number}", look(f"class {number}"), f"class {number} {name}")
+            same(f"seat {number}", look(f"show seat {number}").split()[3:5], [str(group), str(prio)])
+            items = [item for item in look(f"show tree {group}").split()[4:] if item.startswith(f"{number}:")]
+            same(f"the ends of {items}", [item.split(":")[6:] for item in items], [[] if name == "be" else [name]])
+            session.write(number, SECTOR * b"c")
+            same("a read", session.read(number, 1), SECTOR * b"c")
+    host.stop()
+
+
 # What is done with a host.
 DONE_WITH = [refused_then_good, across_the_end, failed_then_good, one_by_one, left_run, own_iterator, interrupt, no_time, time_limits,
-             undone, undone_while_drained, undone_and_redone, undone_while_waited_for, attach_undone]
+             undone, undone_while_drained, undone_and_redone, undone_while_waited_for, attach_undone, discards, discard_undone, classes]
 
 
 class Played(threading.Thread):
     """A host that the test plays, for one client whose session has number 1: it reads some frames, and then sends some bytes, by turns.
-    Then it waits for the client's end, or ends first."""
+    Then it waits for the client's end, or ends first. The client begins with `begins`, and its session has these options."""
 
-    def __init__(self, folder, *turns, ends=False):
+    def __init__(self, folder, *turns, ends=False, begins=ATTACH, **options):
         super().__init__(daemon=True)
         self.path = os.path.join(folder, "played")
         self.listener = socket.socket(socket.AF_UNIX)
         self.listener.bind(self.path)
         self.listener.listen()
         self.listener.settimeout(SECONDS)
-        self.turns = [(ATTACH, framed(attached(1))), *turns]
-        self.ends = ends
+        self.turns = [(begins, framed(attached(1))), *turns]
+        self.ends, self.options = ends, options
         self.fault = None
 
     def run(self):
@@ -405,7 +455,7 @@ class Played(threading.Thread):
 
     def __enter__(self):
         self.start()
-        return Session(self.path)
+        return Session(self.path, **self.options)
 
     def __exit__(self, kind, *_):
         self.join(SECONDS)
@@ -444,13 +494,14 @@ def other_replies(folder):
             (framed(read(2, sector_of(0)), queued(2)), another("83")), (framed(queued(2), attached(2)), another("81")),
             (framed(queued(2), LEFT), another("86")), (framed(queued(2), "e1 29"), another("e1")),
             (framed(queued(2), read(2, bytes(2 * SECTOR))), another("83")), (framed(queued(2), "92"), "no frame for a client: 92"),
+            (framed(queued(2), discarded(2)), another("87")), (framed(queued(2), "87 00"), "no frame for a client: 8700"),
             (framed(queued(2), "83 00"), "no frame for a client: 8300"), (framed(queued(2)) + "00000000", "no frame: its length is 0"),
             (framed(queued(2)) + "00008010", "no frame: its length is 32784")]:
         with Played(folder, (fetch(1, 0, 1) + reap(1), answer)) as session:
             with raises(Lost, kind="read", sectors=range(1), text=why):
                 session.read(0, 1)
             has_ended(session, why)
-    for answer in (read(2, bytes(SECTOR)), "85 0000000000000002 01"):
+    for answer in (read(2, bytes(SECTOR)), discarded(2), "85 0000000000000002 01"):
         with Played(folder, (store(1, 0, 1, 7) + reap(1), framed(queued(2), answer))) as session:
             with raises(Lost, kind="write", sectors=range(1)):
                 session.write(0, SECTOR * bytes([7]))
@@ -503,6 +554,114 @@ def no_reap(folder):
             with raises(Refused, code=code, kind="reap", bios=(2,)):
                 session.read(0, 1)
             same("the next read", session.read(1, 1), sector_of(1))
+
+
+def discarded_before(folder):
+    """A discard that is told again, after steps were undone, is nobody's. Its bytes are not there, as those of a write."""
+    with Played(folder, (reap(1), framed(discarded(2))), (reap(1), framed(written(3))), (LEAVE, framed(LEFT))) as session, session:
+        same("reaps", (session.reap(), session.reap()), ((2, None), (3, None)))
+    with Played(folder, (fetch(1, 0, 1) + reap(1), framed(queued(5), discarded(2)))) as session:
+        with raises(Undone, kind="reap", bios=(2,)):
+            session.read(0, 1)
+
+
+# What a client of version 1 sends for a read of sectors 4 and 5, a write of sector 6, and at its end.
+ONE_READ = "00000013 02 0000000000000001 0000000000000004 0002 00000009 04 0000000000000001"
+ONE_WRITE = "00000213 03 0000000000000001 0000000000000006 0001" + 512 * "77" + "00000009 04 0000000000000001"
+ONE_END = "00000001 05"
+
+
+def version_1(folder):
+    """Whoever asks for no discard and no class sends what version 1 has, and not one byte more."""
+    for begins, options in (("00000003 01 00 04", {}), ("00000003 01 00 04", {"version": 1}), ("00000003 01 1f 07", {"group": 31, "prio": 7}),
+                            ("00000003 01 02 00", {"group": 2, "prio": 0, "prio_class": "be", "version": 1})):
+        turns = [(ONE_READ, framed(queued(2), read(2, bytes(2 * SECTOR)))), (ONE_WRITE, framed(queued(3), written(3))), (ONE_END, framed(LEFT))]
+        with Played(folder, *turns, begins=begins, **options) as session, session:
+            same("the version", session.version, 1)
+            same("a read", session.read(4, 2), bytes(2 * SECTOR))
+            session.write(6, SECTOR * b"w")
+
+
+def version_2(folder):
+    """Its stream begins with a frame of its own. A discard is answered by 87 alone."""
+    begins = "00000002 07 02 00000003 01 00 04"
+    one, two = "00000013 06 0000000000000001 0000000000000005 0040", "00000013 06 0000000000000001 0000000000000045 0024"
+    turns = [(ONE_READ, framed(queued(2), read(2, bytes(2 * SECTOR)))), (ONE_WRITE, framed(queued(3), written(3))),
+             (two + reap(1), framed(queued(4), discarded(4))), (one + reap(1), framed(queued(5), discarded(5))),
+             (discard(1, 2**64 - 1, 1), framed(queued(6))), (reap(1), framed(discarded(6))), (ONE_END, framed(LEFT))]
+    with Played(folder, *turns, begins=begins, version=2) as session, session:
+        same("the version", session.version, 2)
+        same("a read", session.read(4, 2), bytes(2 * SECTOR))
+        session.write(6, SECTOR * b"w")
+        session.discard(5, 100)
+        same("a bio", session.submit(Io.discard(2**64 - 1, 1)), 6)
+        same("a reap", session.reap(), (6, None))
+    for answer in (written(2), read(2, bytes(SECTOR)), "85 0000000000000002 01"):
+        with Played(folder, (discard(1, 0, 1) + reap(1), framed(queued(2), answer)), begins=begins, version=2) as session:
+            with raises(Lost, kind="discard", sectors=range(1)):
+                session.discard(0, 1)
+            has_ended(session, another(answer[:2]))
+
+
+def classes_are_version_2(folder):
+    """A class other than best effort has an Attach of its own, and means version 2."""
+    for begins, options in (("00000004 08 00 04 01", {"prio_class": "rt"}), ("00000004 08 02 07 03", {"prio_class": "idle", "group": 2, "prio": 7}),
+                            ("00000004 08 1f 00 01", {"prio_class": "rt", "group": 31, "prio": 0, "version": 2})):
+        with Played(folder, (LEAVE, framed(LEFT)), begins=VERSION + begins, **options) as session, session:
+            same("the version", session.version, 2)
+
+
+def no_discard_in_version_1(folder):
+    """Then nothing is sent, and the session goes on. A class that the version does not have is refused before anything is connected."""
+    text = "version 1 of the frames has no discard: connect with `version=2`"
+    with Played(folder, (fetch(1, 0, 1) + reap(1), framed(queued(2), read(2, bytes(SECTOR)))), (LEAVE, framed(LEFT))) as session, session:
+        for use in (lambda: session.discard(0, 1), lambda: session.discard(0, 0), lambda: session.submit(Io.discard(0, 1)),
+                    lambda: list(session.run([Io.discard(0, 1)]))):
+            with raises(Misuse, text=text):
+                use()
+        same("a read", session.read(0, 1), bytes(SECTOR))
+    none = os.path.join(folder, "none")
+    for name in ("rt", "idle"):
+        with raises(Misuse, text=f"version 1 of the frames has no class {name!r}: connect with `version=2`"):
+            Session(none, prio_class=name, version=1)
+    for use in (lambda: Session(none, version=0), lambda: Session(none, version=3), lambda: Session(none, prio_class="best"),
+                lambda: Session(none, prio_class=None), lambda: Io.discard(0, 65), lambda: Io.discard(0, 0), lambda: Io.discard(-1, 1),
+                lambda: Io.discard(2**64 - 1, 2)):
+        with raises(Misuse):
+            use()
+    with Played(folder, (LEAVE, framed(LEFT)), begins=VERSION + ATTACH, version=2) as session, session:
+        for use in (lambda: session.discard(-1, 1), lambda: session.discard(0, -1), lambda: session.discard(2**64 - 1, 2),
+                    lambda: session.submit(Io(0, 1, bytes(SECTOR), True)), lambda: session.submit(Io(0, 1, b"", True))):
+            with raises(Misuse):
+                use()
+        with raises(TypeError):
+            session.discard(0.5, 1)
+        same("no sectors", session.discard(5, 0), None)
+
+
+def older_host(folder):
+    """A host that ends the connection at the frame of the version may not know it, and that is told. Of version 1 nothing is guessed."""
+    closed, perhaps = "the host closed the connection", "; perhaps the host does not know version 2 of the frames"
+    host = Played(folder, ends=True, version=2)
+    host.turns = [(VERSION + ATTACH, "")]
+    with raises(Lost, kind="attach", text=closed + perhaps), host:
+        pass
+    # If bytes were not read the system says more than that it has ended.
+    os.unlink(host.path)
+    host = Played(folder, ends=True, prio_class="idle")
+    host.turns = [(VERSION, "")]
+    try:
+        with host:
+            raise Wrong("it attached")
+    except Lost as fault:
+        same("the end of the text", fault.text.endswith(perhaps), True)
+    os.unlink(host.path)
+    for turns, version, text in (([(ATTACH, "")], 1, closed), ([(VERSION + ATTACH, framed(queued(1)))], 2, another("82"))):
+        host = Played(folder, ends=True, version=version)
+        host.turns = turns
+        with raises(Lost, kind="attach", text=text), host:
+            pass
+        os.unlink(host.path)
 
 
 def many_faults(folder):
@@ -577,7 +736,8 @@ def exceptions(_):
 
 
 # What is done in a folder, most of it with a host that is played.
-PLAYED = [other_replies, other_replies_to_one_call, connection_ends, no_reap, many_faults, nothing_is_sent, no_connection, exceptions]
+PLAYED = [other_replies, other_replies_to_one_call, connection_ends, no_reap, discarded_before, version_1, version_2, classes_are_version_2,
+          no_discard_in_version_1, older_host, many_faults, nothing_is_sent, no_connection, exceptions]
 
 
 def with_host(program, act, folder):

@@ -17,7 +17,7 @@ import threading
 
 from client import SECTORS, Host, taken
 from lessons import DIFFERS, PATH, Shell, plain
-from served import ATTACH, HOLD, RELEASE, SECONDS, SECTOR, Wrong, same, sector_of
+from served import ATTACH, HOLD, RELEASE, SECONDS, SECTOR, VERSION, Wrong, same, sector_of
 
 TOP = os.path.dirname(os.path.dirname(os.path.abspath(__file__)))
 COMMAND = os.path.join(TOP, "clients", "bfqclient.py")
@@ -51,20 +51,23 @@ def ends_as_it_should(host):
          (b"", "bfqclient: a write has whole sectors of 512 bytes\n", NOT_DONE))
     same("no group", command(path, "read", "4", "1", before=("--group", "3")), (b"", "bfqclient: refused 5\n", NOT_DONE))
     same("no priority", command(path, "read", "4", "1", before=("--prio", "8"))[2], NOT_DONE)
-    for words in (("read", str(2**64), "1"), ("write", str(2**64))):
+    for words in (("read", str(2**64), "1"), ("write", str(2**64)), ("discard", str(2**64), "1")):
         same(" ".join(words), command(path, *words), (b"", "bfqclient: a number does not fit its field\n", BAD_WORDS))
     for option in ("--group", "--prio"):
         same(option, command(path, "read", "4", "1", before=(option, "256")),
              (b"", "bfqclient: a number does not fit its field\n", BAD_WORDS))
+    load = ("load", "--sectors", "64")
     for words in ((), ("read",), ("read", "1"), ("read", "-1", "1"), ("read", "x", "1"), ("erase",), ("load",), ("load", "--sectors", "7"),
-                  ("load", "--sectors", "64", "--depth", "33"), ("load", "--sectors", "64", "--size", "65"), ("check",)):
+                  (*load, "--depth", "33"), (*load, "--size", "65"), ("check",), ("discard",), ("discard", "1"), ("discard", "1", "x"),
+                  (*load, "--discards", "101"), (*load, "--discards", "-1"), (*load, "--writes", "60", "--discards", "41")):
         same(" ".join(words), command(path, *words)[::2], (b"", BAD_WORDS))
+    same("no class", command(path, "read", "4", "1", before=("--class", "best"))[::2], (b"", BAD_WORDS))
     same("no image", command(path, "check", "--image", "/nowhere")[::2], (b"", BAD_WORDS))
     same("nobody there", command(host.path("none"), "read", "4", "1")[::2], (b"", NO_CONNECTION))
-    for words in (["--help"], *(["x", name, "--help"] for name in ("read", "write", "load", "check"))):
+    for words in (["--help"], *(["x", name, "--help"] for name in ("read", "write", "discard", "load", "check"))):
         stdout, stderr, status = command(*words)
         same(f"the help of {words}", (stdout.startswith(b"usage: bfqclient.py"), stderr, status), (True, "", DONE))
-    for name in ("depth", "seconds", "size", "seed", "sectors", "writes", "json"):
+    for name in ("depth", "seconds", "size", "seed", "sectors", "writes", "discards", "json"):
         same(f"--{name} in the help", f"--{name}" in command("x", "load", "--help")[0].decode(), True)
     host.stop()
 
@@ -83,6 +86,55 @@ def loads_and_checks(host):
     stdout, stderr, status = command(path, "check", "--image", host.image, "--depth", "8", "--seconds", "0.5")
     same("a check", (re.fullmatch(r"\d+ done, all as they should be\n", stdout.decode()) is not None, stderr, status), (True, "", DONE))
     host.stop()
+
+
+def discards(host):
+    """The command `discard`, and shares of discards in a load and in a check, which knows the zeros."""
+    path = host.path("client0")
+    same("a discard", command(path, "discard", "5", "100"), (b"", "", DONE))
+    same("a read", command(path, "read", "4", "102"), (sector_of(4) + bytes(100 * SECTOR) + sector_of(105), "", DONE))
+    same("a discard of nothing", command(path, "discard", "4", "0"), (b"", "", DONE))
+    same("a discard across the end", command(path, "discard", str(SECTORS - 1), "2"), (b"", "bfqclient: refused 14\n", NOT_DONE))
+    same("what was before the end", command(path, "read", str(SECTORS - 1), "1"), (sector_of(SECTORS - 1), "", DONE))
+    stdout, stderr, status = command(path, "load", "--depth", "4", "--seconds", "1", "--sectors", "64", "--writes", "30", "--discards", "40",
+                                     "--seed", "3", "--json")
+    told = json.loads(stdout)
+    same("a load", (stderr, status, told["error"], told["reads"] + told["writes"] + told["discards"]), ("", DONE, None, told["done"]))
+    same("whether all are there", min(told[it] for it in ("reads", "writes", "discards")) > 0, True)
+    for share in ("20", "100"):
+        stdout, stderr, status = command(path, "check", "--image", host.image, "--depth", "8", "--seconds", "1", "--discards", share)
+        same("a check", (re.fullmatch(r"\d+ done, all as they should be\n", stdout.decode()) is not None, stderr, status), (True, "", DONE))
+    host.stop()
+
+
+def versions(folder):
+    """Version 2 is used for a discard and for a class other than best effort alone."""
+    path = os.path.join(folder, "client0")
+    rt, idle, best = "00000004 08 00 04 01", "00000004 08 00 04 03", ATTACH
+    image = os.path.join(folder, "image")
+    with open(image, "wb") as file:
+        file.write(bytes(64 * SECTOR))
+    load, check = ("load", "--sectors", "64"), ("check", "--image", image)
+    for before, words, begins in [((), ("read", "0", "1"), best), (("--class", "be"), ("write", "0"), best), ((), load, best),
+                                  ((), (*load, "--discards", "0"), best), ((), check, best), ((), ("discard", "0", "1"), VERSION + best),
+                                  ((), (*load, "--discards", "1"), VERSION + best), ((), (*check, "--discards", "50"), VERSION + best),
+                                  (("--class", "rt"), ("read", "0", "1"), VERSION + rt),
+                                  (("--class", "idle"), ("discard", "0", "1"), VERSION + idle)]:
+        with socket.socket(socket.AF_UNIX) as listener:
+            listener.bind(path)
+            listener.listen()
+            listener.settimeout(SECONDS)
+            with subprocess.Popen([sys.executable, COMMAND, *before, path, *words], stdin=subprocess.DEVNULL, stdout=subprocess.PIPE,
+                                  stderr=subprocess.PIPE, env=PLAIN) as process:
+                connection, _ = listener.accept()
+                with connection:
+                    connection.settimeout(SECONDS)
+                    wanted = bytes.fromhex(begins)
+                    same(f"what {before + words} begins with", taken(connection, len(wanted)).hex(), wanted.hex())
+                said = process.communicate(timeout=SECONDS)[1].decode()
+        hint = "; perhaps the host does not know version 2 of the frames" if begins != best else ""
+        same("the end", (said, process.returncode), (f"bfqclient: the host closed the connection{hint}\n", NO_CONNECTION))
+        os.unlink(path)
 
 
 class Answers(threading.Thread):
@@ -114,7 +166,7 @@ def counts_survive(folder):
     Answers(path).start()
     stdout, stderr, status = command(path, "load", "--sectors", "64", "--seconds", str(SECONDS), "--json")
     told = json.loads(stdout)
-    same("what is counted", [told[it] for it in ("done", "reads", "writes")], [ANSWERED, ANSWERED, 0])
+    same("what is counted", [told[it] for it in ("done", "reads", "writes", "discards")], [ANSWERED, ANSWERED, 0, 0])
     same("the error", [told["error"][it] for it in ("exception", "text", "kind", "code")],
          ["Lost", "the host closed the connection", "run", None])
     same("the end", (stderr, status), ("bfqclient: the host closed the connection\n", NO_CONNECTION))
@@ -204,8 +256,8 @@ def command_runs(program, operator):
             act(host)
 
     runs = [(act.__name__, lambda folder, act=act: with_host(act, folder))
-            for act in (ends_as_it_should, loads_and_checks, interrupted, at_a_terminal)]
-    runs += [("counts_survive", counts_survive), ("docs/CLIENT.md", lambda folder: shown_on_the_page((program, operator), folder))]
+            for act in (ends_as_it_should, loads_and_checks, discards, interrupted, at_a_terminal)]
+    runs += [("versions", versions), ("counts_survive", counts_survive), ("docs/CLIENT.md", lambda folder: shown_on_the_page((program, operator), folder))]
     for name, run in runs:
         folder = tempfile.mkdtemp(prefix="bfq-")
         try:

@@ -156,6 +156,7 @@ def installs(folder):
         for words in ([os.path.join(folder, "venv", "bin", "bfqclient")], [python, "-m", "bfqclient"]):
             same("the command", run([*words, "--version"], folder), f"bfqclient {bfqclient.__version__}\n")
             found.append(run([*words, "x", "load", "--help"], folder))
+        same("the bridge", run([os.path.join(folder, "venv", "bin", "bfqnbd"), "--version"], folder), f"bfqnbd {bfqclient.__version__}\n")
         run([python, "-m", "pip", "uninstall", "--quiet", "--yes", "bfqclient"], folder, env=bare)
         same("what is left", subprocess.run([python, "-c", "import bfqclient"], cwd=folder, capture_output=True, check=False).returncode, 1)
     same("the help", len({text.split("\n\n", 1)[1] for text in found}), 1)

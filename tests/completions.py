@@ -1,4 +1,4 @@
-"""What bash completes after some words of bfqhost, bfqctl and bfqclient: the words are those of their helps."""
+"""What bash completes after some words of bfqhost, bfqctl, bfqclient and bfqnbd: the words are those of their helps."""
 
 import os
 import re
@@ -40,9 +40,20 @@ VALUES = [
     (["bfqclient", "--group", "1", "d"], {"disk.img", "dir"}),
     (["bfqclient", "--group", "=", "1", "dir/client0", "l"], {"load"}),
     (["bfqclient", "--prio", ""], set()),
+    (["bfqclient", "--class", ""], {"rt", "be", "idle"}),
+    (["bfqclient", "--class", "=", "i"], {"idle"}),
+    (["bfqclient", "--class", "rt", "dir/client0", "dis"], {"discard"}),
+    (["bfqclient", "dir/client0", "load", "--discards", ""], set()),
     (["bfqclient", "dir/client0", "load", "--depth", ""], set()),
     (["bfqclient", "dir/client0", "check", "--image", "di"], {"disk.img", "dir"}),
     (["bfqclient", "dir/client0", "read", "5", "--h"], {"--help"}),
+    (["bfqnbd", "--dir", "d"], {"dir"}),
+    (["bfqnbd", "--image", "=", "d"], {"disk.img", "dir"}),
+    (["bfqnbd", "--socket", "t"], {"two words"}),
+    (["bfqnbd", "--after-undo", ""], {"drop", "keep"}),
+    (["bfqnbd", "--after-undo", "=", "k"], {"keep"}),
+    (["bfqnbd", "--depth", ""], set()),
+    (["bfqnbd", "--read-only", "--s"], {"--socket", "--seats"}),
 ]
 
 
@@ -103,13 +114,18 @@ def of_bfqclient(folder):
     """The commands, and the options of each."""
     client = [sys.executable, TOP / "clients" / "bfqclient.py"]
     text = help_of(*client)
-    commands = {"read", "write", "load", "check"}
+    commands = {"read", "write", "discard", "load", "check"}
     yield from (f"the help has no {command}" for command in commands if not re.search(rf"(?m)^ +{command} |PATH {command} ", text))
     yield from differences(["bfqclient", "-"], folder, options_in(text) | HELP)
     yield from differences(["bfqclient", "dir/client0", ""], folder, commands | (options_in(text) | HELP) - ALONE)
     for command in sorted(commands):
         wanted = options_in(help_of(*client, "dir/client0", command)) | HELP
         yield from differences(["bfqclient", "dir/client0", command, "-"], folder, wanted)
+
+
+def of_bfqnbd(folder):
+    """The options."""
+    yield from differences(["bfqnbd", ""], folder, options_in(help_of(sys.executable, TOP / "clients" / "bfqnbd.py")) | HELP)
 
 
 def of_values(folder):
@@ -125,7 +141,7 @@ def completion_runs(program, operator):
         Path(folder, "two words").touch()
         Path(folder, "dir").mkdir()
         looks = {"bfqhost": of_bfqhost(program, folder), "bfqctl": of_bfqctl(operator, folder), "bfqclient": of_bfqclient(folder),
-                 "values": of_values(folder)}
+                 "bfqnbd": of_bfqnbd(folder), "values": of_values(folder)}
         for name, look in looks.items():
             faults = []
             try:

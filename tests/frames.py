@@ -2,7 +2,8 @@
 
 The files of tests/frames have bytes, each with what is read of them. They were written by hand, or by a program of another language that
 knows the format alone. A value that is read must have these bytes as its frame. Streams of the frames of each side are cut at every byte,
-and come byte by byte: the values that come must be those of the frames, whatever the pieces.
+and come byte by byte: the values that come must be those of the frames, whatever the pieces. A client's are in both versions, `client2` is
+version 2; a client's stream says its own.
 """
 
 import os
@@ -13,18 +14,20 @@ from benches import builds
 TOP = os.path.dirname(os.path.dirname(os.path.abspath(__file__)))
 SECONDS = 120
 # How many rows each side's file has, so that one that is cut short is told.
-ROWS = {"client": 28, "operator": 49, "host": 56}
+ROWS = {"client": 34, "client2": 47, "operator": 49, "host": 61}
 
 SEVEN, SEVENS = "07", "\\x07"
 READ = 'Host(Answer(Accepted(Completed {{ bio: {}, result: Read(b"{}") }})))'
 STORE = 'Client(Submit {{ session: 1, op: Store, range: Range {{ start: 4, count: 64 }}, payload: b"{}" }})'
-# The longest store, the shortest and the longest read; a read of 513 bytes, and one of 64 sectors and a byte.
+# The longest store, the shortest and the longest read; a read of 513 bytes, and one of 64 sectors and a byte. A discard with a sector.
 LONG = [
     ("client", "00008013 03 0000000000000001 0000000000000004 0040" + SEVEN * 32_768, STORE.format(SEVENS * 32_768)),
+    ("client2", "00008013 03 0000000000000001 0000000000000004 0040" + SEVEN * 32_768, STORE.format(SEVENS * 32_768)),
     ("host", "00000209 83 0000000000000000" + SEVEN * 512, READ.format(0, SEVENS * 512)),
     ("host", "00008009 83 ffffffffffffffff" + SEVEN * 32_768, READ.format(2**64 - 1, SEVENS * 32_768)),
     ("host", "0000020a 83 0000000000000005" + SEVEN * 513, "BadBody"),
     ("host", "0000800a 83 0000000000000005" + SEVEN * 32_769, "BadBody"),
+    ("client2", "00000213 06 0000000000000001 0000000000000004 0001" + SEVEN * 512, "BadBody"),
 ]
 # Four calls of the operator, and a frame of a kind that he has not.
 CALLS = [("00000001 14", "Operator(Freeze)"), ("00000004 13 01 03e8", "Operator(SetWeight { group: 1, weight: 1000 })"),
@@ -36,6 +39,24 @@ LENGTHS = [("000000", None), ("00000000", "BadLengthField"), ("00000001", None),
 # After a fault it is what comes of everything: of nothing, and of a stream. The greatest length is 32,787.
 STAY = [("00000000", "BadLengthField"), ("00008014", "BadLengthField"), ("01000001", "BadLengthField"), ("00000002 09 00", "BadKind"),
         ("00000002 14 00", "BadBody"), ("00000002 16 02 00 00", "BadBody")]
+# What begins a client's stream of version 2. A first frame of its kind with another length or number is BadBody, and a later one BadKind.
+VERSION = ("00000002 07 02", None)
+NO_VERSIONS = ["00000001 07", "00000002 07 00", "00000002 07 01", "00000002 07 03", "00000002 07 ff", "00000003 07 02 00", "00000003 07 00 02",
+               "00000009 07 0000000000000002"]
+ATTACH = ("00000003 01 00 04", "Client(Attach { group: 0, prio: 4, class: BestEffort })")
+IDLE = ("00000004 08 01 04 03", "Client(Attach { group: 1, prio: 4, class: Idle })")
+DISCARD = ("00000013 06 0000000000000001 0000000000000004 0002",
+           'Client(Submit { session: 1, op: Discard, range: Range { start: 4, count: 2 }, payload: b"" })')
+# Frames of a client before one that is none, that one, and its fault.
+FAULTS = [
+    *(([], digits, "BadBody") for digits in NO_VERSIONS),
+    *((before, digits, "BadKind") for digits in [VERSION[0], *NO_VERSIONS] for before in ([ATTACH], [VERSION], [VERSION, IDLE])),
+    *((before, digits, "BadKind") for digits in (DISCARD[0], IDLE[0], "00000001 06", "00000004 08 00 04 02") for before in ([], [ATTACH])),
+    *(([VERSION, DISCARD], digits, "BadBody") for digits in
+      ("00000012 06 0000000000000001 0000000000000004 00", "00000014 06 0000000000000001 0000000000000004 0002 00", "00000004 08 00 07 00",
+       "00000004 08 00 04 02", "00000004 08 00 07 04", "00000003 08 00 07", "00000005 08 00 07 01 00")),
+    ([VERSION], "00000000", "BadLengthField"), ([VERSION], "00008014", "BadLengthField"), ([VERSION], "00000002 09 04", "BadKind"),
+]
 # A kind and a body are judged once the frame is whole.
 NOT_YET = ["000000", "00008013", "00000002 09", "00000002 14"]
 
@@ -71,14 +92,43 @@ def fed(frames, cuts, fault=None):
     return "/".join(stream[2 * a:2 * b] for a, b in zip(places, places[1:])), told(pieces)
 
 
+def cuts_of(frames):
+    """A cut at each place of these frames, the ends too; and one behind each byte, all at once."""
+    count = sum(len(digits_of(it)) // 2 for it, _ in frames)
+    return [*([at] for at in range(count + 1)), range(1, count)]
+
+
+def versions():
+    """Lines of clients' streams of version 2, and of those whose version is none or is said too late."""
+    good = [VERSION, *(it for it in rows_of("client2") if not it[1].startswith("Bad"))]
+    for cuts in cuts_of(good):
+        yield "a stream of version 2, in pieces", "client", *fed(good, cuts)
+    for before, digits, fault in FAULTS:
+        frames = [*before, (digits, None)]
+        for cuts in cuts_of(frames):
+            yield "faults of versions", "client", *fed(frames, cuts, fault)
+    for side in ("operator", "host"):
+        for cuts in cuts_of([VERSION]):
+            yield "a version of another side", side, *fed([VERSION], cuts, "BadKind")
+    # What is no version stays a fault, whatever comes behind it.
+    for digits in NO_VERSIONS:
+        yield ("no version, and a stream", "client", f"{digits}//{VERSION[0]}/{ATTACH[0]}", told([([], "BadBody", False)] * 4))
+    # A call in each piece, and the frame of the version alone, or with the first of them.
+    pieces = [([ATTACH[1]], None, True), ([DISCARD[1]], None, True), ([IDLE[1]], None, True)]
+    yield ("calls of version 2", "client", f"{VERSION[0]}/{ATTACH[0]}/{DISCARD[0]}/{IDLE[0]}", told([([], None, True), *pieces]))
+    yield ("calls of version 2", "client", f"{VERSION[0]}{ATTACH[0]}/{DISCARD[0]}/{IDLE[0]}", told(pieces))
+    # The longest frame, of the version's kind: a fault at its last byte, and none before it.
+    yield ("the longest version", "client", "00008013" + "/07" * 32_787, told([([], None, False)] * 32_787 + [([], "BadBody", False)]))
+
+
 def streams():
     """Lines of streams, by the name of what they show, with what is told of each."""
+    yield from versions()
     for side in ("client", "operator", "host"):
         frames = [it for it in rows_of(side) if not it[1].startswith("Bad")]
         if side == "host":
-            frames.append((LONG[1][1], LONG[1][2]))
-        count = sum(len(digits_of(it)) // 2 for it, _ in frames)
-        for cuts in [*([at] for at in range(count + 1)), range(1, count)]:
+            frames.append(next((digits, wanted) for of, digits, wanted in LONG if of == side))
+        for cuts in cuts_of(frames):
             yield f"a stream of the {side}, in pieces", side, *fed(frames, cuts)
         for digits, fault in LENGTHS:
             yield "a length", side, digits + "/", told([([], fault, False)] * 2)

@@ -33,6 +33,8 @@ READS = "seat 0\nwrite 0 1 1\nread 0 1\nreap\nwrite 1 1 2\nseat 3\nread 5 2\nrea
 FEW_READS = "seat 0\nwrite 0 1 1\nread 0 1\nreap\nwrite 1 1 2\nseat 3\nread 5 2\nsync\nwrite 5 1 3\n"
 # One write twice, and the byte that stood there before.
 TWICE = "seat 0\nwrite 0 1 5\nwrite 0 1 5\nwrite 0 1 0\nreap\nwrite 1 1 0\n"
+# A write that is discarded in part, discards that merge, and a write over one.
+DISCARDS = "seat 0\nwrite 0 2 1\ndiscard 1 2\ndiscard 3 1\nreap\nwrite 2 1 2\nseat 1\ndiscard 0 1\nread 2 1\n"
 BFQ = ("--scheduler", "bfq")
 
 
@@ -48,6 +50,8 @@ Known = namedtuple("Known", "name text options words states edges contents")
 KNOWN = [
     *(Known(f"{count} writes apart", apart(count), (*NONE, "--tags", "8"), [], sum(2**i for s in range(count + 1) for i in range(s + 1)),
             edges, 2**count) for count, edges in ((4, 124), (5, 315), (6, 762), (8, 4088))),
+    # What is discarded was zeros before, so there is one content.
+    Known("4 discards apart", apart(4, "discard {} 1"), (*NONE, "--tags", "8"), [], sum(2**i for s in range(5) for i in range(s + 1)), 124, 1),
     Known("4 writes apart by bfq", apart(4), BFQ, [], 219, 493, 16),
     Known("merges by none", MERGE, NONE, [], 80, 174, 16),
     Known("merges by bfq", MERGE, BFQ, [], 139, 281, 16),
@@ -74,7 +78,8 @@ SETTINGS = [
 ]
 CASES = [Case(f"{name}, {options[1]}{setting}", text, (*options, *more), words, bounds)
          for setting, more, words, bounds in SETTINGS
-         for name, text in (("4 writes", apart(4)), ("merges", MERGE), ("a clash", CLASH), ("reads", FEW_READS))
+         for name, text in (("4 writes", apart(4)), ("merges", MERGE), ("a clash", CLASH), ("reads", FEW_READS),
+                            ("discards", DISCARDS))
          for options in (BFQ, NONE)]
 
 # Scripts before the search, each with one that does the same without what was undone.
@@ -292,8 +297,8 @@ def runs_of(program, is_all):
     for count, lags in LAGS_LONG.items() if is_all else []:
         it = LAGS[0]._replace(count=count)
         yield f"futures: the lag of {count} reads", lambda it=it, lags=lags: [*lag_faults(program, it, lags)]
-    for name, script in SCRIPTS.items() if is_all else [*SCRIPTS.items()][:1]:
-        yield f"futures: states that go on alike, {name}", lambda script=script: [*key_faults(program, script)]
+    for name, given in SCRIPTS.items() if is_all else [*SCRIPTS.items()][:1]:
+        yield f"futures: states that go on alike, {name}", lambda given=given: [*key_faults(program, *given)]
     yield "futures: what is left alone", lambda: [*left_alone(program)]
     yield "futures: at a terminal", lambda: [*at_terminal(program)]
 

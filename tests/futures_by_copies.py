@@ -106,7 +106,7 @@ class Counter:
         yield ["dispatch"], place
         for tag, (issue, request) in machine.flight.items():
             of_read = [["fill", 0], *([["short"], ["fault"]] if self.bounds.faults else [])]
-            outcomes = [["stored"]] if request.operation == "store" else of_read
+            outcomes = of_read if request.operation == "fetch" else [["stored"]]
             for outcome in outcomes:
                 yield ["finish", tag, issue, *outcome], place
             if place.used[0] < self.bounds.requeues:

@@ -57,16 +57,20 @@ def searched(program, options, clients, script, ticks):
 # Seat 0 has five times 64 sectors to send, in one service, or in two if a tick ends the first one. It begins anew after that, with a budget
 # of 320 or of 256. Seat 1 has two requests, so a tick may find it in service.
 CLIENTS = "seat 0\nsync\nread 0 64\nseat 1\nread 900 64\nread 800 64\n"
+# A read and a discard of the same sectors, neither of which merges with the other.
+DISCARDS = "seat 0\nsync\ndiscard 0 64\nseat 1\nread 900 64\ndiscard 900 64\n"
 OPTIONS = ["--tags", "1", "--first-budget", "512", "--timeout", "1"]
-SCRIPTS = {"real time": "attach 0 0 0 rt\nattach 1 0 7 rt\n", "groups": "group 0 100\ngroup 0 300\nattach 0 1 4\nattach 1 2 4\n",
-           "a group beside a seat": "group 0 300\nattach 0 1 4\nattach 1 0 4\n"}
+REAL_TIME = "attach 0 0 0 rt\nattach 1 0 7 rt\n"
+# Each with the clients that go on behind it.
+SCRIPTS = {"real time": (REAL_TIME, CLIENTS), "groups": ("group 0 100\ngroup 0 300\nattach 0 1 4\nattach 1 2 4\n", CLIENTS),
+           "a group beside a seat": ("group 0 300\nattach 0 1 4\nattach 1 0 4\n", CLIENTS), "discards": (REAL_TIME, DISCARDS)}
 
 
-def key_faults(program, script):
+def key_faults(program, script, clients):
     """States of one short key that lead to other ones. Some must have one short key, or nothing is tried."""
     session = 1 + script.count("group ")
     script += "".join(f"read 0 {session} {100 * at} 64\n" for at in range(5))
-    search = searched(os.path.abspath(program), OPTIONS, CLIENTS, script, 1)
+    search = searched(os.path.abspath(program), OPTIONS, clients, script, 1)
     groups = collections.defaultdict(list)
     for whole, short in search.short.items():
         groups[short].append(whole)

@@ -4,15 +4,15 @@ The numbers of states and edges are worked out by hand, as told beside them.
 """
 
 from bad_input import DONE
-from tools import BAD_INPUT, NO_PROGRAM, Run
+from tools import BAD_INPUT, NOT_WANTED, NO_PROGRAM, Run
 
 CUT = 5
 NONE = ("--scheduler", "none")
 
 
-def apart(count):
-    """A client with so many writes that do not touch."""
-    return "seat 0\n" + "".join(f"write {10 * at} 1 {at + 1}\n" for at in range(count))
+def apart(count, line="write {} 1 {}"):
+    """A client with so many writes, or discards, that do not touch."""
+    return "seat 0\n" + "".join(f"{line.format(10 * at, at + 1)}\n" for at in range(count))
 
 
 def futures(name, words, clients="seat 0\n", stdout="", stderr="", status=DONE, files=None, **more):
@@ -35,6 +35,10 @@ ROWS = [
     bad("nothing owed after a sync", "seat 0\nread 0 1\nread 9 1\nsync\nreap\n", 5, "no result is owed here"),
     bad("no sector", "seat 0\nread 0 0\n", 2, "COUNT is 1 to 64: '0'"),
     bad("too many sectors", "seat 0\nwrite 0 65 1\n", 2, "COUNT is 1 to 64: '65'"),
+    bad("no sector to discard", "seat 0\ndiscard 0 0\n", 2, "COUNT is 1 to 64: '0'"),
+    bad("too many sectors to discard", "seat 0\ndiscard 0 64\ndiscard 0 65\n", 3, "COUNT is 1 to 64: '65'"),
+    bad("a discard past the end", "seat 0\ndiscard 65535 1\ndiscard 65535 2\n", 3, "past the end of the device: sector 65536"),
+    bad("a discard with a byte", "seat 0\ndiscard 0 1 0\n", 2, "a word too many: '0'"),
     bad("past the end", "seat 0\nwrite 65535 1 1\nwrite 65535 2 1\n", 3, "past the end of the device: sector 65536"),
     bad("past all numbers", "seat 0\nread 18446744073709551615 2\n", 2, "past the end of the device: sector 18446744073709551616"),
     bad("too many owed", "seat 0\n" + 33 * "read 0 1\n", 34, "a client is owed at most 32 results: reap one first"),
@@ -116,6 +120,14 @@ ROWS = [
             "sed -u 's/ 66$/ 67/' <&3 | PROGRAM \"$@\"\n",
             stdout="states 3 edges 2 contents 2 steps 2: complete\n2 contents checked: 1 fail\n",
             stderr="PROGRAM does not store what the search has found, if it is asked 'finish 0 3 stored' at last\n"),
+    # A sector that is discarded is zeros: so one content has a byte that is no A, and the other one has none.
+    futures("a discard over an image", ["--image", "image", "--check", "sh -c '[ $(tr -d A < $0 | wc -c) = 0 ]'"],
+            "seat 0\ndiscard 0 1\n", files={"image": 1024 * "A"}, status=NOT_WANTED,
+            stdout="states 3 edges 2 contents 2 steps 2: complete\nfailure 1: 3 steps, status 1\n    attach 0 0 4 -> attached 1\n"
+            "    discard 0 1 0 1 -> queued 2\n    dispatch -> issued 0 3 discard 0 1\n    finish 0 3 stored -> finished 1\n"
+            "2 contents checked: 1 fail\n"),
+    futures("a discard of zeros", ["--image", "image"], "seat 0\ndiscard 0 1\n",
+            "states 3 edges 2 contents 1 steps 2: complete\n", files={"image": bytes(1024)}),
     # What the image has already is no other content. There is one move each time: a write, its dispatch, completion and reap, and another
     # write with its dispatch, for whose completion nothing waits.
     futures("what stands there already", ["--image", "image"], "seat 0\nwrite 0 1 65\nsync\nwrite 1 1 66\n",

@@ -16,12 +16,12 @@ TOP = Path(__file__).resolve().parent.parent
 VERSION = (TOP / "VERSION").read_text(encoding="ascii").strip()
 SECONDS = 60
 PREFIX = "usr"
-COMMANDS = ["bfqclient", "bfqctl", "bfqhost"]
-TOOLS = ["bfq-compare", "bfq-expect", "bfq-export", "bfq-futures", "bfq-iolog", "bfq-page", "bfq-plot", "bfq-step", "bfq-top", "bfq-why"]
+COMMANDS = ["bfqclient", "bfqctl", "bfqhost", "bfqnbd"]
+TOOLS = ["bfq-compare", "bfq-crashes", "bfq-expect", "bfq-export", "bfq-futures", "bfq-iolog", "bfq-page", "bfq-plot", "bfq-step", "bfq-top", "bfq-why"]
 PAGES = ["man1/bfqctl.1", "man1/bfqhost.1", "man5/bfqhost-script.5", "man7/bfqhost-protocol.7", "man7/bfqhost-serve.7"]
 # What the tools share.
 MODULES = ("dials drawn driving future_checks future_clients future_contents future_observers future_search future_states grammar host image "
-           "live live_stepper logs measured narrow reasons recorded sentences shares shown stepper ways").split()
+           "live live_stepper logs measured narrow reasons recorded room sentences shares shown stepper ways").split()
 # What must stand under PREFIX, but for the client's modules.
 FILES = {*(f"bin/{name}" for name in [*COMMANDS, *TOOLS]), "libexec/bfqhost/bfqhost", "libexec/bfqhost/bfqctl",
          *(f"libexec/bfqhost/tools/{name}" for name in [*TOOLS, *(f"{name}.py" for name in MODULES)]),
@@ -111,6 +111,8 @@ def commands_run(programs):
         yield from compared("bfqctl", ran([commands / "bfqctl", "--help"], folder), ran([programs[1], "--help"], "/"))
         stdout, _, status = ran([commands / "bfqclient", "none", "read", "0", "1"], folder)
         yield from compared("bfqclient with no host", (stdout, status), (b"", 3))
+        stdout, _, status = ran([commands / "bfqnbd", "--dir", folder, "--socket", "none"], folder)
+        yield from compared("bfqnbd with no host", (stdout, status), (b"", 3))
         moved = commands.parent.rename(commands.parent.with_name("moved"))
         yield from compared("bfqhost that was moved", ran([moved / "bin/bfqhost", "--help"], folder), helped)
         yield from compared("a tool that was moved", ran([moved / "bin/bfq-step"], folder, b"line\n"), (b"line 0 0 0\n", b"", 0))

@@ -68,10 +68,12 @@ MEASURE = {"sectors": 161, "dispatches": 4, "clients": [
     {"seat": 1, "log": "slow.log", "file": "/a", "group": 1, "prio": 4, "class": "idle", "bios": 3, "requests": 2, "sectors": 144,
      "latency": {"sectors": took(97, 161, 161), "dispatches": took(3, 4, 4)}, "lag": {"behind": -AHEAD, "ahead": 0.0, "last": -AHEAD}}]}
 
-# struct blk_io_trace of the kernel, of which a process's name may follow; the letters of its actions; and the bits of a read and a write.
+# struct blk_io_trace of the kernel, of which a process's name may follow; the letters of its actions; and the bits of a read, of a write, and
+# of a discard, which is a write too.
 EVENT = struct.Struct("<IIQQIIIIIHH")
 MAGIC, NOTICE = 0x65617407, 1 << 10
 LETTERS = {1: "Q", 2: "M", 3: "F", 4: "G", 6: "R", 7: "D", 8: "C", 12: "I"}
+KINDS = {1: "R", 2: "W", 2 | 1 << 13: "D"}
 CLASS_OF = {"Q": 1 << 4, "M": 1 << 4, "F": 1 << 4, "G": 1 << 4, "I": 1 << 4, "R": 1 << 5, "D": 1 << 6, "C": 1 << 7}
 EVENTS = [
     *((0, letter, "R", 0, 0, 8) for letter in "QGI"), *((0, letter, "R", 1, 0, 64) for letter in "QGI"),
@@ -152,7 +154,7 @@ def read(folder, name):
 
 
 def events_of(data):
-    """The events of a file, each as its time, its letter, whether it reads or writes, its pid, and its sectors; and the names of pids."""
+    """The events of a file, each as its time, its letter, what it does, its pid, and its sectors; and the names of pids."""
     found, names, at = [], {}, 0
     while at < len(data):
         magic, number, time, sector, size, action, pid, device, _, error, length = EVENT.unpack_from(data, at)
@@ -165,7 +167,7 @@ def events_of(data):
             names[pid] = more.rstrip(b"\0").decode()
         else:
             letter = LETTERS[action & 0xffff]
-            kind = {CLASS_OF[letter] | 1: "R", CLASS_OF[letter] | 2: "W"}.get(bits)
+            kind = {CLASS_OF[letter] | bit: name for bit, name in KINDS.items()}.get(bits)
             found.append((time, letter, kind, pid, sector, size // 512) if number == len(found) + 1 else ("a bad number", number))
     return found, names
 
@@ -197,13 +199,16 @@ def files_of_a_run(program):
 
 
 def more_events(program):
-    """A front merge; and a request that the device gives back, and is sent again."""
+    """A front merge; a trim; and a request that the device gives back, and is sent again."""
     with tempfile.TemporaryDirectory() as folder:
         written(folder, "log", FRONT)
         ran(["log", "--events", "e"], folder, program)
         yield "a front merge", differs([(it[1], *it[4:]) for it in events_of(read(folder, "e.blktrace.0"))[0]],
                                        [*((letter, 8, 8) for letter in "QGI"), *((letter, 0, 8) for letter in "QF"), ("D", 0, 16),
                                         ("C", 0, 16)])
+        written(folder, "log", head(2) + "/b trim 4096 1024\n")
+        ran(["log", "--events", "e"], folder, program)
+        yield "a trim", differs([it[1:] for it in events_of(read(folder, "e.blktrace.0"))[0]], [(letter, "D", 0, 8, 2) for letter in "QGIDC"])
         written(folder, "log", head(2) + "/b read 0 512\n")
         path = executable(folder, "program", GIVES_BACK.replace("PROGRAM", program))
         found = ran(["log", "--events", "e", "--json", "j", "--", "--tags=1"], folder, path)

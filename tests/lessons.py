@@ -22,10 +22,11 @@ SECONDS = 30
 MADE = r"/tmp\.\w{10}"
 # How the folder of a run is told, and that of a document.
 SHOWN = "FOLDER"
-PAGES = ("README.md", "docs/GUIDE.md", "docs/OWN_RULE.md", "docs/FUTURES.md")
+PAGES = ("README.md", "docs/GUIDE.md", "docs/NBD.md", "docs/OWN_RULE.md", "docs/FUTURES.md")
 DIFFERS = "The numbers differ from run to run."
-# What not every machine has; some of it stands where only root looks.
-OF_FILE_SYSTEMS = ("mkfs.ext4", "e2fsck")
+# What not every machine has; some of it stands where only root looks. A mount needs root besides, and FUSE with loop devices.
+OF_FILE_SYSTEMS = ("mkfs.ext4", "e2fsck", "debugfs", "nbdcopy", "nbdfuse", "qemu-io", "sqlite3")
+MOUNTS = "mount -o loop"
 # A row that calls a program of this repository; and what tests/documents.py runs of such rows.
 CALL = re.compile(r"(?:^|[\s|;])(?:\./bfq(?:host|ctl)|(?:clients|tests|tools)/\w[\w.]*)\s")
 WITH_SCRIPT = re.compile(r"\./bfqhost .* < \S+")
@@ -121,7 +122,21 @@ def faults_of(programs, commands, differs, path=PATH):
                     return [f"{command}: {found} and not {rows}"]
         finally:
             shell.end()
+            unmount_below(folder)
     return []
+
+
+def unmount_below(folder):
+    """What is mounted below a folder is no more, the last that was mounted first."""
+    with open("/proc/self/mounts", encoding="utf-8") as file:
+        mounted = [row.split(" ")[1] for row in file if row.split(" ")[1].startswith(f"{folder}/")]
+    for path in reversed(mounted):
+        subprocess.run(["umount", "-l", path], check=False, timeout=SECONDS)
+
+
+def can_mount():
+    """Whether a file system can be mounted on a file that FUSE serves."""
+    return os.geteuid() == 0 and os.access("/dev/fuse", os.R_OK | os.W_OK) and os.path.exists("/dev/loop-control")
 
 
 def served_lessons(*programs):
@@ -133,7 +148,10 @@ def served_lessons(*programs):
         yield f"documents: the command lines of {path}", [*not_run(path)]
     for head, commands, differs in found:
         text = " ".join(command for command, _ in commands)
-        if lacking := [it for it in OF_FILE_SYSTEMS if it in text and not shutil.which(it, path=PATH)]:
+        lacking = [it for it in OF_FILE_SYSTEMS if it in text and not shutil.which(it, path=PATH)]
+        if MOUNTS in text and not can_mount():
+            lacking.append("root with FUSE and loop devices")
+        if lacking:
             print(f"skipped: documents: {head}: no {' and no '.join(lacking)} here")
             continue
         try:

@@ -104,7 +104,8 @@ def statuses_of(text):
 
 def options_of(text):
     """The options of a help as they are spelled."""
-    return set(re.findall(r"(?m)^    (--[a-z-]+(?:, -\w| [A-Z]+)?) {2,}", text))
+    # One with a long value leaves one space before its text, and so its value has to be told from that by its capitals.
+    return set(re.findall(r"(?m)^    (--[a-z-]+(?:, -\w| [A-Z][A-Z+,.]*)?) +", text))
 
 
 def forms():

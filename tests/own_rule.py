@@ -50,6 +50,8 @@ CHANGES = [
     ("the head stays behind", "rules.py", "it.start >= seat.head", "it.start > seat.head"),
     ("a front merge first", "model.py", "unless(back or front or", "back = None if front else back\n        unless(back or front or"),
     ("a request of 255 sectors at most", "model.py", "it.count + count <= MOST_OF_REQUEST", "it.count + count < MOST_OF_REQUEST"),
+    ("a discard joins a write", "model.py", "it.operation == operation and", '(it.operation == "fetch") == (operation == "fetch") and'),
+    ("what is discarded has a byte", "model.py", '"discard", *words, 0', '"discard", *words, 1'),
     ("the last one given back goes first", "model.py", "self.returned.pop(0)", "self.returned.pop()"),
     ("the greatest tag", "model.py", "tag = min(", "tag = max("),
     ("a switch keeps budgets", "model.py", "self.limits.first_budget if it.entity < SEATS else it.budget", "it.budget"),
@@ -227,8 +229,8 @@ def of_weights(program):
                 with open(os.path.join(folder, file), encoding="ascii") as text:
                     told[name].append(text.read())
         yield "own rule: three logs with weights", differs(told["model"], told["host"])
-        # 500 reads, 500 writes, and 500 of both with 9 syncs: tests/iolog_of_jobs.py makes them.
-        yield "own rule: all of three logs", [] if re.match("3 clients, 843 reads, 657 writes, 9 syncs: ", told["host"][0][0]) else told["host"][:1]
+        # 500 reads, 500 writes and a trim, and 500 of both with 9 syncs: tests/iolog_of_jobs.py makes them.
+        yield "own rule: all of three logs", [] if re.match("3 clients, 843 reads, 657 writes, 1 trims, 9 syncs: ", told["host"][0][0]) else told["host"][:1]
         stdout, *rest = ran("compare", "--a", program, "--b", variation("model"), "--", "--tags=1")
         yield "own rule: each choice of three logs", differs((re.sub(r"\d+", "N", stdout.splitlines()[-1]), rest),
                                                              ("all N dispatches are the same", ["", DONE]))

@@ -200,7 +200,7 @@ def little_memory(path):
 
 # Lines that are bad, each in another way, and good ones.
 LINES = ["", "# a", "attach 0 0 4", "attach 0 0 4 rt", "attach 0 0 4 RT", "attach 0 0 4 soon", "attach 256 0 4", "attach 00 0 4", "attach -1 0 4",
-         "Attach 0 0 4", "attach 0 0", "attach", "dispatch now", "dispatch ", " dispatch", "dispatch\r", "dis\tpatch", "read  0 1 0 1", "tock",
+         "Attach 0 0 4", "attach 0 0", "attach", "dispatch now", "dispatch ", " dispatch", "dispatch\r", "dis\tpatch", "read  0 1 0 1", "tock", "discard 0 1 0 1", "discard 0 1 0 1 0",
          "it's", 'a"b\'c', "back\\slash", "write 0 1 0 1", "show", "show seat", "show moon 1", "undo 4294967296", f"sector {2**64}", "sector 1e3",
          "vtime 0 be", "caf\u00e9", "\u2192", "\x00", "#" + "x" * 255, "#" + "x" * 256, "# " + "\u00e9" * 127, "# " + "\u00e9" * 128, "finish 0 1 fill",
          "switch cfq", "line 1"]
@@ -215,6 +215,17 @@ def same_words(path):
     lines, *options = answers(path, [{"task": "bad", "lines": LINES}, *({"task": "options", "options": words} for words in OPTIONS)])
     yield from (f"{line!r}: {got} and not {grammar.why_bad(line)}" for line, got in zip(LINES, lines) if got != grammar.why_bad(line))
     yield from (f"{words}: {got} and not {dials.why_bad(words)}" for words, got in zip(OPTIONS, options) if got != dials.why_bad(words))
+
+
+# Requests as a look has them, and what a page shows of each.
+BLOCKS = {"fetch:5+2:3": ["block fetch", "fetch 5+2, bios 3", "5+2"], "store:9+1:4,5": ["block store", "store 9+1, bios 4, 5", "W 9+1"],
+          "discard:7+64:6": ["block discard", "discard 7+64, bios 6", "D 7+64"]}
+
+
+def same_blocks(path):
+    """Where a page shows another block of a request."""
+    found, = answers(path, [{"task": "blocks", "requests": [*BLOCKS]}])
+    yield from (f"{item}: {got} and not {wanted}" for (item, wanted), got in zip(BLOCKS.items(), found) if got != wanted)
 
 
 def node_runs(program, path, is_first):
@@ -233,6 +244,7 @@ def node_runs(program, path, is_first):
     yield "page: undo is exact", exact(path, [*steady, *random])
     yield "page: shares", same_shares(program, path, [it for it in given if it[0].startswith("examples")])
     yield "page: why lines and options are bad", same_words(path)
+    yield "page: blocks of requests", same_blocks(path)
     yield "page: little memory", little_memory(path)
 
 

@@ -9,7 +9,13 @@ const fs = require("fs"), vm = require("vm");
 const page = fs.readFileSync(process.argv[2], "utf8");
 const inner = (begin) => page.slice(page.indexOf(begin) + begin.length, page.indexOf("</script>", page.indexOf(begin)));
 const its = vm.runInThisContext(`${inner("<script>")};
-({ Machine, Course, Services, MachineFault, LOOK_LINES, MORE_PLACES, dialsOf, usualDials, checkDials, whyBad, linesOf, isRefusal, told, machineOf })`);
+({ Machine, Course, Services, MachineFault, LOOK_LINES, MORE_PLACES, blockOf, requestOf, dialsOf, usualDials, checkDials, whyBad, linesOf, isRefusal, told,
+  machineOf })`);
+
+// An element here is its attributes and its text.
+globalThis.document = {
+  createElement: () => ({ text: "", setAttribute(name, value) { this[name] = value; }, append(...texts) { this.text += texts.join(""); } }),
+};
 
 const TASKS = {
   /** The text and the status of a run. */
@@ -51,6 +57,11 @@ const TASKS = {
   end(machine, { script, options }) {
     const course = courseOf(machine, script, options);
     return { rows: course.rows.length, fault: course.fault, without: course.rows.filter((row) => row.answer === "refused 34").length };
+  },
+
+  /** What is shown of requests, each as a look has it: the words of its class, its title and its text. */
+  blocks(machine, { requests }) {
+    return requests.map((item) => its.blockOf(its.requestOf(...item.split(":")))).map((it) => [it.class, it.title, it.text]);
   },
 
   /** Why each line is bad; null of a good one. */

@@ -97,7 +97,8 @@ class Writer:
         self.is_empty = True
         self.seats = self.dice.sample(range(SEATS), self.dice.choice([2, 3, 4, 6, 12]))
         self.counts = self.dice.choice([(1, 2, 3), (1, 8, 16, 64, 64), (64,), (60, 63, 64)])
-        self.near = self.dice.randrange(self.sectors)
+        # Where the last read, write or discard has ended, and what it was.
+        self.near, self.word = self.dice.randrange(self.sectors), "read"
 
     @property
     def known(self) -> Known:
@@ -166,13 +167,14 @@ class Writer:
     def submit(self) -> None:
         who = self.seat_and_session(dict(self.known.sessions))
         count = self.dice.choice(self.counts) if self.is_right() else self.dice.choice([0, 65])
-        # Half of them begin where another one has ended, and so may join it.
-        start = self.near if self.dice.random() < 0.5 else self.dice.randrange(max(1, self.sectors - count + 1))
+        # Half of them begin where another one has ended. Most of these do the same, and so may join it.
+        is_near = self.dice.random() < 0.5
+        start = self.near if is_near else self.dice.randrange(max(1, self.sectors - count + 1))
         self.near = start + count if start + 2 * count <= self.sectors else 0
-        if self.dice.random() < 0.6:
-            self.write(f"read {who} {start} {count}")
-        else:
-            self.write(f"write {who} {start} {count} {self.dice.randrange(256)}")
+        if not is_near or self.dice.random() < 0.4:
+            self.word = self.dice.choices(["read", "write", "discard"], [6, 3, 1])[0]
+        byte = f" {self.dice.randrange(256)}" if self.word == "write" else ""
+        self.write(f"{self.word} {who} {start} {count}{byte}")
 
     def submits(self) -> None:
         """One client asks for much, so that its budget may end."""
@@ -193,7 +195,7 @@ class Writer:
     def done(self) -> None:
         """A request in flight comes to its end."""
         name, operation = self.tag_and_issue()
-        good = ["stored"] if operation == "store" else [f"fill {self.dice.randrange(256)}", "short", "fault"]
+        good = ["stored"] if operation != "fetch" else [f"fill {self.dice.randrange(256)}", "short", "fault"]
         outcome = self.dice.choice(good) if self.is_right() else self.dice.choice(["stored", "short"])
         self.write(f"work {name}" if self.dice.random() < 0.6 else f"finish {name} {outcome}")
 
@@ -279,7 +281,7 @@ def note(known: Known, words: List[str], answer: List[str]) -> None:
     if word == "attach":
         known.sessions[int(places[0])] = int(answer[1])
         known.owed[int(places[0])] = 0
-    elif word in ("read", "write"):
+    elif word in ("read", "write", "discard"):
         known.owed[int(places[0])] += 1
     elif word == "reap":
         known.owed[int(places[0])] -= 1

@@ -13,6 +13,8 @@ MOST_BODY = 131_083
 CLASSES = {1: "rt", 3: "idle"}
 WHYS = (2, 3, 4, 5)
 FAILURES = {1: "short", 2: "fault"}
+# A client's kinds with sectors alone.
+SPANS = {0x02: "read", 0x06: "discard"}
 SCHEDULERS = {0: "none", 1: "bfq"}
 # The operator's kinds with no field.
 BARE = {0x14: "freeze", 0x15: "thaw", 0x17: "tick", 0x18: "hold", 0x19: "release"}
@@ -64,9 +66,9 @@ def client_call(seat, kind, fields):
     if kind in (0x01, 0x08):
         group, prio = fields.number(1), fields.number(1)
         return f"attach {seat} {group} {prio}" + (f" {fields.of(CLASSES)}" if kind == 0x08 else "")
-    if kind in (0x02, 0x03):
+    if kind in (0x02, 0x03, 0x06):
         span = " ".join(str(fields.number(size)) for size in (8, 8, 2))
-        return f"read {seat} {span}" if kind == 0x02 else f"write {seat} {span} {bytes_text(fields.rest(64 * SECTOR))}"
+        return f"write {seat} {span} {bytes_text(fields.rest(64 * SECTOR))}" if kind == 0x03 else f"{SPANS[kind]} {seat} {span}"
     if kind == 0x04:
         return f"reap {seat} {fields.number(8)}"
     if kind == 0x05 or kind == 0x09 and fields.number(1) in WHYS:

@@ -16,10 +16,10 @@ import threading
 import time
 import zlib
 
-from bfqclient import Lost, Session
+from bfqclient import Lost
 from bfqclient_session import reply_of
 from inspecting import printed, told
-from served import DONE, LEFT, RELEASE, SECTOR, Served, Wrong, attached, image_of, queued, read, same, undo, written
+from served import DONE, LEFT, RELEASE, SECTOR, Served, Wrong, attached, discarded, image_of, queued, read, same, undo, written
 from soak import CLIENTS, MOST_UNDONE, TO_BFQ, Client, Soak, at_work, placed
 
 # How long the host is under load, in seconds; and with --all. It ends earlier if so many calls were accepted.
@@ -78,7 +78,7 @@ class RecordedClient(Client):
     def begin(self):
         self.load(self.soak.is_half)
         self.session.close()
-        self.session = Session(*self.place)
+        self.session = self.connected()
         self.listen()
         self.read_all()
         self.load(self.soak.is_over)
@@ -91,12 +91,17 @@ class RecordedClient(Client):
                 raise
 
     def finds(self, shown):
-        """What is stored is what it wrote last, or, if it did not hear of a write any more, what that one has."""
+        """What is stored is what it wrote last, or, if it did not hear of a write or a discard any more, what that one has."""
         for at in self.sectors:
-            texts = [f"sector {at} overlay {data[:4].hex() * 128}" if bio else f"sector {at} base" for bio, data in self.writes[at][-1:]]
-            texts += [f"sector {at} overlay {data[:4].hex() * 128}" for data in [self.busy.get(at)] if data]
+            texts = [overlay(at, data) if bio else f"sector {at} base" for bio, data in self.writes[at][-1:]]
+            texts += [overlay(at, data) for data in [self.busy.get(at)] if data]
             if shown[f"sector {at}"] not in texts:
                 raise Wrong(f"sector {at} is stored as {shown[f'sector {at}'][:40]}, and not as {' or '.join(text[:40] for text in texts)}")
+
+
+def overlay(at, data):
+    """What is shown of a sector that has these bytes; of zeros one is shown for all."""
+    return f"sector {at} overlay {data.hex() if any(data) else '00'}"
 
 
 class RecordedSoak(Soak):
@@ -240,7 +245,7 @@ def frame_of(answer):
     if words[2:3] == ["read"]:
         # A sector whose bytes are all equal is told by one of them.
         return bytes.fromhex(read(number, b"".join(bytes.fromhex(text) * (2 * SECTOR // len(text)) for text in words[3:])))
-    frames = {("attached",): attached, ("queued",): queued, ("completed", "written"): written}
+    frames = {("attached",): attached, ("queued",): queued, ("completed", "written"): written, ("completed", "discarded"): discarded}
     return bytes.fromhex(frames[(words[0], *words[2:])](number))
 
 
@@ -306,7 +311,7 @@ def record_soak(program, folder, seconds):
     if min(run.rounds) == 0 or max(host_peak, peak) > MOST_MEMORY:
         raise Wrong(f"{run.rounds} rounds, and {host_peak} and {peak} bytes of memory")
     calls = journal_of(looks[1]["show host"])
-    return (f"record-soak: {run.count} reads and writes, {calls} calls, of which a replay makes {calls / took:,.0f} a second; a record of "
+    return (f"record-soak: {run.count} reads, writes and discards, {calls} calls, of which a replay makes {calls / took:,.0f} a second; a record of "
             f"{os.path.getsize(file) >> 20} MiB, a host of {host_peak >> 20} MiB, a replay of {peak >> 20} MiB")
 
 

@@ -16,8 +16,8 @@ import time
 
 from inspecting import told
 from record_file import BadEntry, read_record
-from served import (ATTACH, CLOSED, DONE, FREEZE, HOLD, LEAVE, LEFT, RELEASE, SECONDS, STOP, THAW, Served, Wrong, attached, fetch, image_of, moved,
-                    queued, read, reap, redo, same, sector_of, store, undo, written)
+from served import (ATTACH, CLOSED, DONE, FREEZE, HOLD, IDLE, LEAVE, LEFT, RELEASE, SECONDS, STOP, THAW, VERSION, Served, Wrong, attached, discard,
+                    discarded, fetch, image_of, moved, queued, read, reap, redo, same, sector_of, store, undo, written)
 
 CLIENT = os.path.join(os.path.dirname(os.path.dirname(os.path.abspath(__file__))), "clients", "bfqclient.py")
 HEADER = b"bfqhost record 1 bfq 64 4 1024 4096 8 65536 0 64\n"
@@ -199,11 +199,75 @@ def short_record():
     return HEADER + b"".join(bytes.fromhex(frame) for frame in frames)
 
 
+# A record of discards, made by hand, as no worker gives one back. Sector 5 is written, and then 4 to 6 are discarded; the device gives
+# that back once.
+OF_DISCARDS = ["00000004 00 01 00 04", f"{20 + 512:08x} 00 03 {1:016x} {5:016x} 0001" + 512 * "11", "00000002 c0 31",
+               f"0000000b 40 21 00 {3:016x}", f"00000014 00 06 {1:016x} {4:016x} 0003", "00000002 c0 31", f"0000000b 40 24 00 {6:016x}",
+               "00000002 c0 31", f"0000000b 40 21 00 {8:016x}", f"0000000a 00 04 {1:016x}", f"0000000a 00 04 {1:016x}"]
+LIST_OF_DISCARDS = [
+    "1 1 client0 attach 0 0 4 -> attached 1", "2 2 client0 write 0 1 5 1 17 -> queued 2", "3 3 core dispatch -> issued 0 3 store 5 1",
+    "4 4 device0 finish 0 3 stored -> finished 1", "5 5 client0 discard 0 1 4 3 -> queued 5", "6 6 core dispatch -> issued 0 6 discard 4 3",
+    "7 7 device0 requeue 0 6 -> requeued", "8 8 core dispatch -> issued 0 8 discard 4 3", "9 9 device0 finish 0 8 stored -> finished 1",
+    "10 10 client0 reap 0 1 -> completed 2 written", "11 11 client0 reap 0 1 -> completed 5 discarded"]
+
+
+def one_of_each_version(host):
+    """An idle client of version 2 discards, and one of version 1 comes and leaves."""
+    with host.talk(0) as client, host.talk(1) as other:
+        client.send(VERSION)
+        client.asks((IDLE, attached(1)), (discard(1, 4, 3), queued(2)), (reap(1), discarded(2)), (LEAVE, LEFT))
+        other.asks((ATTACH, attached(7)), (LEAVE, LEFT))
+
+
+# What this leaves, and its list: what says the version is no entry.
+OF_VERSIONS = ["00000005 00 08 00 04 03", f"00000014 00 06 {1:016x} {4:016x} 0003", "00000002 c0 31", f"0000000b 40 21 00 {3:016x}",
+               f"0000000a 00 04 {1:016x}", "00000002 00 05", "00000004 01 01 00 04", "00000002 01 05"]
+LIST_OF_VERSIONS = [
+    "1 1 client0 attach 0 0 4 idle -> attached 1", "2 2 client0 discard 0 1 4 3 -> queued 2", "3 3 core dispatch -> issued 0 3 discard 4 3",
+    "4 4 device0 finish 0 3 stored -> finished 1", "5 5 client0 reap 0 1 -> completed 2 discarded", "6 6 client0 leave 0 -> left",
+    "7 7 client1 attach 1 0 4 -> attached 7", "8 8 client1 leave 1 -> left"]
+
+
+def both_versions(program, folder):
+    """Clients of both versions are recorded as version 2 spells their calls."""
+    file = recorded(program, folder, one_of_each_version)
+    same("the record", bytes_of(file).hex(), record_of(OF_VERSIONS).hex())
+    same("the list", Ended(program, [file, "--list"]).lines(), LIST_OF_VERSIONS)
+    same("a replay", Ended(program, [file], "show stored 0\nshow step 1\n").lines(), ["stored 4+3", "step 1 1 attach 0 0 4 idle"])
+
+
+def record_of(frames):
+    """The bytes of a record of these frames."""
+    return HEADER + b"".join(bytes.fromhex(frame) for frame in frames)
+
+
+def discards(program, folder):
+    """A discard in a record: its list, a second reading of it, what a replay shows, back and forth, and each byte of its frame changed."""
+    data = record_of(OF_DISCARDS)
+    file = put_bytes(folder, data)
+    same("the list", Ended(program, [file, "--list"]).lines(), LIST_OF_DISCARDS)
+    _, entries, _ = read_record(data)
+    same("a second reading", [f"{it.who} {it.call}" for it in entries],
+         [line.partition(" -> ")[0].split(" ", 2)[2] for line in LIST_OF_DISCARDS])
+    looks = ["show stored 0", "sector 4", "sector 5", "sector 7", "show outbox 0"]
+    script = "\n".join(["show step 5", *looks, "hold", "undo 3", *looks, "show flight", "undo 2", "show requeued", "redo 5", *looks]) + "\n"
+    after = ["stored 4+3", "sector 4 overlay 00", "sector 5 overlay 00", "sector 7 base", "outbox 0"]
+    same("a replay", Ended(program, [file], script).lines(), [
+        "step 5 5 discard 0 1 4 3", *after, "moved 11 11", "moved 8 11", "stored 5+1", "sector 4 base", "sector 5 overlay 11", "sector 7 base",
+        "outbox 0 2:written", "flight 0:8:0:discard:4+3:5", "moved 6 11", "requeued", "moved 11 11", *after])
+    changed_bytes(program, folder, data, range(entries[3].end, entries[4].end))
+
+
 def each_byte_changed(program, folder):
     """Whatever byte of a record is another one, it is refused, or is that of the entries that stand there then."""
     data = short_record()
+    changed_bytes(program, folder, data, range(len(data)))
+
+
+def changed_bytes(program, folder, data, places):
+    """What a record is with each of these bytes changed."""
     refused = 0
-    for place in range(len(data)):
+    for place in places:
         for other in (data[place] ^ 1, data[place] ^ 0x80, 0, 0xff):
             changed = data[:place] + bytes([other]) + data[place + 1:]
             if changed == data:
@@ -246,6 +310,12 @@ BAD_FRAMES = [
     ("a byte behind", ["00000003 80 18 00"], 1),
     ("a call that is refused", ["00000004 00 01 00 08"], 1),
     ("a call that waits", ["00000004 00 01 00 04", "00000002 80 14", f"00000014 00 02 {1:016x} {5:016x} 0001"], 3),
+    ("a discard with a byte behind", ["00000004 00 01 00 04", f"00000015 00 06 {1:016x} {4:016x} 0001 00"], 2),
+    ("a discard without a count", ["00000004 00 01 00 04", f"00000012 00 06 {1:016x} {4:016x}"], 2),
+    ("a discard of no sector", ["00000004 00 01 00 04", f"00000014 00 06 {1:016x} {4:016x} 0000"], 2),
+    ("a discard past the end", ["00000004 00 01 00 04", f"00000014 00 06 {1:016x} {63:016x} 0002"], 2),
+    ("a discard by a device", [f"00000014 40 06 {1:016x} {4:016x} 0001"], 1),
+    ("a discard that fails", ["00000004 00 01 00 04", f"00000014 00 06 {1:016x} {4:016x} 0001", "00000002 c0 31", f"0000000c 40 23 00 {3:016x} 02"], 4),
     ("a call on a held host", ["00000002 80 18", "00000004 00 01 00 04"], 2),
 ]
 
@@ -380,8 +450,8 @@ def killed(program, folder):
     same("seats and calls", [re.fullmatch(r"\d+ \S+ (\w+) (.*) -> .*", line).groups() for line in lines], [entry[:2] for entry in entries])
 
 
-RUNS = [as_the_format_says, listed, is_what_was_served, goes_on_otherwise, cut_everywhere, each_byte_changed, refused_files, full_history, none_is_left,
-        files_that_are_there, full_disk, killed]
+RUNS = [as_the_format_says, listed, is_what_was_served, goes_on_otherwise, cut_everywhere, discards, both_versions, each_byte_changed, refused_files,
+        full_history, none_is_left, files_that_are_there, full_disk, killed]
 
 
 def recording(program):

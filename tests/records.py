@@ -12,6 +12,7 @@ from bad_input import DONE, Skipped
 from client import raises
 from client_operator import SOON, STANDING_IN, Place
 from record_bytes import another_order, states_of_ext4
+from recording import OF_DISCARDS, record_of
 from served import SECTOR, same
 from step_export_plot import PICTURE, compared, contents, ran
 from tools import BAD_INPUT, NO_PROGRAM, executable, written
@@ -251,6 +252,41 @@ def not_opened(program, folder):
             record.ask("line")
 
 
+def of_discards(place):
+    """The tools and the client read a discard in a record: states, moments, images with holes and without, and dispatches."""
+    written(place.folder, "run.rec", record_of(OF_DISCARDS))
+    with open(place.image, "rb") as file:
+        data = file.read()
+    images = {4: bytearray(data), 9: bytearray(data)}
+    images[4][5 * SECTOR:6 * SECTOR] = SECTOR * b"\x11"
+    images[9][4 * SECTOR:7 * SECTOR] = bytes(3 * SECTOR)
+    with open_record(os.path.join(place.folder, "run.rec"), program=place.program) as record:
+        found = list(record.states())
+        same("the states", [(it.step.serial, {number: held[0] for number, held in it.stored.items()}, sorted(it.changed)) for it in found],
+             [(4, {5: 17}, [5]), (9, {4: 0, 5: 0, 6: 0}, [4, 5, 6])])
+        same("their images", [it.over(data) for it in found], [bytes(image) for image in images.values()])
+        record.go(0)
+        same("moments", [record.until("stored sector 6")[:2], record.since("stored sector 5")[:2]], [(9, 9), (4, 4)])
+    for words, told in (([], ("", "")), (["--holes"], (", 0 of them zeros that are not written", ", 3 of them zeros that are not written"))):
+        into = f"states{len(words)}"
+        stdout, *rest = ran(["export", "image", "--record", "run.rec", "--each", "stored", "--into", into, *words], place.folder, place.program)
+        same("what is written", (stdout, *rest), ("".join(
+            f"{into}/after-{serial:08}.img: {count} sectors stored over image{zeros}, {serial} of 11 steps stand\n"
+            for serial, count, zeros in zip((4, 9), (1, 3), told)), "", DONE))
+        same("the images", [contents(place.folder, f"{into}/after-{serial:08}.img") for serial in images], [*map(bytes, images.values())])
+    # What was sent before the script is completed by it.
+    written(place.folder, "later", "finish 0 8 stored\n")
+    stdout, *rest = ran(["export", "image", "--record", "run.rec", "--each", "stored", "--into", "later-states", "--script", "later", "--", "--to", "9"],
+                        place.folder, place.program)
+    same("a discard of the record, completed later", contents(place.folder, "later-states/after-00000009.img"), bytes(images[9]))
+    stdout, *rest = ran(["step", "--record", "run.rec"], place.folder, place.program, stdin=b"b 3\ndiscard 0 1 9 1\ndispatch\nfinish last stored\n")
+    same("stepped", ("tag 0, issue 8: seat 0 discard 4+3 bio 5" in stdout, "outbox: 2 written, 12 discarded" in stdout,
+                     "next is discard 9+1, from sector 7 on" in stdout, "!!!" in stdout, *rest), (True, True, True, False, "", DONE))
+    stdout, *rest = ran(["plot", "--record", "run.rec", "--lag"], place.folder, place.program)
+    # One sector of the write, and three of the discard, which was sent twice.
+    same("plotted", (stdout.splitlines()[-1].split(",")[2], *rest), ("7", "", DONE))
+
+
 def with_bytes(act):
     """A run with real bytes, which the program alone records."""
     def run(program, folder):
@@ -265,7 +301,7 @@ def with_bytes(act):
 def records_runs(program):
     """The name of each run with what was wrong with it. What cannot be had here is skipped, and a line is printed for it."""
     for act in (stepped, in_a_full_history, exported, plotted, bad_records, opened, asked, not_opened, with_bytes(states_of_ext4),
-                with_bytes(another_order)):
+                with_bytes(another_order), with_bytes(of_discards)):
         folder = tempfile.mkdtemp(prefix="bfq-")
         try:
             act(program, folder)

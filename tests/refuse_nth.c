@@ -6,22 +6,14 @@
  *     REFUSE_NTH=7 REFUSE_ALL=1 LD_PRELOAD=./refuse_nth.so PROGRAM   so is each one behind it
  *
  * Requests are counted from the start of the program. A realloc is one, also if it makes a block smaller. At the end one line stands on
- * standard error: `refuse_nth: R requests, F refused`. Without REFUSE_NTH, or with 0, none is refused.
- *
- * No header is needed, so that a compiler without a C library can make it. It is for Linux on x86-64 with glibc. */
+ * standard error: `refuse_nth: R requests, F refused`. Without REFUSE_NTH, or with 0, none is refused. */
 
-typedef unsigned long size;
+#include "shim.h"
 
-extern void *dlsym(void *, const char *);
-extern char *getenv(const char *);
-extern int *__errno_location(void);
-extern long write(int, const void *, size);
-
-#define NEXT ((void *)-1l)
 #define ENOMEM 12
 
 static size requests, refused, nth;
-static int is_all, is_told, is_looking;
+static int is_all, is_looking;
 
 static void *(*next_malloc)(size);
 static void *(*next_calloc)(size, size);
@@ -49,13 +41,6 @@ static void *take_early(size bytes) {
     return block;
 }
 
-static size number_of(const char *digits) {
-    size number = 0;
-    for (; digits && *digits >= '0' && *digits <= '9'; digits++)
-        number = 10 * number + (size)(*digits - '0');
-    return number;
-}
-
 /* Finds the C library's own functions, before the first request is counted. */
 static void find(void) {
     if (next_malloc || is_looking)
@@ -76,10 +61,10 @@ static void find(void) {
 
 /* Counts a request, and says whether it is refused. */
 static int is_refused(void) {
-    size at = __atomic_add_fetch(&requests, 1, __ATOMIC_SEQ_CST);
+    size at = COUNTED(requests);
     if (!nth || (is_all ? at < nth : at != nth))
         return 0;
-    __atomic_add_fetch(&refused, 1, __ATOMIC_SEQ_CST);
+    COUNTED(refused);
     *__errno_location() = ENOMEM;
     return 1;
 }
@@ -130,43 +115,18 @@ void free(void *block) {
         next_free(block);
 }
 
-static char *put_text(char *to, const char *text) {
-    while (*text)
-        *to++ = *text++;
-    return to;
-}
-
-static char *put_number(char *to, size number) {
-    char digits[20];
-    int count = 0;
-    do
-        digits[count++] = (char)('0' + number % 10);
-    while (number /= 10);
-    while (count)
-        *to++ = digits[--count];
-    return to;
-}
-
-/* Tells once how many requests there were, without one of its own. */
-static void tell(void) {
-    if (__atomic_exchange_n(&is_told, 1, __ATOMIC_SEQ_CST))
-        return;
-    char line[96];
-    char *end = put_number(put_text(line, "refuse_nth: "), __atomic_load_n(&requests, __ATOMIC_SEQ_CST));
-    end = put_number(put_text(end, " requests, "), __atomic_load_n(&refused, __ATOMIC_SEQ_CST));
-    end = put_text(end, " refused\n");
-    if (write(2, line, (size)(end - line)) < 0)
-        return;
+static void tell_of_it(void) {
+    tell("refuse_nth: ", &requests, " requests, ", &refused, " refused\n");
 }
 
 /* A program that ends so runs no destructor. */
 void _exit(int status) {
     find();
-    tell();
+    tell_of_it();
     next_exit(status);
     __builtin_unreachable();
 }
 
 __attribute__((destructor)) static void at_end(void) {
-    tell();
+    tell_of_it();
 }

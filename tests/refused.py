@@ -19,7 +19,6 @@ shortest script is printed, too.
 import os
 import random
 import re
-import shutil
 import subprocess
 import tempfile
 import time
@@ -28,17 +27,16 @@ from dataclasses import dataclass, field
 from typing import List, NamedTuple, Optional
 
 from benches import builds
-from checkout import kit
 from random_scripts import grammar, random_script
 from script_rows import SCRIPTS, ended, read_rows
+from shims import NoShim, shim_in
 
-TOP = os.path.dirname(os.path.dirname(os.path.abspath(__file__)))
-SHIM = os.path.join(TOP, "tests", "refuse_nth.c")
 SECONDS = 60
 # The rows of tests/scripts whose calls are made: a write and its read, a queue that expires, merges, an undone store, an undone failure,
-# the largest store, and sectors of one page.
+# the largest store, sectors of one page, and a discard over sectors half of which are stored.
 SCRIPT_ROWS = ["write_and_read_back", "exhaustion_undone", "merges_and_undo_of_a_merge", "stale_finish_after_undo",
-               "failed_read_undone_and_redone", "full_store_undone_and_redone", "two_sectors_of_one_page"]
+               "failed_read_undone_and_redone", "full_store_undone_and_redone", "two_sectors_of_one_page",
+               "discard_of_half_stored_sectors"]
 # Of these the calls are also made by one run of the keeper.
 RUN_ROWS = ["write_and_read_back", "failed_read_undone_and_redone"]
 # Two stores, done and undone, and redone at once. The pages of the first are one node of the overlay's tree, and those of the second need
@@ -47,14 +45,13 @@ TWO_STORES = ["attach 0 0 4", "write 0 1 0 64 65", "write 0 1 100 64 66", "dispa
               "hold", "undo 2", "redo 2", "undo 1", "release"]
 OF_TWO_STORES = ["attached 1", "queued 2", "queued 3", "issued 0 4 store 0 64", "issued 1 5 store 100 64", "finished 1", "finished 1",
                  "moved 7 7", "moved 5 7", "moved 7 7", "moved 6 7", "done"]
-SHORT_ROWS = ["host", "turn", "work", "serve", "feed"]
+SHORT_ROWS = ["host", "turn", "work", "serve", "feed", "record", "look"]
 ONCE, ALWAYS = "once", "always"
 UNPREPARED, KEPT, WANTING, HALF_WAY = "no memory before the row", "kept", "kept without memory", "kept half way"
 # So many random scripts, each of so many calls.
 RUNS, CALLS = 200, 100
 # For so long lines are left out of a script that fails.
 SHORTEN_SECONDS = 120
-COMPILING = ["-shared", "-fPIC", "-O2", "-fno-builtin", "-nostdlib"]
 
 
 @dataclass
@@ -84,26 +81,6 @@ class Before(NamedTuple):
 
     least: int
     most: Optional[int]
-
-
-class NoShim(Exception):
-    """Memory cannot be refused here, and why."""
-
-
-def shim_in(folder):
-    """The shim, made in a folder by a compiler that is there."""
-    made, said = os.path.join(folder, "refuse_nth.so"), "there is no cc, and no clang of a toolchain"
-    clang = str(kit() / "toolchain" / "bin" / "clang") if shutil.which("rt") else ""
-    for words in ([shutil.which("cc") or ""], [clang, "--target=x86_64-unknown-linux-gnu", "-fuse-ld=lld"]):
-        if os.path.exists(words[0]):
-            # The toolchain's linker lies beside its clang.
-            places = {**os.environ, "PATH": f"{os.path.dirname(words[0])}:{os.environ.get('PATH', '')}"}
-            ran = subprocess.run([*words, *COMPILING, "-o", made, SHIM], stdin=subprocess.DEVNULL, capture_output=True, text=True,
-                                 env=places, check=False)
-            if ran.returncode == 0:
-                return made
-            said = f"{words[0]} does not make tests/refuse_nth.c: {ran.stderr.strip()[:200]}"
-    raise NoShim(said)
 
 
 class Program:
@@ -336,7 +313,7 @@ def refused_runs():
     with tempfile.TemporaryDirectory(prefix="bfq-") as folder, ThreadPoolExecutor(len(os.sched_getaffinity(0))) as pool:
         for path, which in builds("refused_growth"):
             try:
-                program = Program(path, shim_in(folder))
+                program = Program(path, shim_in(folder, "refuse_nth"))
             except OSError as refused:
                 yield f"calls while memory is refused{which}", [f"the program does not run: {refused}"]
             except NoShim as why:

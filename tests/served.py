@@ -13,7 +13,9 @@ import time
 SECONDS = 30
 SECTOR = 512
 
+VERSION = "00000002 07 02"
 ATTACH = "00000003 01 00 04"
+REAL_TIME, IDLE, BEST_EFFORT = "00000004 08 00 07 01", "00000004 08 00 04 03", "00000004 08 00 04 02"
 LEAVE = "00000001 05"
 LEFT = "86"
 FREEZE, THAW, HOLD, RELEASE, STOP = "00000001 14", "00000001 15", "00000001 18", "00000001 19", "00000001 1c"
@@ -37,6 +39,10 @@ def store(session, start, count, byte):
     return f"{19 + count * SECTOR:08x} 03 {session:016x} {start:016x} {count:04x}" + count * SECTOR * f"{byte:02x}"
 
 
+def discard(session, start, count):
+    return f"00000013 06 {session:016x} {start:016x} {count:04x}"
+
+
 def reap(session):
     return f"00000009 04 {session:016x}"
 
@@ -53,8 +59,17 @@ def read(bio, data):
     return f"83 {bio:016x}" + data.hex()
 
 
+def failed(bio):
+    """A read of the device failed."""
+    return f"85 {bio:016x} 02"
+
+
 def written(bio):
     return f"84 {bio:016x}"
+
+
+def discarded(bio):
+    return f"87 {bio:016x}"
 
 
 def moved(cursor, length):
@@ -124,11 +139,11 @@ class Talk:
 class Served:
     """A run of `bfqhost serve` over an image, with its sockets in a folder. Standard error is read line by line."""
 
-    def __init__(self, program, image, folder, *words, clients=4, workers=2, limits=None):
+    def __init__(self, program, image, folder, *words, clients=4, workers=2, limits=None, env=None):
         self.folder = folder
         given = ["serve", "--image", image, "--dir", folder, "--clients", str(clients), "--workers", str(workers), *words]
         self.process = subprocess.Popen([program, *given], stdin=subprocess.DEVNULL, stdout=subprocess.PIPE, stderr=subprocess.PIPE,
-                                        preexec_fn=limits)
+                                        preexec_fn=limits, env=env)
         self.heard = b""
         wanted = f"serving {folder}, {clients} clients, {workers} workers"
         if (line := self.line()) != wanted:
@@ -183,15 +198,15 @@ class Served:
             operator.ends()
         self.ended()
 
-    def ended(self, status=0):
-        """The run must end with this status, with nothing more said and no socket left."""
+    def ended(self, status=0, said=b""):
+        """The run must end with this status, with this more said and no socket left."""
         try:
             found = self.process.wait(SECONDS)
         except subprocess.TimeoutExpired:
             raise Wrong("the host does not end") from None
         same("the status", found, status)
         same("standard output", self.process.stdout.read(), b"")
-        same("standard error", self.heard + self.process.stderr.read(), b"")
+        same("standard error", self.heard + self.process.stderr.read(), said)
         same("the folder", [name for name in os.listdir(self.folder) if name != "image"], [])
 
     def connections(self):

@@ -16,8 +16,9 @@ import sys
 import tempfile
 import time
 
-from served import (ATTACH, CLOSED, DONE, FREEZE, FULL, HOLD, LEAVE, LEFT, NOT_HELD, RELEASE, SECONDS, STOP, TAKEN, THAW, Served, Talk, Wrong,
-                    attached, fetch, image_of, moved, queued, read, reap, redo, same, sector_of, store, undo, written)
+from served import (ATTACH, BEST_EFFORT, CLOSED, DONE, FREEZE, FULL, HOLD, IDLE, LEAVE, LEFT, NOT_HELD, REAL_TIME, RELEASE, SECONDS, STOP, TAKEN,
+                    THAW, VERSION, Served, Talk, Wrong, attached, discard, discarded, failed, fetch, image_of, moved, queued, read, reap, redo,
+                    same, sector_of, store, undo, written)
 
 CLIENT = os.path.join(os.path.dirname(os.path.dirname(os.path.abspath(__file__))), "clients", "bfqclient.py")
 REFUSED = b"words: refused\n"
@@ -53,6 +54,25 @@ WORDS = [
     ("17 clients", [*GOOD, "--clients", "17"], b"config: clients\n"),
     ("2^64 - 1 clients", [*GOOD, "--clients", str(2**64 - 1)], b"config: clients\n"),
     ("257 clients", [*GOOD, "--clients", "257"], b"config: clients\n"),
+    ("a delay of more than a second", [*GOOD, "--delay", "1000001"], b"config: delay\n"),
+    ("2^32 microseconds", [*GOOD, "--delay", str(2**32)], b"config: delay\n"),
+    ("2^64 - 1 microseconds", [*GOOD, "--delay", str(2**64 - 1)], b"config: delay\n"),
+    ("a delay with a unit", [*GOOD, "--delay", "2ms"], REFUSED),
+    ("a delay of sim", ["sim", "--delay", "1"], REFUSED),
+    ("no runs", [*GOOD, "--bad", ""], REFUSED),
+    ("a run with no count", [*GOOD, "--bad", "5"], REFUSED),
+    ("a run with a sign more", [*GOOD, "--bad", "5++1"], REFUSED),
+    ("runs and a comma more", [*GOOD, "--bad", "5+1,"], REFUSED),
+    ("a run past 2^64", [*GOOD, "--bad", f"{2**64}+1"], REFUSED),
+    ("a run of 2^32 sectors", [*GOOD, "--bad", f"0+{2**32}"], REFUSED),
+    ("a run with a blank", [*GOOD, "--bad", "5 +1"], REFUSED),
+    ("bad sectors of sim", ["sim", "--bad", "5+1"], REFUSED),
+    ("a run of no sector", [*GOOD, "--bad", "5+1,6+0"], b"config: bad\n"),
+    ("17 runs", [*GOOD, "--bad", ",".join(["5+1"] * 17)], b"config: bad\n"),
+    ("the delay before bad sectors", [*GOOD, "--bad", "5+0", "--delay", "1000001"], b"config: delay\n"),
+    ("bad sectors before the image", ["serve", "--image", "/nowhere", "--dir", "DIR", "--bad", "5+0"], b"config: bad\n"),
+    ("clients before the delay", [*GOOD, "--delay", "1000001", "--clients", "0"], b"config: clients\n"),
+    ("the delay before the image", ["serve", "--image", "/nowhere", "--dir", "DIR", "--delay", "1000001"], b"config: delay\n"),
     ("no workers", [*GOOD, "--workers", "0"], b"config: workers\n"),
     ("5 workers", [*GOOD, "--workers", "5"], b"config: workers\n"),
     ("257 workers", [*GOOD, "--workers", "257"], b"config: workers\n"),
@@ -145,7 +165,8 @@ def bad_frames(host):
     with host.talk(1) as other:
         other.asks((ATTACH, attached(1)))
         serial = 2
-        for bad in ["00000000", "00008014", "ffffffff", "00000001 14", "00000002 05 00", "00000001 70", "00000003 01 00"]:
+        for bad in ["00000000", "00008014", "ffffffff", "00000001 14", "00000002 05 00", "00000001 70", VERSION, REAL_TIME, discard(2, 4, 2),
+                    "00000003 01 00"]:
             with host.talk(0) as client:
                 client.asks((ATTACH, attached(serial)))
                 client.send(bad)
@@ -165,6 +186,60 @@ def bad_frames(host):
             other.asks((fetch(1, 3, 1), queued(serial + 1)), (reap(1), read(serial + 1, sector_of(3))))
     with host.operator() as operator:
         operator.send("00000003 01 00 04")
+        operator.ends()
+    host.stop()
+
+
+def discards(host):
+    """A client of version 2 writes, discards and reads zeros. What says the version has no answer and no serial, and comes byte by byte, as the
+    first calls do. After an undo a client of version 1 goes on with the session: it reaps the discard, and can make none."""
+    with host.operator() as operator:
+        # The operator was met, so his connection is counted.
+        operator.asks((RELEASE, NOT_HELD))
+        before = host.connections()
+        with host.talk(0) as client:
+            for byte in bytes.fromhex(VERSION + ATTACH + discard(1, 4, 2)):
+                client.send(f"{byte:02x}")
+            client.hears(attached(1), queued(2))
+            client.asks((reap(1), discarded(2)), (store(1, 5, 2, 0x41), queued(6)), (reap(1), written(6)), (discard(1, 6, 1), queued(10)),
+                        (reap(1), discarded(10)), (fetch(1, 3, 4), queued(14)),
+                        (reap(1), read(14, sector_of(3) + bytes(512) + b"\x41" * 512 + bytes(512))))
+        # Attach and four steps for each of four bios, and the Leave.
+        host.lets_go(before)
+        # What stands is the Attach, and the first discard up to its Finish.
+        operator.asks((HOLD, moved(18, 18)), (undo(14), moved(4, 18)), (RELEASE, DONE))
+        with host.talk(0) as client:
+            client.asks((ATTACH, TAKEN), (reap(1), discarded(2)), (fetch(1, 4, 1), queued(20)), (reap(1), read(20, bytes(512))))
+            client.send(discard(1, 4, 2))
+            client.ends()
+    host.stop()
+
+
+def versions(host):
+    """Each class by a frame, and what says no version: then nothing is answered, and the session that never was takes no serial."""
+    with host.talk(0) as first, host.talk(1) as second, host.talk(2) as third:
+        for serial, (talk, attach) in enumerate([(first, REAL_TIME), (second, IDLE), (third, ATTACH)], 1):
+            talk.send(VERSION)
+            talk.asks((attach, attached(serial)))
+        with Talk(host.path("inspect")) as looks:
+            for seat, name in enumerate(["rt", "idle", "be"]):
+                look = f"class {seat} {name}\n".encode()
+                looks.socket.sendall(f"class {seat}\n".encode())
+                same(f"the class at seat {seat}", looks.take(len(look)), look)
+        for bad in ["00000001 07", "00000002 07 01", "00000002 07 03", "00000003 07 02 00", REAL_TIME, discard(1, 4, 2), VERSION + VERSION,
+                    VERSION + "00000001 07", VERSION + BEST_EFFORT, VERSION + "00000003 08 00 07", VERSION + "00000002 09 04"]:
+            with host.talk(3) as client:
+                client.send(bad)
+                client.ends()
+        for size in range(7):
+            # A peer that goes away inside of what says the version, or behind it.
+            with host.talk(3) as client:
+                client.socket.sendall(bytes.fromhex(VERSION)[:size])
+        with host.talk(3) as client:
+            client.send(VERSION)
+            client.asks((ATTACH, attached(4)))
+    with host.operator() as operator:
+        operator.send(VERSION)
         operator.ends()
     host.stop()
 
@@ -259,6 +334,13 @@ def seats_of_their_paths(host):
         operator.asks((RELEASE, DONE))
         for number, talk in enumerate(talks):
             talk.hears(attached(number + 1))
+        with Talk(host.path("inspect")) as looks:
+            for number in range(5):
+                # The fourth client has the last seat that is taken.
+                look = f"seat {number} {f'{number + 1} 0 4 0 0 here' if number < len(talks) else 'none'}\n".encode()
+                looks.socket.sendall(f"show seat {number}\n".encode())
+                same(f"who sits at seat {number}", looks.take(len(look)), look)
+        for talk in talks:
             talk.socket.close()
     host.stop()
 
@@ -330,8 +412,8 @@ def owner_alone(host):
 
 
 # What is done with a host of four clients and two workers.
-DONE_WITH = [two_clients, stepped, bad_frames, peer_that_never_reads, peer_that_goes_while_its_call_waits, second_connection,
-             bad_frame_while_held, stopped_with_clients, seats_of_their_paths, loaded_by_the_client, owner_alone]
+DONE_WITH = [two_clients, stepped, bad_frames, discards, versions, peer_that_never_reads, peer_that_goes_while_its_call_waits,
+             second_connection, bad_frame_while_held, stopped_with_clients, seats_of_their_paths, loaded_by_the_client, owner_alone]
 
 
 def history_nearly_full(program, image, folder):
@@ -465,6 +547,43 @@ def little_memory(program, image, folder):
 STARTS = [history_nearly_full, sockets_left_behind, paths_of_the_user, clients_of_another, long_path, restarted, no_threads, little_memory]
 
 
+def slow_device(program, image, folder):
+    """With a delay each write and each read takes a worker so long at least, one after the other where there is one worker."""
+    with Served(program, image, folder, "--delay", "50000", workers=1) as host, host.talk(0) as client:
+        client.asks((ATTACH, attached(1)))
+        began = time.monotonic()
+        client.asks((store(1, 5, 1, 0x41), queued(2)), (reap(1), written(2)), (fetch(1, 5, 1), queued(6)), (reap(1), read(6, b"\x41" * 512)))
+        took = time.monotonic() - began
+        same(f"whether a write and a read took two delays: {took}", took >= 0.1, True)
+        began = time.monotonic()
+        for sector in (10, 20, 30, 40):
+            client.send(fetch(1, sector, 1))
+            client.reply()
+        for sector in (10, 20, 30, 40):
+            client.send(reap(1))
+            same(f"sector {sector}", client.reply()[9:], sector_of(sector))
+        took = time.monotonic() - began
+        same(f"whether four reads took four delays: {took}", took >= 0.2, True)
+        host.stop()
+
+
+def bad_sectors(program, image, folder):
+    """A read that has a bad sector fails, one beside it does not, and a write there does not either. So with as many runs as there may be, one
+    of them past the end of the device and as far as numbers go."""
+    runs = ",".join(["20+8", *["40+1"] * 13, f"{2**64 - 1}+{2**32 - 1}", "50+1"])
+    with Served(program, image, folder, "--bad", runs) as host, host.talk(0) as client:
+        client.asks((ATTACH, attached(1)))
+        serial = 2
+        for start, count, is_bad in ((19, 1, False), (19, 2, True), (27, 1, True), (28, 2, False), (40, 1, True), (16, 16, True), (50, 1, True), (51, 1, False)):
+            client.asks((fetch(1, start, count), queued(serial)),
+                        (reap(1), failed(serial) if is_bad else read(serial, b"".join(sector_of(start + at) for at in range(count)))))
+            serial += 4
+        client.asks((store(1, 20, 1, 7), queued(serial)), (reap(1), written(serial)))
+        serial += 4
+        client.asks((fetch(1, 20, 1), queued(serial)), (reap(1), failed(serial)))
+        host.stop()
+
+
 def idle(program, image, folder):
     """It uses less than one processor in a hundred: when nothing has come, after some load, held with calls that wait, and with a full
     history and a request in flight."""
@@ -512,7 +631,7 @@ def runs(program, bfqctl):
     """Each run's name, and the call that makes it in a new folder."""
     for name, words, said in WORDS:
         yield f"serve: {name}", lambda folder, words=words, said=said: refused(program, words, said, folder)
-    for act in [*STARTS, idle]:
+    for act in [*STARTS, slow_device, bad_sectors, idle]:
         yield f"serve: {act.__name__}", lambda folder, act=act: act(program, *image_and_folder(folder))
     for act in DONE_WITH:
         yield f"serve: {act.__name__}", lambda folder, act=act: with_host(program, act, folder)

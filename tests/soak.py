@@ -1,11 +1,13 @@
 """A host under load that is held, stepped back and forth, and switched: each client reads what it wrote.
 
-Sixteen clients read and write sectors of their own at random. Meanwhile the operator holds the host, undoes some steps, redoes the same,
-and releases it; now and then he freezes it, switches the scheduler once no request is left, and thaws it. What a client reads must be
-what it wrote there last, or else the image. So far nothing was cut, and the serial of a step is its place in the line.
+Sixteen clients read, write and discard sectors of their own at random; a fifth are discards. Meanwhile the operator holds the host, undoes
+some steps, redoes the same, and releases it; now and then he freezes it, switches the scheduler once no request is left, and thaws it. What
+a client reads must be what it wrote there last, zeros if it has discarded it since, or else the image. So far nothing was cut, and the
+serial of a step is its place in the line.
 
-Then the clients stand still, and some steps are undone and not redone. Of a client's writes those stand whose serial is not above the
-place that the undo came to. Each client takes the results that it is still owed, reads all its sectors, which must be so, and goes on.
+Then the clients stand still, and some steps are undone and not redone. Of a client's writes and discards those stand whose serial is not
+above the place that the undo came to. Each client takes the results that it is still owed, reads all its sectors, which must be so, and
+goes on.
 """
 
 import contextlib
@@ -25,6 +27,8 @@ from served import (DONE, FREEZE, HOLD, NOT_HELD, RELEASE, THAW, Served, Wrong, 
 
 CLIENTS = 16
 OWN = 48
+# What shares of all are writes and discards.
+WRITES, DISCARDS = 0.4, 0.2
 MOST_IOS = 200_000
 MOST_UNDONE = 3000
 NOT_DRAINED, NOTHING_OWED = "e018", 16
@@ -37,16 +41,20 @@ class Client(threading.Thread):
     def __init__(self, host, number, soak):
         super().__init__(daemon=True)
         self.place = host.path(f"client{number}"), number % soak.GROUPS, number % 8
-        self.session = Session(*self.place)
+        self.session = self.connected()
         self.sectors = range(number * soak.APART, number * soak.APART + OWN)
         self.depth = (1, 2, 8, 32)[number % 4]
         self.dice = random.Random(number)
         self.soak = soak
-        # Of each sector the writes so far, each with its bio; a bio's number is the serial of its Submit.
+        # Of each sector what it has had so far, each with its bio; a bio's number is the serial of its Submit.
         self.writes = {at: [(0, sector_of(at))] for at in self.sectors}
-        # Of each sector that is read or written just now what is written, and None of a read.
+        # Of each sector that something is under way for what it has then, and None of a read.
         self.busy = {}
         self.fault = None
+
+    def connected(self):
+        """A session at its place, which can discard."""
+        return Session(*self.place, version=2)
 
     def run(self):
         try:
@@ -70,25 +78,32 @@ class Client(threading.Thread):
         self.session.close()
 
     def ios(self, is_over):
-        """Reads and writes of one sector at random, of which none meets another that is under way, until it is over."""
+        """Reads, writes and discards of one sector at random, of which none meets another that is under way, until it is over."""
         while not is_over():
             at = self.dice.choice(self.sectors)
             if at in self.busy:
                 yield None
+                continue
+            roll = self.dice.random()
+            if roll < WRITES:
+                io = Io.write(at, self.dice.randbytes(4) * (SECTOR // 4))
             else:
-                self.busy[at] = self.dice.randbytes(4) * (SECTOR // 4) if self.dice.random() < 0.5 else None
-                yield Io(at, 1, self.busy[at])
+                io = Io.discard(at, 1) if roll < WRITES + DISCARDS else Io.read(at, 1)
+            self.busy[at] = bytes(SECTOR) if io.is_discard else io.data
+            yield io
 
     def load(self, is_over):
         for bio, io, data in self.session.run(self.ios(is_over), self.depth):
-            del self.busy[io.start]
+            now = self.busy.pop(io.start)
             self.soak.count += 1
-            if io.data is not None:
-                self.writes[io.start].append((bio, io.data))
+            self.soak.discards += io.is_discard
+            if now is not None:
+                self.writes[io.start].append((bio, now))
             else:
                 self.compare(io.start, data)
 
     def compare(self, at, data):
+        """What was read must be what the sector has."""
         if data != self.writes[at][-1][1]:
             raise Wrong(f"sector {at} has {data[:4].hex()} and not {self.writes[at][-1][1][:4].hex()}")
 
@@ -105,7 +120,7 @@ class Client(threading.Thread):
         self.read_all()
 
     def read_all(self):
-        """Each of its sectors has what it wrote there last."""
+        """Each of its sectors has what it wrote there last, or zeros."""
         data = self.session.read(self.sectors.start, OWN)
         for at in self.sectors:
             self.compare(at, data[(at - self.sectors.start) * SECTOR:][:SECTOR])
@@ -119,7 +134,7 @@ class Soak:
 
     def __init__(self, host, seconds):
         self.host = host
-        self.count = 0
+        self.count = self.discards = 0
         self.until = time.monotonic() + seconds
         self.barrier = threading.Barrier(CLIENTS + 1, timeout=120)
         self.cursor = 0
@@ -191,7 +206,8 @@ def placed(reply):
 
 
 def soak(program, folder, seconds):
-    """Gives how many reads and writes were done, and how often the host was stepped back and forth, and switched."""
+    """Gives how many reads, writes and discards were done, how many were discards, and how often the host was stepped back and forth, and
+    switched."""
     sockets = os.path.join(folder, "sockets")
     os.mkdir(sockets)
     with Served(program, image_of(folder, CLIENTS * OWN), sockets, "--history", "16777216", clients=CLIENTS, workers=4) as host:
@@ -199,7 +215,7 @@ def soak(program, folder, seconds):
         with at_work([Client(host, number, run) for number in range(CLIENTS)]):
             run.operate()
         host.stop()
-    return run.count, *run.rounds
+    return run.count, run.discards, *run.rounds
 
 
 @contextlib.contextmanager
@@ -223,8 +239,8 @@ def soaks(program, seconds):
     name = "a host that serves under load"
     try:
         with tempfile.TemporaryDirectory(prefix="bfq-") as folder:
-            count, stepped, switched = soak(program, folder, seconds)
-        print(f"soak: {count} reads and writes; stepped back and forth {stepped} times, switched {switched} times")
-        yield name, [] if min(count, stepped, switched) > 0 else ["nothing was done"]
+            count, discards, stepped, switched = soak(program, folder, seconds)
+        print(f"soak: {count} reads, writes and discards, {discards} of these; stepped back and forth {stepped} times, switched {switched} times")
+        yield name, [] if min(discards, stepped, switched) > 0 else ["nothing was done"]
     except (Wrong, OSError, subprocess.SubprocessError) as fault:
         yield name, [str(fault)]

@@ -578,6 +578,7 @@ def help_of_step(program, folder):
     stdout, *rest = ran(["step"], folder, program, stdin=b"help\n")
     yield from compared(("", *rest))
     for wanted in ("to SERIAL ", "b [K]", "f [K]", "steps ", "work last", "finish last stored", "write SEAT SESSION START COUNT BYTE,",
+                   "discard SEAT SESSION START COUNT,",
                    "finish TAG ISSUE fill BYTE,", "show step K\n"):
         if wanted not in stdout:
             yield f"help has no {wanted!r}"
@@ -754,6 +755,60 @@ def export_of_holes(program, folder):
     yield from [] if got == wanted else [f"of {len(got)} bytes those from {len(os.path.commonprefix([got, wanted]))} on are others"]
     if (used := os.stat(os.path.join(folder, "out")).st_blocks * SECTOR) > 1 << 20:
         yield f"the new file takes {used} bytes"
+
+
+# Sectors that are written, two of which and the one behind them are discarded; and a write of zeros.
+DISCARD = """\
+attach 0 0 4
+write 0 1 1 2 65
+dispatch
+finish 0 3 stored
+discard 0 1 2 2
+dispatch
+work 0 6
+write 0 1 6 1 0
+dispatch
+finish 0 9 stored
+"""
+
+
+def export_of_discards(program, folder):
+    """What is discarded is zeros. With --holes the bytes are the same, also at a moment, after each write, and where only a part of a block
+    of the file system is zeros."""
+    first, second = over(IMAGE, {1: 65, 2: 65}), over(IMAGE, {1: 65, 2: 0, 3: 0})
+    last = over(second, {6: 0})
+    for words, told in (([], ["", "", ""]), (["--holes"], [f", {count} of them zeros that are not written" for count in (0, 2, 3)])):
+        name = f"out{len(words)}"
+        yield from exported(program, folder, DISCARD, [*words, name],
+                            f"{name}: 4 sectors stored over image{told[2]}, 10 of 10 steps stand\n", {name: last})
+        yield from exported(program, folder, DISCARD, [f"{name}-at", "--until", "stored sector 3", *words],
+                            f"{name}-at: 3 sectors stored over image{told[1]}, 7 of 10 steps stand\n", {f"{name}-at": second})
+        yield from exported(program, folder, DISCARD, ["--each", "stored", "--into", f"{name}-states", *words], "".join(
+            f"{name}-states/after-{serial:08}.img: {count} sectors stored over image{zeros}, {serial} of {serial} steps stand\n"
+            for serial, count, zeros in zip((4, 7, 10), (2, 3, 4), told)),
+            {f"{name}-states/after-{serial:08}.img": image for serial, image in ((4, first), (7, second), (10, last))})
+
+
+def export_with_holes(program, folder):
+    """A file of data is smaller by what is discarded: 640 sectors of it in a row, of which whole blocks are holes."""
+    data = bytes(range(1, 256)) * 5140
+    written(folder, "image", data)
+    with open(os.path.join(folder, "sparse"), "wb") as file:
+        file.truncate(len(data))
+    if os.stat(os.path.join(folder, "sparse")).st_blocks * SECTOR > len(data) // 2:
+        raise Skipped("a file with holes: there are none here")
+    script = "attach 0 0 4\n" + "".join(f"discard 0 1 {101 + 64 * at} 64\n" for at in range(10))
+    # A request has at most 256 sectors, so there are three.
+    script += 3 * "dispatch\n" + "".join(f"work {tag} {12 + tag}\n" for tag in range(3))
+    used = {}
+    for name, words, told in (("whole", [], ""), ("holed", ["--holes"], ", 640 of them zeros that are not written")):
+        got = ran(["export", "image", name, *words], folder, program, stdin=script.encode())
+        yield from compared(got, f"{name}: 640 sectors stored over image{told}, 17 of 17 steps stand\n")
+        yield from of_image(name, contents(folder, name), over(data, dict.fromkeys(range(101, 741), 0)))
+        used[name] = os.stat(os.path.join(folder, name)).st_blocks
+    # With blocks of 64 KiB, or 128 sectors, three whole ones are within.
+    if used["whole"] - used["holed"] < 3 * 128:
+        yield f"the files take {used} times 512 bytes"
 
 
 def export_of_unlike_bytes(program, folder):
@@ -1073,7 +1128,7 @@ FUNCTIONS = [
     back_and_forth, script_first, at_most_80_columns, one_by_one, on_a_terminal, ends_at_a_terminal, program_ends_at_a_terminal,
     help_of_step,
     export_at_the_end, export_at_a_serial, export_of_a_serial_undone_away, export_each, export_over_what_is_there, export_of_no_image,
-    export_of_holes, export_of_unlike_bytes, export_to_a_full_disk, export_each_state_of_an_ext4,
+    export_of_holes, export_of_discards, export_with_holes, export_of_unlike_bytes, export_to_a_full_disk, export_each_state_of_an_ext4,
     csv_file, like_queries, no_matplotlib, svg_file, odd_answers, not_built, helps, output_that_takes_nothing,
 ]
 

@@ -175,7 +175,7 @@ def events_of(host, lines):
             _, tag, issue, operation, start, count = answer
             requests[issue] = operation, range(int(start), int(start) + int(count))
             issued[int(at[3])] = next(item.split(":")[2] for item in flight[1:] if item.startswith(f"{tag}:{issue}:"))
-        if answer[0] == "finished" and requests[line.split(" ")[2]][0] == "store":
+        if answer[0] == "finished" and requests[line.split(" ")[2]][0] != "fetch":
             stored[int(at[3])] = requests[line.split(" ")[2]][1]
     return issued, stored
 

@@ -170,6 +170,14 @@ def narrow_examples(program, folder):
             yield from (f"{name}: {len(line)} columns: {line}" for line in lines[at:end] if len(line) > COLUMNS)
 
 
+def narrow_discards(program, folder):
+    """A discard is named where a read and a write are: at the device, as the next one, and when it is given back."""
+    stdout, *rest = ran(["step", "--narrow"], folder, program, stdin=b"attach 0 0 4\ndiscard 0 1 5 2\ndiscard 0 1 9 1\ndispatch\nrequeue last\n")
+    yield from compared(("", *rest))
+    for text in ("in flight: tag 0 seat 0 discard 5+2\n", "; next discard 9+1\n", "dispatch list: seat 0 discard 5+2\n"):
+        yield from [] if text in stdout else [f"there is no {text!r}"]
+
+
 ROWS = 24
 # Each client reads in turn, and is served, so that there are exhaustion, ticks and undos on the way.
 TYPED = ["dispatch", "dispatch", "work last", "tick", "dispatch", "read 0 3 400 64", "dispatch", "dispatch", "b", "f", "dispatch", "b 3",
@@ -277,7 +285,7 @@ def teaching_runs(program):
     """The name of each run, and what was wrong with it. What cannot be had here is skipped, and a line is printed for it."""
     for run in RUNS:
         yield run.name, faults_of(run, program)
-    for function in (filled, narrow, narrow_examples, at_24_rows, exercises):
+    for function in (filled, narrow, narrow_examples, narrow_discards, at_24_rows, exercises):
         name = f"teaching: {function.__name__.replace('_', ' ')}"
         try:
             yield name, faults_in(function, program)

@@ -220,6 +220,9 @@ BAD_ROWS = [
         ("a sign", "undo -1", "K is no number: '-1'"),
         ("a 0 before a number", "undo 01", "K has a 0 before its number: '01'"),
         ("a number past its type", "read 0 1 0 65536", "COUNT is at most 65535: '65536'"),
+        ("a discard past its type", "discard 0 1 0 65536", "COUNT is at most 65535: '65536'"),
+        ("a discard with a byte", "discard 0 1 0 1 0", "a word too many: '0'"),
+        ("a discard of no count", "discard 0 1 0", "too few words: after '0' comes COUNT"),
         ("a number of 5,000 digits", "sector " + 5_000 * "1", "more than 256 bytes"),
         ("a number of 100 digits", "sector " + 100 * "1", f"NUMBER is at most {2**64 - 1}: '{100 * '1'}'"),
         ("a byte of no text", b"line\xff", "a byte that stands in no word: 0xff"),
@@ -244,12 +247,12 @@ def head(version):
 
 
 def totals(clients=1, *, reads=0, writes=0, syncs=0, read=0, written=0, bios=0, sent=0, merged=0, back=0, failed=0, refused=0, trims=0,
-           waits=0, met=()):
+           trimmed=0, waits=0, met=()):
     """The line of totals. `met` has the refusals that were met."""
     return "; ".join([
-        f"{clients} clients, {reads} reads, {writes} writes, {syncs} syncs: {read} bytes read, {written} bytes written, {bios} bios, "
-        f"{sent} requests sent, {merged} bios merged, {back} requests given back, {failed} bios failed, {refused} refused, "
-        f"{trims} trims and {waits} waits left out", *met]) + "\n"
+        f"{clients} clients, {reads} reads, {writes} writes, {trims} trims, {syncs} syncs: {read} bytes read, {written} bytes written, "
+        f"{trimmed} bytes discarded, {bios} bios, {sent} requests sent, {merged} bios merged, {back} requests given back, "
+        f"{failed} bios failed, {refused} refused, {waits} waits left out", *met]) + "\n"
 
 
 def no_request(count):
@@ -293,8 +296,16 @@ LOGS = [
           totals(writes=2, written=1024, bios=2, sent=1, merged=1, met=[no_request(2)])),
     iolog("a sync between two writes", "/b sync 0 0\n/b write 0 512\n/b sync 0 0\n/b write 512 512\n/b datasync 0 0\n/b sync 0 0\n",
           totals(writes=2, syncs=4, written=1024, bios=2, sent=2, met=[no_request(3)])),
-    iolog("trims and waits are left out", "/b trim 0 512\n/b wait 1000 0\n/b write 0 512\n/b trim 512 512\n",
-          totals(writes=1, written=512, bios=1, sent=1, trims=2, waits=1, met=[no_request(2)])),
+    # Two discards of one file merge, but not with the write of a sector between them.
+    iolog("trims, and a wait that is left out", "/b trim 0 512\n/b wait 1000 0\n/b write 0 512\n/b trim 512 512\n",
+          totals(writes=1, trims=2, written=512, trimmed=1024, bios=3, sent=2, merged=1, waits=1, met=[no_request(3)]),
+          program=ASKED, asked="attach 0 0 4\ndiscard 0 1 0 1\nwrite 0 1 0 1 1\ndiscard 0 1 1 1\n" + 3 * SHOWN
+          + "work 0 5\nreap 0 1\nreap 0 1\n" + SHOWN + "work 1 6\nreap 0 1\n" + SHOWN),
+    # A trim of 70 sectors is 64 and 6.
+    iolog("a trim that is split", "/b trim 512 35840\n", totals(trims=1, trimmed=35840, bios=2, sent=1, merged=1, met=[no_request(2)]),
+          program=ASKED, asked="attach 0 0 4\ndiscard 0 1 1 64\ndiscard 0 1 65 6\n" + 2 * SHOWN + "work 0 4\n" + 2 * "reap 0 1\n" + SHOWN),
+    iolog("a trim past the end of the device", f"/b trim {65_535 * 512} 1024\n",
+          totals(trims=1, refused=1, met=[PAST_THE_END, no_request(1)]), status=NOT_WANTED),
     iolog("no read and no write", FILES, totals(2, met=[no_request(1)])),
     iolog("no file", head(2), totals(0, met=[no_request(1)])),
     # The last sector of the device is 65,535.
@@ -555,10 +566,10 @@ def documented(program, folder):
 # A log of four jobs.
 
 def counted(text):
-    """What a log of version 3 asks for: how many reads, writes and syncs, how many bytes of the first two, and how many bios."""
+    """What a log of version 3 asks for: how many reads, writes, trims and syncs, how many bytes of the first three, and how many bios."""
     rows = [row.split() for row in text.splitlines()[1:]]
     count = {action: sum(row[2] == action for row in rows) for action in ("read", "write", "sync", "trim")}
-    lengths = {action: [int(row[4]) for row in rows if row[2] == action] for action in ("read", "write")}
+    lengths = {action: [int(row[4]) for row in rows if row[2] == action] for action in ("read", "write", "trim")}
     bios = sum(-(-length // (64 * 512)) for of_action in lengths.values() for length in of_action)
     return count, {action: sum(of_action) for action, of_action in lengths.items()}, bios
 
@@ -573,7 +584,7 @@ def jobs(program, folder):
     if count["read"] + count["write"] != 2_000:
         yield f"there are {count}"
     start, end = totals(4, reads=count["read"], writes=count["write"], syncs=count["sync"], read=length["read"], written=length["write"],
-                        bios=bios, sent=-1, merged=-2, trims=count["trim"])[:-1].split("-1 requests sent, -2 bios merged")
+                        bios=bios, sent=-1, merged=-2, trims=count["trim"], trimmed=length["trim"])[:-1].split("-1 requests sent, -2 bios merged")
     second = written(folder, "second.log", head(2) + "".join(f"{row.split(' ', 1)[1]}\n" for row in text.splitlines()[1:]))
     lines = []
     for path in (LOG, second):

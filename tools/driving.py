@@ -50,7 +50,7 @@ class Driver:
             getattr(note, what)(*words)
 
     def came(self, time):
-        """What the clock was when a read or a write came: it comes when it is sent."""
+        """What the clock was when a read, a write or a discard came: it comes when it is sent."""
         return self.clock
 
     def passed(self, count):
@@ -108,7 +108,7 @@ class Driver:
             return True
         part = min(count, MOST_SECTORS)
         line = f"{word} {client.seat} {client.session} {start} {part}"
-        answer = self.host.ask(line if word == "read" else f"{line} {client.seat + 1}")
+        answer = self.host.ask(f"{line} {client.seat + 1}" if word == "write" else line)
         if answer == REQUESTS_FULL:
             self.account.refusals[answer] += 1
             client.todo.appendleft(io)
@@ -180,7 +180,7 @@ class Driver:
 
 
 class OpenDriver(Driver):
-    """Clients whose reads and writes come by their times. The clock counts what the device could have taken by now."""
+    """Clients whose reads, writes and discards come by their times. The clock counts what the device could have taken by now."""
 
     def __init__(self, *of_driver, rate, has_ticks):
         super().__init__(*of_driver)
@@ -193,7 +193,7 @@ class OpenDriver(Driver):
         """Nothing passes when a request is sent: the device takes it later."""
 
     def take_turn(self, client):
-        """Whoever has a read or a write whose time has come is in turn."""
+        """Whoever has something to do whose time has come is in turn."""
         if client.todo and self.came(client.todo[0][3]) <= self.clock:
             super().take_turn(client)
 
@@ -205,7 +205,7 @@ class OpenDriver(Driver):
         self.dispatch()
 
     def next_time(self):
-        """When the next read or write comes; None if none does."""
+        """When the next read, write or discard comes; None if none does."""
         return min((time for client in self.clients if client.todo and (time := self.came(client.todo[0][3])) > self.clock), default=None)
 
     def run(self):
@@ -249,7 +249,7 @@ def with_usual(options):
 WORDS = [
     ("logs", {"metavar": "LOG", "nargs": "+", "help": "a log of fio, or -"}),
     ("--depth", {"metavar": "N", "type": number("a depth", AHEAD), "default": AHEAD, "help": f"bios that a client has ahead ({AHEAD})"}),
-    ("--open", {"action": "store_true", "help": "each read and write comes when its time comes"}),
+    ("--open", {"action": "store_true", "help": "each read, write and trim comes when its time comes"}),
     ("--rate", {"metavar": "N", "type": number("a rate", MOST_RATE), "help": "how many sectors the device takes in a millisecond"}),
     ("--ticks", {"action": "store_true", "help": "a tick in each millisecond"}),
 ]

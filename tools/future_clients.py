@@ -7,20 +7,26 @@ from host import BadInput, BadLine, Ended, Host, bad_line, read_lines
 from logs import MOST_SECTORS
 from shown import SEATS
 
-FORMS = [form.split() for form in ["seat SEAT", "write START COUNT BYTE", "read START COUNT", "reap", "sync"]]
+FORMS = [form.split() for form in ["seat SEAT", "write START COUNT BYTE", "read START COUNT", "discard START COUNT", "reap", "sync"]]
 PRIO = 4
 MOST_OWED = 32
 
 
 class Item(collections.namedtuple("Item", "word start count byte")):
-    """What a client calls: of a read or a write also where it begins, how many sectors it has, and the byte of a write."""
+    """What a client calls: of a read, a write or a discard also where it begins, how many sectors it has, and the byte of a write."""
 
-    def words(self):
-        """The words of its line behind the session."""
-        return tuple(str(part) for part in self[1:] if part is not None)
+    def act(self):
+        """What it does, as `act_of` tells it of a line."""
+        return tuple(str(part) for part in self if part is not None)
 
 
 REAP = Item("reap", None, None, None)
+
+
+def act_of(line):
+    """What a read, a write or a discard does by its line: its words but for the seat and the session."""
+    word, _, _, *words = line.split(" ")
+    return (word, *words)
 
 
 class Client:
@@ -56,7 +62,7 @@ class Client:
             self.last_reaps.append(self.last_reaps[-1] + 1 if item is REAP else 0)
 
     def io_of(self, number, words, host):
-        """A read or a write, which must end before the device does."""
+        """A read, a write or a discard, which must end before the device does."""
         word, start, count, *byte = words[0], *map(int, words[1:])
         last = start + count - 1
         if last >= 2**64 or host.ask(f"sector {last}").endswith(" none"):
@@ -78,7 +84,7 @@ def read_clients(path):
             continue
         if not clients:
             raise bad_line(path, number, "no `seat SEAT` stands before it")
-        if words[0] in ("read", "write") and not 1 <= int(words[2]) <= MOST_SECTORS:
+        if words[0] in ("read", "write", "discard") and not 1 <= int(words[2]) <= MOST_SECTORS:
             raise bad_line(path, number, f"COUNT is 1 to {MOST_SECTORS}: '{words[2]}'")
         clients[-1].rows.append((number, words))
     if not clients:

@@ -6,6 +6,7 @@ if nothing were stored.
 
 import os
 
+from future_clients import act_of
 from host import told_with
 from image import SECTOR
 
@@ -13,13 +14,13 @@ ZEROS = bytes(SECTOR)
 
 
 class Contents:
-    """All contents so far. What a write stores is told by the name of its bio."""
+    """All contents so far. What a write or a discard stores is told by the name of its bio."""
 
     def __init__(self, image, stored):
         self.image = image
         # Of each content what is stored where the image has something else, and its number.
         self.all, self.numbers = [], {}
-        # What each write stores: sectors with their blocks, which are None if the image has these bytes.
+        # What each of them stores: sectors with their blocks, which are None if the image has these bytes.
         self.writes = {}
         self.after = {}
         self.first = self.number(self.over_image(stored))
@@ -43,19 +44,20 @@ class Contents:
         return found
 
     def name_all(self, names, opening):
-        """Names what each write of the opening and of the clients stores."""
+        """Names what each write and each discard of the opening and of the clients stores."""
         for line, answer in zip(opening.lines, opening.answers):
-            if answer.startswith("queued ") and line.startswith("write "):
-                words = tuple(line.split(" ")[3:])
-                self.write(names.of(words, int(answer.split(" ")[1])), *map(int, words))
+            if answer.startswith("queued ") and line.startswith(("write ", "discard ")):
+                act = act_of(line)
+                self.name(names.of(act, int(answer.split(" ")[1])), *act[1:])
         for number, client in enumerate(opening.clients):
             for place, item in enumerate(client.items):
-                if item.word == "write":
-                    self.write(names.of(item.words(), (number, place)), item.start, item.count, item.byte)
+                if item.word in ("write", "discard"):
+                    act = item.act()
+                    self.name(names.of(act, (number, place)), *act[1:])
 
-    def write(self, name, start, count, byte):
-        """That the bio of this name stores so many bytes."""
-        block = bytes([byte]) * SECTOR
+    def name(self, name, start, count, byte="0"):
+        """That the bio of this name stores this byte in so many sectors. A discard has none, and stores zeros."""
+        start, count, block = int(start), int(count), bytes([int(byte)]) * SECTOR
         self.writes[name] = [(sector, None if block == self.of_image(sector) else block) for sector in range(start, start + count)]
 
     def stored(self, before, bios):

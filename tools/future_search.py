@@ -5,15 +5,15 @@ accepted is known from the looks, and each accepted step takes the next serial, 
 
 Two reductions leave each content reachable, and the shortest way to it. A reap that can be made is made first: it changes nothing for
 anybody else, and is no part of a way if its client calls nothing after it. And a request is completed only if something waits for that: a
-reap, a read or a write for which the host has no room, or a dispatch that wants its tag. All orders of completions that are left out
-are closed over in contents alone.
+reap, a read, a write or a discard for which the host has no room, or a dispatch that wants its tag. All orders of completions that are
+left out are closed over in contents alone.
 """
 
 import collections
 import time
 
 import grammar
-from future_clients import REAP
+from future_clients import REAP, act_of
 from host import Ended
 from reasons import limits_of
 
@@ -23,9 +23,11 @@ TOGETHER = 64
 MOST_LINES = 100_000
 MOST_BIOS, MOST_OF_REQUEST = 32, 256
 NR_REQUESTS = 64
-# What a device may answer to a read.
+# What a device may answer to a read, and what it answers to all else.
 FILLED, FAULTS = "fill 0", ("short", "fault")
 STORED = "stored"
+# What a queue calls what a client does.
+OPERATIONS = {"read": "fetch", "write": "store", "discard": "discard"}
 
 # The moves. A client calls what it calls next; a request is dispatched, finished or given back; the queue in service is a tick older.
 Call = collections.namedtuple("Call", "client place")
@@ -106,7 +108,7 @@ class Live:
         for line, answer in zip(self.opening.lines, self.opening.answers):
             word, *words = answer.split(" ")
             if word == "queued":
-                self.names.bios[words[0]] = self.names.of(tuple(line.split(" ")[3:]), int(words[0]))
+                self.names.bios[words[0]] = self.names.of(act_of(line), int(words[0]))
             elif word == "issued":
                 self.names.issues[words[1]] = -int(words[1])
 
@@ -134,7 +136,7 @@ class Live:
             client = self.opening.clients[move.client]
             item = client.items[move.place]
             if item is not REAP:
-                self.names.bios[str(self.serial)] = self.names.of(item.words(), (move.client, move.place))
+                self.names.bios[str(self.serial)] = self.names.of(item.act(), (move.client, move.place))
 
     def back(self, steps):
         """It will go back."""
@@ -206,19 +208,18 @@ class Search:
     def finishes(self, view):
         """The completions of what is in flight."""
         return [Finish(tag, issue, outcome) for tag, issue, request in view.flight
-                for outcome in ([STORED] if request[1] == "store" else self.outcomes)]
+                for outcome in (self.outcomes if request[1] == "fetch" else [STORED])]
 
     def has_room(self, view, place, item):
-        """Whether the host takes a read or a write now: it is not frozen, and has room or a request that it joins."""
+        """Whether the host takes a read, a write or a discard now: it is not frozen, and has room or a request that it joins."""
         if self.reader.is_frozen:
             return False
         if sum(map(len, view.queues)) + len(view.flight) + len(view.returned) < self.room:
             return True
-        operation = "fetch" if item.byte is None else "store"
         for of, extent, bios in view.queues[place]:
             start, count = map(int, extent.split("+"))
             is_beside = start + count == item.start or item.start + item.count == start
-            if of == operation and is_beside and count + item.count <= MOST_OF_REQUEST and len(bios) < MOST_BIOS:
+            if of == OPERATIONS[item.word] and is_beside and count + item.count <= MOST_OF_REQUEST and len(bios) < MOST_BIOS:
                 return True
         return False
 
@@ -309,7 +310,7 @@ class Search:
         steps = self.steps_to(node)
         self.ways.found(view.content, steps, node)
         if not self.given.all_states:
-            stores = tuple((Finish(tag, issue, STORED), request[-1]) for tag, issue, request in view.flight if request[1] == "store")
+            stores = tuple((Finish(tag, issue, STORED), request[-1]) for tag, issue, request in view.flight if request[1] != "fetch")
             self.ways.close(view.content, steps, node, stores)
 
     def steps_to(self, node):

@@ -22,7 +22,7 @@ CLASSES = ("rt", "be", "idle")
 CHOICES = {"CLASS": CLASSES}
 FORMS = [form.split() for form in [
     "attach SEAT GROUP PRIO", "attach SEAT GROUP PRIO CLASS",
-    "read SEAT SESSION START COUNT", "write SEAT SESSION START COUNT BYTE", "dispatch",
+    "read SEAT SESSION START COUNT", "write SEAT SESSION START COUNT BYTE", "discard SEAT SESSION START COUNT", "dispatch",
     "finish TAG ISSUE stored", "finish TAG ISSUE fill BYTE", "finish TAG ISSUE short", "finish TAG ISSUE fault",
     "work TAG ISSUE", "requeue TAG ISSUE", "reap SEAT SESSION", "leave SEAT", "group PARENT WEIGHT", "drop GROUP",
     "weight GROUP WEIGHT", "freeze", "thaw", "switch none", "switch bfq", "tick", "hold", "release", "undo K", "redo K",

@@ -62,12 +62,18 @@ def stored(host):
             yield sector, block * (SECTOR // len(block))
 
 
-def write_new(path, image, blocks):
-    """Writes an image with blocks over it, each by its sector, as a new file: all of it or nothing. Gives how many blocks there were."""
+def zeros_stored(host):
+    """The stored sectors that are all zeros, as one that was discarded is."""
+    return {sector for sector, block in stored(host) if not any(block)}
+
+
+def write_new(path, image, blocks, holes=frozenset()):
+    """Writes an image with blocks over it, each by its sector, as a new file: all of it or nothing. Nothing is written at sectors that are
+    to be holes. Gives how many blocks there were."""
     with told_with(path):
         out = os.open(path, os.O_WRONLY | os.O_CREAT | os.O_EXCL, 0o666)
     try:
-        count = fill(path, out, image, blocks)
+        count = fill(path, out, image, blocks, holes)
     except BaseException:
         with contextlib.suppress(OSError):
             os.unlink(path)
@@ -77,17 +83,32 @@ def write_new(path, image, blocks):
     return count
 
 
-def fill(path, out, image, blocks):
+def fill(path, out, image, blocks, holes):
     """Writes into a new file. Gives how many blocks there were."""
     count = 0
     with told_with(path):
         os.truncate(out, image.length)
     for at, piece in image.pieces():
-        write_at(path, out, piece, at)
+        for place, part in around(holes, at, piece):
+            write_at(path, out, part, place)
     for sector, block in blocks:
-        write_at(path, out, block, SECTOR * sector)
+        if sector not in holes:
+            write_at(path, out, block, SECTOR * sector)
         count += 1
     return count
+
+
+def around(holes, at, piece):
+    """The parts of a piece that are at no sector of these, each with its place."""
+    begin, end = at, at + len(piece)
+    # Mostly there are none, and an image is large.
+    for sector in range(at // SECTOR, end // SECTOR + 1) if holes else ():
+        if sector in holes:
+            if begin < SECTOR * sector:
+                yield begin, piece[begin - at:SECTOR * sector - at]
+            begin = SECTOR * (sector + 1)
+    if begin < end:
+        yield begin, piece[begin - at:]
 
 
 def write_at(path, out, data, at):

@@ -10,7 +10,7 @@ from host import BadInput, bad_line, read_lines
 
 SECTOR = 512
 STANDARD_INPUT = "-"
-# A read or a write has at most so many sectors, and a client at most so many of them that are not reaped.
+# A read, a write or a discard has at most so many sectors, and a client at most so many of them that are not reaped.
 MOST_SECTORS = 64
 AHEAD = 32
 SEATS = 16
@@ -24,11 +24,12 @@ HEADER = re.compile(r"fio version (\d+) iolog")
 VERSIONS = ("2", "3")
 NUMBER = re.compile(r"[0-9]{1,20}")
 OF_FILES = {"add", "open", "close"}
-IOS = {"read", "write"}
+# What a client does for each of these, by the word of its line.
+IOS = {"read": "read", "write": "write", "trim": "discard"}
 SYNCS = {"sync", "datasync", "sync_file_range"}
-TRIM, WAIT = "trim", "wait"
+WAIT = "wait"
 
-# The word of a sync among the reads and writes of a client.
+# The word of a sync among what a client does.
 SYNC = "sync"
 
 # Who the files of a log are.
@@ -44,7 +45,7 @@ class Client:
     def __init__(self, seat, log, file, place, depth):
         self.seat, self.log, self.file, self.place, self.depth = seat, log, file, place, depth
         self.session = None
-        # Reads and writes, as their word, first sector, number of sectors and time, and syncs.
+        # Reads, writes and discards, as their word, first sector, number of sectors and time, and syncs.
         self.todo = collections.deque()
         # How many of its bios are not reaped.
         self.ahead = 0
@@ -68,10 +69,10 @@ class Account:
     def told(self, clients):
         """The line of totals."""
         ios = self.ios
-        text = (f"{clients} clients, {ios['read']} reads, {ios['write']} writes, {ios['sync']} syncs: "
-                f"{self.bytes['read']} bytes read, {self.bytes['write']} bytes written, {self.bios} bios, {self.sent} requests sent, "
-                f"{self.merged} bios merged, {self.given_back} requests given back, {self.failed} bios failed, "
-                f"{self.refused} refused, {ios[TRIM]} trims and {ios[WAIT]} waits left out")
+        text = (f"{clients} clients, {ios['read']} reads, {ios['write']} writes, {ios['trim']} trims, {ios['sync']} syncs: "
+                f"{self.bytes['read']} bytes read, {self.bytes['write']} bytes written, {self.bytes['discard']} bytes discarded, "
+                f"{self.bios} bios, {self.sent} requests sent, {self.merged} bios merged, {self.given_back} requests given back, "
+                f"{self.failed} bios failed, {self.refused} refused, {ios[WAIT]} waits left out")
         return "; ".join([text, *(f"{count} x {grammar.named(answer)}" for answer, count in sorted(self.refusals.items()))])
 
 
@@ -131,15 +132,13 @@ class Log:
 
     def act(self, file, action, numbers):
         """Gives the file's client what this action asks for."""
-        if action not in OF_FILES | IOS | SYNCS | {TRIM} and (action, self.version) != (WAIT, "2"):
+        if action not in {*OF_FILES, *IOS, *SYNCS} and (action, self.version) != (WAIT, "2"):
             raise ValueError(f"{action!r} is no action of version {self.version}")
         if (action in OF_FILES) == bool(numbers):
             raise ValueError(f"{action!r} has {'no' if numbers else 'an'} OFFSET and LENGTH")
         client = self.client_of(file)
-        if action in IOS | {TRIM}:
-            first, count = sectors_of(*numbers)
         if action in IOS:
-            client.todo.append((action, first, count, self.time))
+            client.todo.append((IOS[action], *sectors_of(*numbers), self.time))
         if action in SYNCS:
             action = SYNC
             client.todo.append((SYNC, 0, 0, self.time))

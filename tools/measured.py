@@ -26,7 +26,9 @@ QUEUED, BACK_MERGED, FRONT_MERGED, GOT, REQUEUED, ISSUED, COMPLETED, INSERTED = 
 OF_QUEUE, OF_REQUEUE, OF_ISSUE, OF_COMPLETE, OF_NOTICE = 1 << 20, 1 << 21, 1 << 22, 1 << 23, 1 << 26
 # How many bytes the name of a process has.
 NAME_BYTES = 16
-OF_OPERATION = {"read": 1 << 16, "fetch": 1 << 16, "write": 1 << 17, "store": 1 << 17}
+OF_OPERATION = {"read": 1 << 16, "fetch": 1 << 16, "write": 1 << 17, "store": 1 << 17,
+                # A discard is a write there too.
+                "discard": 1 << 17 | 1 << 29}
 # The device 8,0; and how many nanoseconds a sector stands for.
 DEVICE, NANOSECONDS = 8 << 20, 1000
 

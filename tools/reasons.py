@@ -121,7 +121,7 @@ def told_weight(member):
 
 # The looks.
 
-REQUEST = r"(fetch|store):\d+\+\d+:\d+(,\d+)*"
+REQUEST = r"(fetch|store|discard):\d+\+\d+:\d+(,\d+)*"
 # The answers to looks, by their first word. A queue, an outbox, an entity is asked for where there is one. A later program may have more in
 # an item of a tree.
 ANSWERS = {
@@ -131,7 +131,7 @@ ANSWERS = {
     "flight": rf"flight( \d+:\d+:\d+:{REQUEST})*",
     "seat": r"seat \d+ (none|\d+( \d+){4} \w+)",
     "queue": rf"queue \d+( {REQUEST})*",
-    "outbox": r"outbox \d+( \d+:(written|read|short|fault))*",
+    "outbox": r"outbox \d+( \d+:(written|read|discarded|short|fault))*",
     "tree": r"tree \d+ (none|(-|\d+) \d+( \d+:(idle|active|serving):\d+:\d+:[1-9]\d*:[1-9]\d*(:[^ :]+)*)*)",
     "vtime": r"vtime \d+ (rt|be|idle) \d+",
     "entity": r"entity \d+ (idle|active|serving)( \d+){5,}",

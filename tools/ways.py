@@ -9,7 +9,7 @@ from host import TOP, BadInput
 sys.path.append(os.path.join(TOP, "clients"))
 from bfqclient_moments import Line, NotMoved, Serial, Stored, moment_of, sectors_stored  # noqa: E402
 
-__all__ = ["Line", "NotMoved", "Serial", "moment_of", "moment_word", "stores", "while_held"]
+__all__ = ["Line", "NotMoved", "Serial", "Stored", "moment_of", "moment_word", "sectors_stored", "stores", "while_held"]
 
 
 def moment_word(text):
@@ -19,8 +19,9 @@ def moment_word(text):
     return moment_of(text)
 
 
-def while_held(host, act, note=lambda line, answer: None):
-    """Does something along the line of a host. One that is free is held for it, and released again. Gives what that gives.
+def while_held(host, act, note=lambda line, answer: None, may_release=lambda: True):
+    """Does something along the line of a host. One that is free is held for it, and released again, if it may be by then. Gives what that
+    gives.
 
     Each line by which it is held, moved or released is noted, with its answer. Raises NotMoved, and what `act` raises."""
     is_ours = host.ask("show host").split(" ")[3] == "free"
@@ -40,13 +41,13 @@ def while_held(host, act, note=lambda line, answer: None):
             note(move, f"moved {line.cursor} {line.length}")
         if fault is not None:
             note(fault.line, fault.answer)
-        if is_ours:
+        if is_ours and may_release():
             noted(host, "release", note)
 
 
 def stores(line, last):
-    """Goes along a line from its start, and stands behind each of the first steps that stored a write, which it gives. At the end it stands
-    where it stood."""
+    """Goes along a line from its start, and stands behind each of the first steps that stored a write or a discard, which it gives. At the
+    end it stands where it stood."""
     moment, origin = Stored(0), line.cursor
     for step in line.steps(range(1, last + 1)):
         if moment.may_come(step):

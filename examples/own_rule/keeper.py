@@ -75,7 +75,7 @@ class Keeper:
     def work(self, tag, issue):
         """What the device does with a request in flight, as a step."""
         found, request = self.machine.flight.get(tag, (None, None))
-        if found != issue or request.operation == "store":
+        if found != issue or request.operation != "fetch":
             return "finish", tag, issue, "stored"
         if not self.limits.image:
             return "finish", tag, issue, "fill", 0

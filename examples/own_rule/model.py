@@ -51,8 +51,8 @@ class Machine(Rules):
         self.join(number, group, class_name, (PRIORITIES - prio) * 10, self.limits.first_budget)
         return f"attached {self.serial}"
 
-    def submit(self, number, session, start, count, byte=None):
-        seat, operation = self.sits(number, session), "fetch" if byte is None else "store"
+    def submit(self, operation, number, session, start, count, byte=None):
+        seat = self.sits(number, session)
         unless(1 <= count <= MOST_SECTORS, 12)
         unless(start + count <= self.limits.sectors, 14)
         unless(not self.is_frozen, 42)
@@ -74,7 +74,15 @@ class Machine(Rules):
             self.activate(number)
         return f"queued {self.serial}"
 
-    read = write = submit
+    def read(self, *words):
+        return self.submit("fetch", *words)
+
+    def write(self, *words):
+        return self.submit("store", *words)
+
+    def discard(self, *words):
+        """What is discarded is zeros, once it is done."""
+        return self.submit("discard", *words, 0)
 
     def reap(self, number, session):
         seat = self.sits(number, session)
@@ -124,14 +132,14 @@ class Machine(Rules):
     def finish(self, tag, issue, outcome, blocks=None):
         """Blocks are what was fetched, or a byte that all are of."""
         request = self.in_flight(tag, issue)
-        unless((outcome == "stored") == (request.operation == "store"), 21)
+        unless((outcome == "stored") == (request.operation != "fetch"), 21)
         yield
         del self.flight[tag]
         for bio in request.bios:
             sectors = range(bio.start, bio.start + bio.count)
             if outcome == "stored":
                 self.overlay.update(dict.fromkeys(sectors, bytes([bio.byte]) * SECTOR))
-                result = "written"
+                result = "written" if request.operation == "store" else "discarded"
             elif outcome == "fill":
                 device = [bytes([blocks]) * SECTOR] * request.count if isinstance(blocks, int) else blocks
                 result = " ".join(["read", *(spelled(self.overlay.get(at, device[at - request.start])) for at in sectors)])

@@ -176,13 +176,13 @@ class Course {
     return this.homes.get(node) ?? this.standing;
   }
 
-  /** The sectors at which what is stored may change: where each write of a future begins, and behind its end. */
+  /** The sectors at which what is stored may change: where each write or discard of a future begins, and behind its end. */
   marksOf(future, place) {
     const marks = new Set([0]);
     const most = Number(this.dials.sectors);
     for (const node of this.way(future).slice(0, place)) {
       const [word, , , start, count] = this.lineOf(node).split(" ");
-      if (word === "write") for (const it of [Number(start), Number(start) + Number(count)]) if (it < most) marks.add(it);
+      if (word === "write" || word === "discard") for (const it of [Number(start), Number(start) + Number(count)]) if (it < most) marks.add(it);
     }
     return [...marks].sort((one, other) => one - other).slice(0, MOST_MARKS);
   }

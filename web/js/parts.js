@@ -48,11 +48,14 @@ function nextRequest(machine, seat) {
   return machine.scheduler === "none" ? machine.queues.get(seat).requests[0] : nextOf(machine, seat);
 }
 
+// What stands before the sectors of a request that is no read.
+const LETTERS = { fetch: "", store: "W ", discard: "D " };
+
 /** A request as a block. The next one to be sent of its queue has a mark. */
 function blockOf(request, isNext = false) {
   const text = `${request.operation} ${request.start}+${request.count}, bios ${request.bios.join(", ")}${isNext ? "; next of its queue" : ""}`;
   return element("span", { class: `block ${request.operation}${isNext ? " next" : ""}`, title: text },
-    `${isNext ? "\u25b8" : ""}${request.operation === "store" ? "W " : ""}${request.start}+${request.count}`);
+    `${isNext ? "\u25b8" : ""}${LETTERS[request.operation]}${request.start}+${request.count}`);
 }
 
 /** The device: a place for each tag, and what it gave back. */

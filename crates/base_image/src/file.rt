@@ -1,9 +1,11 @@
 // An image in a file.
-ghost use Rattle.std.specs.Prelude.{◌≡◌, ◌<◌, ◌-◌, ◌^◌, IfOk, None};
-ghost use Rattle.base_image.specs.Image.{Reads, CanBeCounted, failed};
-ghost use Rattle.base_image.specs.Kinds.{fresh, fault_of};
+ghost use Rattle.std.specs.Prelude.{◌≡◌, ◌<◌, ◌-◌, ◌^◌, IfOk, None, true, length};
+ghost use Rattle.base_image.specs.Image.{Reads, logged, CanBeCounted, failed};
+ghost use Rattle.base_image.specs.Kinds.{fresh, unread, fault_of};
 
 use crate::image::{Image, ImageFault};
+use crate::log::ReadLog;
+use crate::read::LoggedRead;
 use sector_core::SECTOR_BYTES;
 use std::fs::File;
 use std::io;
@@ -18,15 +20,20 @@ pub struct FileImage {
     sectors: u64,
     faults: u64,
     last: Option<ImageFault>,
+    log: ReadLog,
 }
 
 impl Model for FileImage {
-    ghost use Rattle.std.specs.Prelude.{None, ◌<◌, ◌^◌};
+    ghost use Rattle.std.specs.Prelude.{None, true, ◌<◌, ◌^◌};
     ghost use Rattle.base_image.specs.Image.{Disk};
+    ghost use Rattle.base_image.specs.Kinds.{Read};
 
-    ghost Value = { Disk };
+    ghost Value = { Read };
 
-    ghost view = { λ i. record { sectors = i.sectors; bytes = None; faults = i.faults; last = i.last } };
+    ghost view = { λ i. record {
+      disk = record { sectors = i.sectors; bytes = None; may_fail = true; faults = i.faults; last = i.last };
+      log = i.log.reads;
+    } };
 
     ghost invariant = { λ i. i.sectors < 2 ^ 55 };
 }
@@ -38,7 +45,7 @@ impl FileImage {
     ///
     /// The file is a folder, cannot be read, or its length cannot be told.
     pub fn from_file(file: File) -> io::Result<FileImage>
-        ensures { IfOk result (λ image. image ≡ fresh image.sectors None) }
+        ensures { IfOk result (λ image. image ≡ unread (fresh image.disk.sectors None true)) }
     {
         // a folder opens as a file does, and only a read of it fails
         file.read_at(&mut [0; 1], 0)?;
@@ -48,14 +55,15 @@ impl FileImage {
             sectors,
             faults: 0,
             last: None,
+            log: ReadLog::new(),
         })
     }
 
     // Counts a read that failed with this kind of error, and tells why it failed.
     fn note(&mut self, kind: ErrorKind) -> ImageFault
-        requires countable { self.old.faults < 2 ^ 64 - 1 }
+        requires countable { self.old.disk.faults < 2 ^ 64 - 1 }
         ensures fault { result ≡ fault_of kind }
-        ensures counted { self.new ≡ failed self.old (fault_of kind) }
+        ensures counted { self.new ≡ record { disk = failed self.old.disk (fault_of kind); log = self.old.log } }
     {
         let fault = fault_of(kind);
         self.faults += 1;
@@ -84,20 +92,29 @@ fn fault_of(kind: ErrorKind) -> ImageFault
 }
 
 impl Image for FileImage {
-    ghost disk = { λ image. image };
+    ghost disk = { λ image. image.disk };
+
+    ghost log = { λ image. image.log };
 
     fn sectors(&self) -> u64 {
         self.sectors
     }
 
     fn read_at(&mut self, offset: u64, buffer: &mut [u8]) -> Result<usize, ImageFault>
-        requires countable { self.old.faults < 2 ^ 64 - 1 }
-        ensures { Reads self.old offset buffer.new result self.new }
+        requires countable { self.old.disk.faults < 2 ^ 64 - 1 }
+        ensures reads { Reads self.old.disk offset buffer.new result self.new.disk }
+        ensures logged { self.new.log ≡ logged self.old.log offset (length buffer.new) result }
     {
-        match self.file.read_at(buffer, offset) {
+        let read = match self.file.read_at(buffer, offset) {
             Ok(count) => Ok(count),
             Err(error) => Err(self.note(error.kind())),
-        }
+        };
+        self.log = self.log.then(&LoggedRead {
+            offset,
+            asked: buffer.len(),
+            outcome: read,
+        });
+        read
     }
 
     fn faults(&self) -> u64 {

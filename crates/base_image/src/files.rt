@@ -1,6 +1,6 @@
 // Images of files that are opened by name.
-ghost use Rattle.std.specs.Prelude.{◌≡◌, ◌↔◌, length, IfOk, IsTrue, None};
-ghost use Rattle.base_image.specs.Kinds.{fresh, AreAlike};
+ghost use Rattle.std.specs.Prelude.{◌≡◌, ◌↔◌, length, IfOk, IsTrue, None, true};
+ghost use Rattle.base_image.specs.Kinds.{fresh, unread, AreAlike};
 
 use crate::file::FileImage;
 use crate::image::Image;
@@ -17,7 +17,7 @@ use std::rt::Files;
 ///
 /// It is of another kind, cannot be opened or read, or its length cannot be told.
 pub fn file_image(rt: &impl Files<File = File>, path: &str) -> io::Result<FileImage>
-    ensures { IfOk result (λ image. image ≡ fresh image.sectors None) }
+    ensures { IfOk result (λ image. image ≡ unread (fresh image.disk.sectors None true)) }
 {
     let found = fs::metadata(rt, path)?.file_type();
     if !found.is_file() && !found.is_block_device() {

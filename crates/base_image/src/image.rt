@@ -1,6 +1,6 @@
 // What an image offers to those who read it.
-ghost use Rattle.std.specs.Prelude.{◌≡◌, ◌<◌, ◌-◌, ◌^◌};
-ghost use Rattle.base_image.specs.Image.{Disk, Reads, CanBeCounted};
+ghost use Rattle.std.specs.Prelude.{◌≡◌, ◌<◌, ◌-◌, ◌^◌, length};
+ghost use Rattle.base_image.specs.Image.{Disk, Log, Reads, logged, CanBeCounted};
 
 /// Why a read failed.
 #[derive(Clone, Copy, Debug, PartialEq, Eq)]
@@ -16,6 +16,9 @@ pub trait Image {
     /// What is known of the image.
     ghost disk: { Self → Disk };
 
+    /// The reads that were made of it.
+    ghost log: { Self → Log };
+
     /// How many sectors it tells. It may have fewer bytes than that, and then reads end early.
     fn sectors(&self) -> u64
         ensures sectors { result ≡ (disk self.now).sectors }
@@ -30,7 +33,8 @@ pub trait Image {
     /// The read failed, and that is counted.
     fn read_at(&mut self, offset: u64, buffer: &mut [u8]) -> Result<usize, ImageFault>
         requires countable { (disk self.old).faults < 2 ^ 64 - 1 }
-        ensures { Reads (disk self.old) offset buffer.new result (disk self.new) };
+        ensures reads { Reads (disk self.old) offset buffer.new result (disk self.new) }
+        ensures logged { log self.new ≡ logged (log self.old) offset (length buffer.new) result };
 
     /// How many reads failed so far.
     fn faults(&self) -> u64

@@ -1,9 +1,11 @@
 // An image of bytes in memory.
-ghost use Rattle.std.specs.Prelude.{◌≡◌, ◌<◌, ◌^◌, Some};
-ghost use Rattle.base_image.specs.Image.{Reads, CanBeCounted};
-ghost use Rattle.base_image.specs.Kinds.{fresh, FillsAll};
+ghost use Rattle.std.specs.Prelude.{◌≡◌, ◌<◌, ◌^◌, Some, false, length};
+ghost use Rattle.base_image.specs.Image.{Reads, logged, CanBeCounted};
+ghost use Rattle.base_image.specs.Kinds.{fresh, unread, FillsAll};
 
 use crate::image::{Image, ImageFault};
+use crate::log::ReadLog;
+use crate::read::LoggedRead;
 use bytes::Bytes;
 use std::marker::Model;
 
@@ -12,16 +14,16 @@ use std::marker::Model;
 pub struct MemoryImage {
     bytes: Bytes,
     sectors: u64,
+    log: ReadLog,
 }
 
 impl Model for MemoryImage {
-    ghost use Rattle.std.specs.Prelude.{Some, length, ◌<◌, ◌^◌};
-    ghost use Rattle.base_image.specs.Image.{Disk};
-    ghost use Rattle.base_image.specs.Kinds.{fresh};
+    ghost use Rattle.std.specs.Prelude.{Some, false, length, ◌<◌, ◌^◌};
+    ghost use Rattle.base_image.specs.Kinds.{Read, fresh};
 
-    ghost Value = { Disk };
+    ghost Value = { Read };
 
-    ghost view = { λ i. fresh i.sectors (Some i.bytes) };
+    ghost view = { λ i. record { disk = fresh i.sectors (Some i.bytes) false; log = i.log.reads } };
 
     ghost invariant = { λ i. (i.sectors < 2 ^ 55) × (length i.bytes < 2 ^ 63) };
 }
@@ -31,30 +33,43 @@ impl MemoryImage {
     /// has bytes for: a read past its bytes gives none.
     pub fn new(bytes: Bytes, sectors: u64) -> MemoryImage
         requires { sectors < 2 ^ 55 }
-        ensures { result ≡ fresh sectors (Some bytes) }
+        ensures { result ≡ unread (fresh sectors (Some bytes) false) }
     {
         // no buffer is longer than its length can be told
         let _bytes_told = bytes.len();
-        MemoryImage { bytes, sectors }
+        MemoryImage {
+            bytes,
+            sectors,
+            log: ReadLog::new(),
+        }
     }
 }
 
 impl Image for MemoryImage {
-    ghost disk = { λ image. image };
+    ghost disk = { λ image. image.disk };
+
+    ghost log = { λ image. image.log };
 
     fn sectors(&self) -> u64 {
         self.sectors
     }
 
     fn read_at(&mut self, offset: u64, buffer: &mut [u8]) -> Result<usize, ImageFault>
-        ensures reads { Reads self.old offset buffer.new result self.new }
-        ensures whole { FillsAll self.old.bytes offset buffer.new result }
+        ensures reads { Reads self.old.disk offset buffer.new result self.new.disk }
+        ensures logged { self.new.log ≡ logged self.old.log offset (length buffer.new) result }
+        ensures whole { FillsAll self.old.disk.bytes offset buffer.new result }
     {
         let start = offset.min(self.bytes.len() as u64) as usize;
         let left = &self.bytes.as_slice()[start..];
         let count = left.len().min(buffer.len());
         buffer[..count].copy_from_slice(&left[..count]);
-        Ok(count)
+        let read = Ok(count);
+        self.log = self.log.then(&LoggedRead {
+            offset,
+            asked: buffer.len(),
+            outcome: read,
+        });
+        read
     }
 
     fn faults(&self) -> u64 {

@@ -1,9 +1,11 @@
 // An image of zeros.
-ghost use Rattle.std.specs.Prelude.{◌≡◌, ◌<◌, ◌^◌, ◌*◌, Some, replicate};
-ghost use Rattle.base_image.specs.Image.{Reads, CanBeCounted};
-ghost use Rattle.base_image.specs.Kinds.{fresh, FillsAll};
+ghost use Rattle.std.specs.Prelude.{◌≡◌, ◌<◌, ◌^◌, ◌*◌, Some, false, replicate, length};
+ghost use Rattle.base_image.specs.Image.{Reads, logged, CanBeCounted};
+ghost use Rattle.base_image.specs.Kinds.{fresh, unread, FillsAll};
 
 use crate::image::{Image, ImageFault};
+use crate::log::ReadLog;
+use crate::read::LoggedRead;
 use sector_core::SECTOR_BYTES;
 use std::marker::Model;
 
@@ -11,16 +13,16 @@ use std::marker::Model;
 #[derive(Drop)]
 pub struct ZeroImage {
     sectors: u64,
+    log: ReadLog,
 }
 
 impl Model for ZeroImage {
-    ghost use Rattle.std.specs.Prelude.{Some, replicate, ◌*◌, ◌<◌, ◌^◌};
-    ghost use Rattle.base_image.specs.Image.{Disk};
-    ghost use Rattle.base_image.specs.Kinds.{fresh};
+    ghost use Rattle.std.specs.Prelude.{Some, false, replicate, ◌*◌, ◌<◌, ◌^◌};
+    ghost use Rattle.base_image.specs.Kinds.{Read, fresh};
 
-    ghost Value = { Disk };
+    ghost Value = { Read };
 
-    ghost view = { λ i. fresh i.sectors (Some (replicate (512 * i.sectors) 0)) };
+    ghost view = { λ i. record { disk = fresh i.sectors (Some (replicate (512 * i.sectors) 0)) false; log = i.log.reads } };
 
     ghost invariant = { λ i. i.sectors < 2 ^ 55 };
 }
@@ -29,27 +31,39 @@ impl ZeroImage {
     /// An image of `sectors` sectors of 512 zero bytes.
     pub fn new(sectors: u64) -> ZeroImage
         requires { sectors < 2 ^ 55 }
-        ensures { result ≡ fresh sectors (Some (replicate (512 * sectors) 0)) }
+        ensures { result ≡ unread (fresh sectors (Some (replicate (512 * sectors) 0)) false) }
     {
-        ZeroImage { sectors }
+        ZeroImage {
+            sectors,
+            log: ReadLog::new(),
+        }
     }
 }
 
 impl Image for ZeroImage {
-    ghost disk = { λ image. image };
+    ghost disk = { λ image. image.disk };
+
+    ghost log = { λ image. image.log };
 
     fn sectors(&self) -> u64 {
         self.sectors
     }
 
     fn read_at(&mut self, offset: u64, buffer: &mut [u8]) -> Result<usize, ImageFault>
-        ensures reads { Reads self.old offset buffer.new result self.new }
-        ensures whole { FillsAll self.old.bytes offset buffer.new result }
+        ensures reads { Reads self.old.disk offset buffer.new result self.new.disk }
+        ensures logged { self.new.log ≡ logged self.old.log offset (length buffer.new) result }
+        ensures whole { FillsAll self.old.disk.bytes offset buffer.new result }
     {
         let left = (SECTOR_BYTES as u64 * self.sectors).saturating_sub(offset) as usize;
         let count = left.min(buffer.len());
         buffer[..count].fill(0);
-        Ok(count)
+        let read = Ok(count);
+        self.log = self.log.then(&LoggedRead {
+            offset,
+            asked: buffer.len(),
+            outcome: read,
+        });
+        read
     }
 
     fn faults(&self) -> u64 {

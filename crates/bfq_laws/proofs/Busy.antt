@@ -24,7 +24,7 @@ use Rattle.plain.specs.Entities.{is_bfq, with_entity, without_entity}
 use Rattle.plain.specs.Steps.Attach.{attached}
 use Rattle.plain.specs.Steps.Submit.{new_bio, with_bio, change_first, queue_with, submitted, woken}
 use Rattle.plain.specs.Requests.{range_of, shape}
-use Rattle.plain.specs.Steps.Dispatch.{with_budget_in, with_selected, without_empty, sent_by_bfq}
+use Rattle.plain.specs.Steps.Dispatch.{has_queued, with_budget_in, with_selected, without_empty, sent_by_bfq}
 use Rattle.plain.specs.Steps.Tick.{older}
 use Rattle.plain_laws.proofs.Puts.{put_here, put_other, some_is, map_is}
 use Rattle.plain_laws.proofs.Leads.{made}
@@ -230,11 +230,15 @@ expired-busy l cause queued seats queue b c sits tree rests e =
       serves = λ slot at. let none : Some slot ≡ None = sym at ∙ x.3 in cc;
     }
 
-pub with_budget_in-busy : (l : Limits) (m : Plain) (o : Option InService) (b : Bfq) → with_budget_in l m o ≡ Some b → Busy m.seat m.queue m.bfq → Busy m.seat m.queue b
-with_budget_in-busy l m None b e h = subst (Busy m.seat m.queue) (some_is m.bfq b e) h
-with_budget_in-busy l m (Some slot) b e h =
+pub with_budget_in-busy : (l : Limits) (m : Plain) (o : Option InService) (b : Bfq) → m.bfq.in_service ≡ o → with_budget_in l m o ≡ Some b
+    → Busy m.seat m.queue m.bfq → Busy m.seat m.queue b
+with_budget_in-busy l m None b at e h = subst (Busy m.seat m.queue) (some_is m.bfq b e) h
+with_budget_in-busy l m (Some slot) b at e h =
     elim (overdue l m slot b e) [
-      | inl x ↦ expired-busy l x.0 true m.seat m.queue m.bfq b h.serves h.tree (λ e lt taken _. h.rests e lt taken) x.1
+      | inl x ↦
+          let waits : has_queued m slot.seat ≡ true = ap not (h.serves slot at).2 in
+          let expires : expire x.0 l.max_budget true m.bfq ≡ Some b = subst (λ q. expire x.0 l.max_budget q m.bfq ≡ Some b) waits x.1 in
+          expired-busy l x.0 true m.seat m.queue m.bfq b h.serves h.tree (λ e lt taken _. h.rests e lt taken) expires
       | inr y ↦ subst (Busy m.seat m.queue) y.1 h
     ]
 
@@ -281,7 +285,7 @@ pub sent_by_bfq-tidy : (l : Limits) (m : Plain) (n tag : ℕ) (o : Plain × Repl
 sent_by_bfq-tidy l m n tag o e h =
     let s = sent-is l m n tag o e in
     let b : Bfq = with_selected s.ready in
-    let ready : Busy m.seat m.queue b = with_selected-busy m.seat m.queue s.ready (with_budget_in-busy l m m.bfq.in_service s.ready s.readies h.busy) in
+    let ready : Busy m.seat m.queue b = with_selected-busy m.seat m.queue s.ready (with_budget_in-busy l m m.bfq.in_service s.ready refl s.readies h.busy) in
     let k : ℕ = s.slot.seat in
     let r : WholeRequest = s.request in
     let size : ℕ = (range_of r.bios).count in

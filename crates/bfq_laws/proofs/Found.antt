@@ -38,7 +38,7 @@ finds l m h under some b e =
       | true ↦ λ _. refl
       | false ↦ λ no. let empty : is_empty (m.queue k) ≡ true = tidy.free k no in cc
     ] refl in
-    let busy : Busy m.seat m.queue b = with_budget_in-busy l m m.bfq.in_service b e tidy.busy in
+    let busy : Busy m.seat m.queue b = with_budget_in-busy l m m.bfq.in_service b refl e tidy.busy in
     let awake : idle b k ≡ false = busy.rests k next.1 taken ∙ full in
     let slot = some_slot (with_selected b).in_service (slot-found b (with_budget_in-alive l m m.bfq.in_service b e tidy h.alive) k awake) in
     let ready : Busy m.seat m.queue (with_selected b) = with_selected-busy m.seat m.queue b busy in

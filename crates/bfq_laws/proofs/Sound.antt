@@ -24,7 +24,7 @@ use Rattle.plain.specs.Steps.Switch.{begun_again}
 use Rattle.plain.specs.Requests.{is_gone, range_of}
 use Rattle.plain.specs.Steps.Attach.{prio_weight, attached}
 use Rattle.plain.specs.Steps.Submit.{submitted, woken}
-use Rattle.plain.specs.Steps.Dispatch.{with_budget_in, with_selected, without_empty, sent_by_bfq}
+use Rattle.plain.specs.Steps.Dispatch.{has_queued, with_budget_in, with_selected, without_empty, sent_by_bfq}
 use Rattle.plain.specs.Keeper.{machine_of}
 use Rattle.plain.specs.Headline.{replay}
 use Rattle.plain_laws.proofs.Puts.{put_here, put_other, some_is, map_is}
@@ -99,7 +99,7 @@ pub with_budget_in-alive : (l : Limits) (m : Plain) (o : Option InService) (b : 
 with_budget_in-alive l m None b e tidy h = subst Alive (some_is m.bfq b e) h
 with_budget_in-alive l m (Some slot) b e tidy h =
     elim (overdue l m slot b e) [
-      | inl x ↦ expire-alive x.0 l.max_budget true m.bfq b (awake-slot m.seat m.queue m.bfq tidy.busy) x.1 h
+      | inl x ↦ expire-alive x.0 l.max_budget (has_queued m slot.seat) m.bfq b (awake-slot m.seat m.queue m.bfq tidy.busy) x.1 h
       | inr y ↦ subst Alive y.1 h
     ]
 
@@ -135,7 +135,7 @@ sent_by_bfq-alive l m n tag o e tidy h =
     let s = sent-is l m n tag o e in
     let a : Bfq = s.ready in
     let b : Bfq = with_selected a in
-    let ready : Busy m.seat m.queue b = with_selected-busy m.seat m.queue a (with_budget_in-busy l m m.bfq.in_service a s.readies tidy.busy) in
+    let ready : Busy m.seat m.queue b = with_selected-busy m.seat m.queue a (with_budget_in-busy l m m.bfq.in_service a refl s.readies tidy.busy) in
     let k : ℕ = s.slot.seat in
     let alive : Alive b = with_selected-alive a (with_budget_in-alive l m m.bfq.in_service a s.readies tidy h) s.slot s.serves in
     let r : WholeRequest = s.request in

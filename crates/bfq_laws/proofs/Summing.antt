@@ -94,7 +94,7 @@ sums-in l m h under =
     let alive : Alive m.bfq = h.1.alive in (
       λ slot is. sums-there m.bfq alive h.0 slot (awake-slot m.seat m.queue m.bfq tidy.busy slot is).1,
       λ b e slot is.
-          let ready : Busy m.seat m.queue (with_selected b) = with_selected-busy m.seat m.queue b (with_budget_in-busy l m m.bfq.in_service b e tidy.busy) in
+          let ready : Busy m.seat m.queue (with_selected b) = with_selected-busy m.seat m.queue b (with_budget_in-busy l m m.bfq.in_service b refl e tidy.busy) in
           let served : Alive (with_selected b) = with_selected-alive b (with_budget_in-alive l m m.bfq.in_service b e tidy alive) slot is in
           let changes : Changes l.max_budget (InGroup alive.above) (WeighAt alive.above) = weigh_at-changes l.max_budget alive.above alive.levels in
           let weigh : WeighAt alive.above (with_selected b) =

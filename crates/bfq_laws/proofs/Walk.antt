@@ -4,7 +4,7 @@ use Rattle.std.specs.Option.{option_map, option_map_or}
 use Rattle.std.proofs.lemmas.Bool.{ltb-false}
 use Rattle.sector_core.specs.declared.bio.Bio.{Bio}
 use Rattle.sector_core.specs.declared.bio.Op.{Op}
-use Rattle.sector_core.specs.declared.bio.Outcome.{Outcome}
+use Rattle.sector_core.specs.declared.bio.Effect.{Effect}
 use Rattle.sector_core.specs.declared.range.Range.{Range}
 use Rattle.sector_core.specs.declared.config.Scheduler.{Scheduler}
 use Rattle.sector_core.specs.declared.config.Scheduler.TheVariants.{Plain as PlainScheduler, Bfq as BfqScheduler}
@@ -26,7 +26,7 @@ use Rattle.plain.specs.Entities.{without_entity, without_gone, owed_fewer, is_we
 use Rattle.plain.specs.Requests.{is_gone, queued, in_flight, requests_of}
 use Rattle.plain.specs.Steps.Leave.{with_leaving, left}
 use Rattle.plain.specs.Steps.Dispatch.{sent_by_bfq}
-use Rattle.plain.specs.Steps.Finish.{after_outcome, completed, seat_of, delivered, after_finish}
+use Rattle.plain.specs.Steps.Finish.{effect_of, after_effect, completed, seat_of, delivered, after_finish}
 use Rattle.plain.specs.Steps.GroupDrop.{is_used}
 use Rattle.plain.specs.Steps.GroupMake.{free_group}
 use Rattle.plain.specs.Steps.Switch.{switched}
@@ -101,11 +101,11 @@ left-keeps l P keeps m seat small h =
     without_gone-keeps l P keeps (owed_fewer seat count leaving) seat small (owed_fewer-keeps l P keeps leaving seat count now)
 
 -- Finish
-after_finish-keeps : (l : Limits) (P : Plain → Type 0) → Keeps l P → (m : Plain) (tag : ℕ) (outcome : Outcome) (r : WholeRequest) → P m → P (after_finish l m tag outcome r)
-after_finish-keeps l P keeps m tag outcome r h =
-    let overlay : Blocks = after_outcome outcome m.overlay r.bios in
+after_finish-keeps : (l : Limits) (P : Plain → Type 0) → Keeps l P → (m : Plain) (tag : ℕ) (effect : Effect) (r : WholeRequest) → P m → P (after_finish l m tag effect r)
+after_finish-keeps l P keeps m tag effect r h =
+    let overlay : Blocks = after_effect effect m.overlay r.bios in
     let next : Plain = moved m overlay m.requeued m.outbox (put m.flight tag None) m.frozen in
-    let bios : List Bio = completed outcome m.overlay r.bios in
+    let bios : List Bio = completed effect m.overlay r.bios in
     let now : P next = keeps.moves m overlay m.requeued m.outbox (put m.flight tag None) m.frozen h in
     elim (seat_of m r.session) as (λ o. seat_of m r.session ≡ o → P (option_map_or (delivered l bios next) o next)) [
       | None ↦ λ _. now
@@ -152,7 +152,7 @@ keeps-lead l P k =
       sends = λ n m tag o bfq is low free h. (w.sends n m tag o bfq is low free h.0, k.sends m n tag o bfq (all-whole m h.0) is h.1);
       resends = λ n m tag r rest is low free h.
           (w.resends n m tag r rest is low free h.0, k.moves m m.overlay rest m.outbox (put m.flight tag (Some (record { issue = n; request = r }))) m.frozen h.1);
-      finishes = λ n m tag f outcome low is fit h. (w.finishes n m tag f outcome low is fit h.0, after_finish-keeps l P k m tag outcome f.request h.1);
+      finishes = λ n m tag f outcome low is fit h. (w.finishes n m tag f outcome low is fit h.0, after_finish-keeps l P k m tag (effect_of outcome f.request.op) f.request h.1);
       gives_back = λ n m tag f low is h. (w.gives_back n m tag f low is h.0, k.moves m m.overlay (m.requeued ++ f.request ∷ []) m.outbox (put m.flight tag None) m.frozen h.1);
       makes = λ n m group parent weight known weighs few is h. (w.makes n m group parent weight known weighs few is h.0, k.makes m group parent weight known weighs few is h.1);
       drops = λ n m group known other unused h. (w.drops n m group known other unused h.0, k.drops m group known other unused h.1);

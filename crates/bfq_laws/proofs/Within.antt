@@ -22,7 +22,7 @@ use Rattle.plain.specs.Entities.{is_bfq, with_entity}
 use Rattle.plain.specs.Steps.Attach.{attached}
 use Rattle.plain.specs.Steps.Submit.{submitted, woken}
 use Rattle.plain.specs.Requests.{size_of, range_of, shape}
-use Rattle.plain.specs.Steps.Dispatch.{next_request, next_size, with_budget_in, with_selected, without_empty, sent_by_bfq}
+use Rattle.plain.specs.Steps.Dispatch.{has_queued, next_request, next_size, with_budget_in, with_selected, without_empty, sent_by_bfq}
 use Rattle.plain.specs.Steps.Tick.{older}
 use Rattle.plain.specs.Steps.Switch.{switched}
 use Rattle.plain_laws.specs.Whole.{IsWhole, AreWhole}
@@ -146,10 +146,10 @@ with_budget_in-room l most m None b at e h =
 with_budget_in-room l most m (Some slot) b at e h =
     elim (overdue l m slot b e) [
       | inl x ↦
-          let free = expire-slot x.0 l.max_budget true m.bfq b x.1 in
+          let free = expire-slot x.0 l.max_budget (has_queued m slot.seat) m.bfq b x.1 in
           record {
-            enough = expire-keeps l.max_budget Any AreEnough (enough-changes l.max_budget most) x.0 true m.bfq b x.1 h.enough;
-            known = (expire-keeps l.max_budget (Fits m.seat) _ (known-changes l.max_budget m.seat) x.0 true m.bfq b x.1 (h.known, sits-within m h)).0;
+            enough = expire-keeps l.max_budget Any AreEnough (enough-changes l.max_budget most) x.0 (has_queued m slot.seat) m.bfq b x.1 h.enough;
+            known = (expire-keeps l.max_budget (Fits m.seat) _ (known-changes l.max_budget m.seat) x.0 (has_queued m slot.seat) m.bfq b x.1 (h.known, sits-within m h)).0;
             room = λ other is. let none : Some other ≡ None = sym is ∙ free.3 in cc;
           }
       | inr y ↦

@@ -48,7 +48,7 @@ IsRefused draft sectors = IsSome (fault_of draft) ⊎ (65536 < sectors)
 abbrev pub IsRunOver : Config → ℕ → List ℕ → List ℕ → ℕ → Type 0
 IsRunOver config sectors script text status =
     (left : Known) × (end : ScriptEnd)
-    × IsRun (of_sizes (sizes_of config sectors)) config.history_max (fresh sectors (Some (replicate (512 * sectors) 0)))
+    × IsRun (of_sizes (sizes_of config sectors)) config.history_max (fresh sectors (Some (replicate (512 * sectors) 0)) false)
     (Some script) left (Some []) (Some text) end
     × (status ≡ status_of end)
 

@@ -38,6 +38,10 @@ pub enum Field {
     Workers,
     /// Its clients.
     Clients,
+    /// How long a request takes one of its workers.
+    Delay,
+    /// The runs of its bad sectors.
+    Bad,
 }
 
 impl Field {
@@ -54,6 +58,8 @@ impl Field {
             Field::Sectors => "--sectors is 0 to 65536",
             Field::Workers => "--workers is 1 to 4",
             Field::Clients => "--clients is 1 to 16",
+            Field::Delay => "--delay is 0 to 1000000",
+            Field::Bad => "--bad has at most 16 runs, each of a sector at least",
         }
     }
 }
@@ -65,6 +71,8 @@ impl fmt::Display for Field {
             Field::Sectors => write!(f, "sectors"),
             Field::Workers => write!(f, "workers"),
             Field::Clients => write!(f, "clients"),
+            Field::Delay => write!(f, "delay"),
+            Field::Bad => write!(f, "bad"),
         }
     }
 }

@@ -1,14 +1,17 @@
 // A host served over sockets.
-ghost use Rattle.std.specs.Prelude.{◌≡◌, ◌≤◌, ◌↔◌, IsErr, IsSome};
+ghost use Rattle.std.specs.Prelude.{◌≡◌, ◌≤◌, ◌↔◌, nat_lt, IsErr, IsSome, IfOk, length};
+ghost use Rattle.std.specs.List.{list_all};
 ghost use Rattle.sector_core.specs.Config.{fault_of};
-ghost use Rattle.bfqhost.specs.Serving.{IsServeStatus, IsEndStatus, serve_status_of};
+ghost use Rattle.bfqhost.specs.Serving.{IsServeStatus, IsRefusedServe, IsEndStatus, serve_status_of, runs_fit, HaveBad};
 
 use crate::faults::{DONE, Field, bad_field, no_image, no_memory, no_record, no_socket};
-use base_image::file_images;
+use bad_sectors::BadSectors;
+use base_image::{FileImage, file_images};
 use host_rings::{DoorFault, ServeEnd, ServeOptions, Watching, run_host};
-use sector_core::{Config, ConfigDraft, ConfigFault};
+use sector_core::{Config, ConfigDraft, ConfigFault, Range};
+use std::alloc::{AllocError, Global};
 use std::fs::File;
-use std::io::ErrorKind;
+use std::io::{self, ErrorKind};
 use std::net::Net;
 use std::rt::Files;
 use std::sync::Wait;
@@ -21,6 +24,12 @@ const MOST_WORKERS: u64 = 4;
 // And 1 to 16 clients that have a path.
 const MOST_CLIENTS: u64 = 16;
 
+// A request takes a worker a second at most, in microseconds. A host that is stopped waits for none.
+const MOST_DELAY: u64 = 1_000_000;
+
+// So few runs of bad sectors are looked through at each read.
+const MOST_RUNS: usize = 16;
+
 /// What a host is to serve, as the words of the command line have it.
 #[derive(Clone, Copy)]
 pub struct Serving<'a> {
@@ -32,6 +41,10 @@ pub struct Serving<'a> {
     pub clients: u64,
     /// How many workers the device has; not yet checked.
     pub workers: u64,
+    /// How long each request takes a worker at least, in microseconds; not yet checked.
+    pub delay: u64,
+    /// The runs of sectors that are bad; not yet checked.
+    pub bad: &'a [Range],
     /// Whether there is a path for looks.
     pub inspect: bool,
     /// The file of the record, if one is to be made.
@@ -44,40 +57,80 @@ pub fn serve<R>(rt: &R, draft: ConfigDraft, serving: Serving<'_>, at_terminal: b
 where
     R: Files<File = File> + AllocGlobal + Eprint,
     R: Threads + Wait + Net + Clock + Copy + Drop + Send + 'static,
-    ensures { IsServeStatus draft serving.entry.clients serving.entry.workers result }
+    ensures { IsServeStatus draft serving.entry.clients serving.entry.workers serving.entry.delay serving.entry.bad.now result }
 {
-    let Serving {
-        image,
-        dir,
-        clients,
-        workers,
-        inspect,
-        record,
-    } = serving;
+    let config = match checked_fields(draft, &serving) {
+        Ok(config) => config,
+        Err(field) => return bad_field(rt, field, at_terminal),
+    };
+    let options = ServeOptions {
+        dir: serving.dir,
+        clients: serving.clients as u8,
+        delay: serving.delay as u32,
+    };
+    let watching = Watching {
+        inspect: serving.inspect,
+        record: serving.record,
+    };
+    let device = Device {
+        image: serving.image,
+        workers: serving.workers as u8,
+        bad: serving.bad,
+    };
+    over_file(rt, config, device, options, watching, at_terminal)
+}
+
+// The configuration, or the first field that is out of its limits.
+fn checked_fields(draft: ConfigDraft, serving: &Serving<'_>) -> Result<Config, Field>
+    ensures refused { IsRefusedServe draft serving.now.clients serving.now.workers serving.now.delay serving.now.bad.now → IsErr result }
+    ensures workers { IfOk result (λ _. 1 ≤ serving.now.workers × serving.now.workers ≤ 4) }
+    ensures clients { IfOk result (λ _. 1 ≤ serving.now.clients × serving.now.clients ≤ 16) }
+    ensures delay { IfOk result (λ _. serving.now.delay ≤ 1000000) }
+{
     let config = match checked(draft) {
         Ok(config) => config,
-        Err(fault) => return bad_field(rt, Field::Config(fault), at_terminal),
+        Err(fault) => return Err(Field::Config(fault)),
     };
-    if workers == 0 || workers > MOST_WORKERS {
-        return bad_field(rt, Field::Workers, at_terminal);
+    if serving.workers == 0 || serving.workers > MOST_WORKERS {
+        return Err(Field::Workers);
     }
-    if clients == 0 || clients > MOST_CLIENTS {
-        return bad_field(rt, Field::Clients, at_terminal);
+    if serving.clients == 0 || serving.clients > MOST_CLIENTS {
+        return Err(Field::Clients);
     }
-    let options = ServeOptions {
-        dir,
-        clients: clients as u8,
-    };
-    let watching = Watching { inspect, record };
-    over_file(
-        rt,
-        config,
-        image,
-        workers as u8,
-        options,
-        watching,
-        at_terminal,
-    )
+    if serving.delay > MOST_DELAY {
+        return Err(Field::Delay);
+    }
+    if !runs_fit(serving.bad) {
+        return Err(Field::Bad);
+    }
+    Ok(config)
+}
+
+// Whether there are so few runs of sectors, and each has one.
+fn runs_fit(runs: &[Range]) -> bool
+    ensures { result ≡ runs_fit runs.now }
+{
+    runs.len() <= MOST_RUNS && have_sectors(runs)
+}
+
+// Whether each run has a sector.
+fn have_sectors(runs: &[Range]) -> bool
+    ensures { result ≡ list_all (λ run. nat_lt 0 run.count) runs.now }
+{
+    for run in runs {
+        if run.count == 0 {
+            return false;
+        }
+    }
+    true
+}
+
+// The device of a host: its image, how many workers it has, and its bad sectors.
+#[derive(Clone, Copy)]
+struct Device<'a> {
+    image: &'a str,
+    workers: u8,
+    bad: &'a [Range],
 }
 
 // The configuration, if no field is out of its limits. Of what is then known of its numbers nothing is said here, as nobody needs it.
@@ -87,12 +140,42 @@ fn checked(draft: ConfigDraft) -> Result<Config, ConfigFault>
     Config::check(draft)
 }
 
+// The image in the file of a device for each of its workers, with the bad sectors.
+fn device_images(
+    rt: &impl Files<File = File>,
+    alloc: Global,
+    device: Device<'_>,
+) -> io::Result<Vec<BadSectors<FileImage>>>
+    ensures many { IfOk result (λ images. length images.items ≡ device.entry.workers) }
+    ensures bad { IfOk result (λ images. HaveBad device.entry.bad.now images.items) }
+{
+    let files = file_images(rt, alloc, device.image, device.workers)?;
+    Ok(with_bad(alloc, files, device.bad)?)
+}
+
+// Each image, of which the sectors of these runs are bad.
+fn with_bad(
+    alloc: Global,
+    files: Vec<FileImage>,
+    bad: &[Range],
+) -> Result<Vec<BadSectors<FileImage>>, AllocError>
+    ensures many { IfOk result (λ images. length images.items ≡ length files.items) }
+    ensures bad { IfOk result (λ images. HaveBad bad.now images.items) }
+{
+    let mut images = Vec::new(alloc);
+    for file in files {
+        let mut runs = Vec::new(alloc);
+        runs.extend_from_slice(bad)?;
+        images.push(BadSectors::new(file, runs))?;
+    }
+    Ok(images)
+}
+
 // Serves the host over the image in a file.
 fn over_file<R>(
     rt: &R,
     config: Config,
-    image: &str,
-    workers: u8,
+    device: Device<'_>,
     options: ServeOptions<'_>,
     watching: Watching<'_>,
     at_terminal: bool,
@@ -100,12 +183,13 @@ fn over_file<R>(
 where
     R: Files<File = File> + AllocGlobal + Eprint,
     R: Threads + Wait + Net + Clock + Copy + Drop + Send + 'static,
-    requires workers { 1 ≤ workers × workers ≤ 4 }
+    requires workers { 1 ≤ device.workers × device.workers ≤ 4 }
     requires clients { 1 ≤ options.clients × options.clients ≤ 16 }
     ensures { IsEndStatus result }
 {
     let mut fault = None;
-    match file_images(rt, rt.alloc(), image, workers) {
+    let image = device.image;
+    match device_images(rt, rt.alloc(), device) {
         Ok(images) => {
             let alloc = rt.alloc();
             match run_host(*rt, alloc, config, images, options, watching, &mut fault) {

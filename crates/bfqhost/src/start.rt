@@ -59,6 +59,8 @@ where
                 dir,
                 clients,
                 workers,
+                delay,
+                bad,
                 inspect,
                 record,
             },
@@ -68,6 +70,8 @@ where
                 dir: dir.as_str(),
                 clients,
                 workers,
+                delay,
+                bad: bad.as_slice(),
                 inspect,
                 record: text_in(&record),
             };

@@ -1,5 +1,5 @@
 -- The tape: the changes of each step, one list after the other (our profile).
-use Rattle.std.specs.Prelude.{ℕ, zero, suc, ◌-◌, ◌≤◌, List, [], ◌∷◌, ◌++◌, take, drop, slice_index_or}
+use Rattle.std.specs.Prelude.{◌≡◌, ℕ, zero, suc, ◌+◌, ◌*◌, ◌-◌, ◌<◌, ◌≤◌, ◌%◌, ◌^◌, List, [], ◌∷◌, ◌++◌, take, drop, slice_index_or}
 use Rattle.change_record.specs.declared.change.Change.{Change}
 
 -- the lists of the steps, that of the step under way, room for so many more changes, and for the ends of so many more steps
@@ -37,3 +37,7 @@ begin_of from (end ∷ ends) (suc at) = begin_of end ends at
 -- the list with these elements in the place of those from `start` to before `end`
 abbrev pub spliced : {A : Type 0} → ℕ → ℕ → List A → List A → List A
 spliced start end xs ys = take start xs ++ (ys ++ drop end xs)
+
+-- of a list of so many exchanges those before the refused one were made, and turned back: each is counted twice, modulo 2^64
+abbrev pub TakesBack : ℕ → ℕ → ℕ → Type 0
+TakesBack turns count now = (made : ℕ) × (made < count) × (now % 2 ^ 64 ≡ (turns + 2 * made) % 2 ^ 64)

@@ -2,7 +2,7 @@
 ghost use Rattle.std.specs.Prelude.{◌≡◌, ◌+◌, ◌≤◌, ◌<◌, ◌%◌, ◌^◌, [], ◌∷◌, ◌++◌, IsOk, OnOk, OnErr, length, slice_set, slice_index, slice_range, take, drop, vec_len, ◌-◌};
 ghost use Rattle.change_record.specs.Exchange.{after, left_by, AddsBlock, FitsIn, IsPut, FitBack, FitForth, ArePuts, back_tables, back_left, forth_tables, forth_left};
 ghost use Rattle.change_record.specs.Trail.{KeepsTrail};
-ghost use Rattle.change_record.specs.Tape.{step_at, begin_of, AreEnds, spliced};
+ghost use Rattle.change_record.specs.Tape.{step_at, begin_of, AreEnds, spliced, TakesBack};
 
 use crate::turns::{turn_back, turn_fitting, turn_forth};
 use crate::{Change, Parts, push_within};
@@ -73,6 +73,7 @@ impl Tape {
         ensures spare { OnOk result (1 ≤ self.new.spare) }
         ensures kept_room { self.old.room ≤ self.new.room }
         ensures kept_spare { self.old.spare ≤ self.new.spare }
+        ensures enough { count ≤ self.old.room → 1 ≤ self.old.spare → IsOk result }
     {
         self.changes.reserve(count)?;
         self.ends.reserve(1)?;
@@ -228,6 +229,7 @@ impl Tape {
         ensures steps { OnOk result (self.new.steps ≡ slice_set self.old.steps at (forth_left (step_at self.old.steps at) parts.old.tables)) }
         ensures current { self.new.current ≡ self.old.current }
         ensures err { OnErr result (parts.new.tables ≡ parts.old.tables) }
+        ensures turned_back { OnErr result (TakesBack parts.old.turns (length (step_at self.old.steps at)) parts.new.turns) }
         ensures kept { OnErr result (self.new.steps ≡ self.old.steps) }
         ensures fits { FitForth (step_at self.old.steps at) parts.old.tables → IsOk result }
     {
@@ -307,6 +309,7 @@ fn span_forth(
     ensures turns { OnOk result (parts.new.turns % 2 ^ 64 ≡ (parts.old.turns + (end - start)) % 2 ^ 64) }
     ensures changes { OnOk result (changes.new ≡ spliced start end changes.old (forth_left (slice_range changes.old start end) parts.old.tables)) }
     ensures err { OnErr result (parts.new.tables ≡ parts.old.tables) }
+    ensures turned_back { OnErr result (TakesBack parts.old.turns (end - start) parts.new.turns) }
     ensures kept { OnErr result (changes.new ≡ changes.old) }
     ensures fits { FitForth (slice_range changes.old start end) parts.old.tables → IsOk result }
 {

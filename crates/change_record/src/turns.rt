@@ -1,6 +1,7 @@
 // Lists of exchanges, turned in order and in reverse order.
 ghost use Rattle.std.specs.Prelude.{◌≡◌, ◌+◌, ◌%◌, ◌^◌, IsOk, OnOk, OnErr, length};
 ghost use Rattle.change_record.specs.Exchange.{after, left_by, FitsIn, FitBack, FitForth, ArePuts, back_tables, back_left, forth_tables, forth_left};
+ghost use Rattle.change_record.specs.Tape.{TakesBack};
 
 use crate::{Change, Parts};
 use sector_core::OutOfMemory;
@@ -36,6 +37,7 @@ pub fn turn_forth(parts: &mut Parts, changes: &mut [Change]) -> Result<(), OutOf
     ensures left { OnOk result (changes.new ≡ forth_left changes.old parts.old.tables) }
     ensures turns { OnOk result (parts.new.turns % 2 ^ 64 ≡ (parts.old.turns + length changes.old) % 2 ^ 64) }
     ensures err { OnErr result (parts.new.tables ≡ parts.old.tables) }
+    ensures turned_back { OnErr result (TakesBack parts.old.turns (length changes.old) parts.new.turns) }
     ensures handed_back { OnErr result (changes.new ≡ changes.old) }
     ensures fits { FitForth changes.old parts.old.tables → IsOk result }
 {

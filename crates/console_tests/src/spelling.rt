@@ -3,7 +3,7 @@ use script_line::{Ending, Line, Look, line_of, number};
 use sector_core::{Class, Scheduler};
 
 // A line, as it is spelled and as it is.
-const FORMS: [(&[u8], Line); 60] = [
+const FORMS: [(&[u8], Line); 61] = [
     (
         b"attach 0 1 4",
         Line::Attach {
@@ -64,6 +64,15 @@ const FORMS: [(&[u8], Line); 60] = [
             start: 100,
             count: 8,
             byte: 171,
+        },
+    ),
+    (
+        b"discard 3 18446744073709551615 7 65535",
+        Line::Discard {
+            seat: 3,
+            session: 18446744073709551615,
+            start: 7,
+            count: 65535,
         },
     ),
     (

@@ -65,6 +65,10 @@ fn answers(rt: HostRuntime) -> Result<(), Fail> {
         (accepted(Reply::Left), "> left"),
         (issued(0, 7, Op::Fetch, AT_FOUR), "> issued 0 7 fetch 4 2"),
         (issued(63, 3, Op::Store, AT_FIVE), "> issued 63 3 store 5 1"),
+        (
+            issued(1, 5, Op::Discard, AT_FIVE),
+            "> issued 1 5 discard 5 1",
+        ),
         (accepted(Reply::Finished { bios: 32 }), "> finished 32"),
         (accepted(Reply::Requeued), "> requeued"),
         (accepted(Reply::Group { number: 31 }), "> group 31"),
@@ -79,6 +83,10 @@ fn answers(rt: HostRuntime) -> Result<(), Fail> {
         (accepted(Reply::Taken(TAKEN)), "> taken 0 3 fetch 4 2"),
         (completed(6, read), "> completed 6 read 00 41"),
         (completed(2, BioResult::Written), "> completed 2 written"),
+        (
+            completed(3, BioResult::Discarded),
+            "> completed 3 discarded",
+        ),
         (
             completed(2, BioResult::IoError(FailKind::Short)),
             "> completed 2 error short",

@@ -1,6 +1,6 @@
 // A read that goes on until its range is full.
 ghost use Rattle.std.specs.Prelude.{◌+◌, ◌-◌, ◌<◌, ◌^◌, length};
-ghost use Rattle.device_engine.specs.Fill.{Fills};
+ghost use Rattle.device_engine.specs.Fill.{Fills, IsReadBy, Made};
 
 use base_image::{Image, ImageFault};
 
@@ -19,7 +19,8 @@ pub enum Filled {
 pub fn fill<I: Image>(image: &mut I, offset: u64, buffer: &mut [u8]) -> Filled
     requires countable { (I.disk image.old).faults < 2 ^ 64 - 1 }
     requires within { offset + length buffer.old < 2 ^ 64 }
-    ensures { Fills (I.disk image.old) offset buffer.new result (I.disk image.new) }
+    ensures fills { Fills (I.disk image.old) offset buffer.new result (I.disk image.new) }
+    ensures reads { Made (IsReadBy offset (length buffer.new) result) (I.log image.old) (I.log image.new) }
 {
     let mut at: usize = 0;
     while at < buffer.len() {

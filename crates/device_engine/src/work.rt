@@ -2,7 +2,7 @@
 ghost use Rattle.std.specs.Prelude.{◌≡◌, ◌+◌, ◌-◌, ◌*◌, ◌<◌, ◌≤◌, ◌^◌, ◌↔◌, IsTrue, IfOk, OnErr};
 ghost use Rattle.sector_core.specs.declared.bio.Op.TheVariants as op;
 ghost use Rattle.plain.specs.declared.call.DeviceCall.TheVariants.{Finish, Requeue};
-ghost use Rattle.device_engine.specs.Work.{Works};
+ghost use Rattle.device_engine.specs.Work.{Works, ReadsFor, ReadsInVain};
 
 use super::fill::{Filled, fill};
 use base_image::{Image, ImageFault};
@@ -18,7 +18,7 @@ const TOO_MANY_SECTORS: u64 = 1 << 55;
 ///
 /// # Errors
 ///
-/// There is no memory for the bytes; no read failed then.
+/// There is no memory for the bytes of a fetch, whose range ends where they can be counted. No read failed then: none was made, or all bytes were read.
 pub fn work_once<I: Image>(
     alloc: Global,
     image: &mut I,
@@ -27,10 +27,15 @@ pub fn work_once<I: Image>(
     requires countable { (I.disk image.old).faults < 2 ^ 64 - 1 }
     ensures ok { IfOk result (λ call. Works (I.disk image.old) work.now call (I.disk image.new)) }
     ensures err { OnErr result (I.disk image.new ≡ I.disk image.old) }
+    ensures reads { IfOk result (λ call. ReadsFor work.now call (I.log image.old) (I.log image.new)) }
+    ensures in_vain { OnErr result (ReadsInVain work.now (I.log image.old) (I.log image.new)) }
+    ensures wants { OnErr result ((work.now.op ≡ op.Fetch) × (512 * (work.now.range.start + work.now.range.count) < 2 ^ 64)) }
     ensures store { work.now.op ≡ op.Store → image.new ≡ image.old }
+    ensures discard { work.now.op ≡ op.Discard → image.new ≡ image.old }
 {
     match work.op {
         Op::Store => Ok(finish(work, Outcome::Stored)),
+        Op::Discard => Ok(finish(work, Outcome::Stored)),
         Op::Fetch => fetch(alloc, image, work),
     }
 }
@@ -41,6 +46,9 @@ fn fetch<I: Image>(alloc: Global, image: &mut I, work: &Work) -> Result<DeviceCa
     requires fetch { work.now.op ≡ op.Fetch }
     ensures ok { IfOk result (λ call. Works (I.disk image.old) work.now call (I.disk image.new)) }
     ensures err { OnErr result (I.disk image.new ≡ I.disk image.old) }
+    ensures reads { IfOk result (λ call. ReadsFor work.now call (I.log image.old) (I.log image.new)) }
+    ensures in_vain { OnErr result (ReadsInVain work.now (I.log image.old) (I.log image.new)) }
+    ensures wants { OnErr result (512 * (work.now.range.start + work.now.range.count) < 2 ^ 64) }
 {
     if is_past_all(&work.range) {
         // An image says with its sectors that its bytes can be counted, so it ends before this range.

@@ -4,8 +4,8 @@ use Rattle.std.proofs.lemmas.List.Sums.{count_by-le-length}
 use Rattle.std.proofs.lemmas.List.Elements.{All-nil}
 use Rattle.sector_core.specs.declared.config.Scheduler.{Scheduler}
 use Rattle.sector_core.specs.declared.config.Scheduler.TheVariants.{Plain as PlainScheduler, Bfq as BfqScheduler}
-use Rattle.dispatch_core.proofs.Words.{numbers, is_empty, Outcome, WholeRequest, Plain, Flight, Limits, opening, size_of, merge_in}
-use Rattle.sector_core.specs.declared.bio.Outcome.TheVariants.{Fetched, Stored, Failed}
+use Rattle.dispatch_core.proofs.Words.{numbers, is_empty, Outcome, Effect, effect_of, WholeRequest, Plain, Flight, Limits, opening, size_of, merge_in}
+use Rattle.sector_core.specs.declared.bio.Effect.TheVariants.{Reads, Writes, Clears, Fails}
 use Rattle.plain.specs.declared.step.Step.{Step}
 use Rattle.plain.specs.declared.step.Step.TheVariants.{Attach, Submit, Reap, Leave, Dispatch, Finish, Requeue, GroupMake, GroupDrop, SetWeight, Freeze, Thaw, Switch, Tick}
 use Rattle.plain.specs.Entities.{is_bfq}
@@ -13,10 +13,11 @@ use Rattle.plain_laws.specs.Whole.{IsWhole, AreWhole}
 use Rattle.dispatch_core.specs.Counts.{blocks_put, finish_exchanges, submit_exchanges, dispatch_exchanges, switch_exchanges, is_of_leaver, exchanges_of, rule_exchanges}
 
 -- no more blocks are put than there are sectors
-blocks_few : (outcome : Outcome) (sectors : ℕ) → blocks_put outcome sectors ≤ sectors
-blocks_few (Fetched bytes) sectors = omega arith
-blocks_few Stored sectors = omega arith
-blocks_few (Failed kind) sectors = omega arith
+blocks_few : (effect : Effect) (sectors : ℕ) → blocks_put effect sectors ≤ sectors
+blocks_few (Reads bytes) sectors = omega arith
+blocks_few Writes sectors = omega arith
+blocks_few Clears sectors = omega arith
+blocks_few (Fails kind) sectors = omega arith
 
 -- a bio makes four exchanges at most
 submit_few : (found : Option (WholeRequest × Bool)) → submit_exchanges found ≤ 4
@@ -28,7 +29,7 @@ finish_few : (outcome : Outcome) (o : Option Flight) → ((flight : Flight) → 
 finish_few outcome None whole = omega arith
 finish_few outcome (Some flight) whole =
     let w : IsWhole flight.request = whole flight refl in
-    omega (arith, w.few_bios, w.few_sectors, blocks_few outcome (size_of flight.request.bios))
+    omega (arith, w.few_bios, w.few_sectors, blocks_few (effect_of outcome flight.request.op) (size_of flight.request.bios))
 
 -- the rules of bfq make five at most, or 31
 rules_few : (b : Bool) (k : ℕ) → k ≤ 31 → cond b k 0 ≤ 31

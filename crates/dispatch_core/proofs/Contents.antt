@@ -1,9 +1,9 @@
 -- The sectors of a range, one by one: what is read of them, and what is stored into them.
-use Rattle.std.proofs.Common.{◌≡◌, ℕ, suc, ◌+◌, ◌-◌, ◌<◌, ◌≤◌, List, ◌++◌, min, take, drop, length, sym, ap, ◌∙◌, arith, append_assoc, append-nil}
+use Rattle.std.proofs.Common.{◌≡◌, ℕ, suc, ◌+◌, ◌-◌, ◌<◌, ◌≤◌, List, ◌++◌, min, take, drop, replicate, length, sym, ap, ◌∙◌, arith, append_assoc, append-nil}
 use Rattle.std.specs.Prelude.{unwrap_or}
 use Rattle.std.proofs.lemmas.List.{take_min, drop_min}
 use Rattle.std.specs.FinMap as blocks
-use Rattle.dispatch_core.proofs.Words.{Blocks, Tables, content, with_blocks}
+use Rattle.dispatch_core.proofs.Words.{Blocks, Tables, content, with_blocks, with_zeros}
 
 -- one sector more is to come
 one_more : (sector end : ℕ) → sector < end → end - sector ≡ suc (end - (sector + 1))
@@ -42,6 +42,15 @@ with_blocks-more overlay now block rest others sector end all h e f g whole =
     ap (λ o. with_blocks o (sector + 1) (end - (sector + 1)) others) (g ∙ ap (blocks.insert overlay sector) e)
     ∙ ap (λ l. with_blocks (blocks.insert overlay sector (take 512 rest)) (sector + 1) (end - (sector + 1)) l) f
     ∙ ap (λ n. with_blocks overlay sector n rest) (sym (one_more sector end h))
+    ∙ whole
+
+-- and the first block of zeros
+pub with_zeros-more : (overlay now : Blocks) (block : List ℕ) (sector end : ℕ) (all : Blocks) → sector < end
+    → block ≡ replicate 512 0 → now ≡ blocks.insert overlay sector block
+    → with_zeros overlay sector (end - sector) ≡ all → with_zeros now (sector + 1) (end - (sector + 1)) ≡ all
+with_zeros-more overlay now block sector end all h e g whole =
+    ap (λ o. with_zeros o (sector + 1) (end - (sector + 1))) (g ∙ ap (blocks.insert overlay sector) e)
+    ∙ ap (λ n. with_zeros overlay sector n) (sym (one_more sector end h))
     ∙ whole
 
 -- the first 512 bytes, where there are as many

@@ -3,7 +3,7 @@ use Rattle.std.proofs.Common.{◌≡◌, ◌≢◌, ◌⊎◌, inl, inr, is_some
 use Rattle.std.specs.Option.{option_map, is_none}
 use Rattle.std.specs.Prelude.{slice_get}
 use Rattle.std.proofs.lemmas.Bool.Decides.{nat_tests}
-use Rattle.dispatch_core.proofs.Words.{Range, Op, Bio, Outcome, Seat, Tables, WholeRequest, Flight, Bfq, Plain, put, meaning, is_empty, merge_of, activate, stands, Limits, has_session, unreaped, with_unreaped, shape, requests_of, size_of, range_of, woken, payload_length, submitted, submit, merge_in, needs_request, fits, after_finish, finished, finish}
+use Rattle.dispatch_core.proofs.Words.{Range, Op, Bio, Outcome, Seat, Tables, WholeRequest, Flight, Bfq, Plain, put, meaning, is_empty, merge_of, activate, stands, Limits, has_session, unreaped, with_unreaped, shape, requests_of, size_of, range_of, woken, payload_length, submitted, submit, merge_in, needs_request, effect_of, fits, after_finish, finished, finish}
 use Rattle.sector_core.specs.declared.bio.BioResult.TheVariants.{Written}
 use Rattle.sector_core.specs.declared.memory.OutOfMemory.{OutOfMemory as WantOfMemory}
 use Rattle.dispatch_core.specs.Relation.{Answers}
@@ -340,18 +340,18 @@ module _ (l : Limits) (m : Plain) (room : Bool) (tag issue : ℕ) (outcome : Out
       rw (e1, here, e2, bad) refl
 
   pub finish_goes : (f : Flight) → m.flight tag ≡ Some f → f.issue ≡ issue → fits f.request.op (size_of f.request.bios) outcome ≡ true
-      → finish l m room tag issue outcome ≡ finished l m room tag outcome f.request
+      → finish l m room tag issue outcome ≡ finished l m room tag (effect_of outcome f.request.op) f.request
   finish_goes f here same good =
       let e1 = not_past in
       let e2 = same_number f.issue issue same in
       rw (e1, here, e2, good) refl
 
   module _ (f : Flight) (here : m.flight tag ≡ Some f) (same : f.issue ≡ issue) (good : fits f.request.op (size_of f.request.bios) outcome ≡ true) where
-    pub finish_does : room ≡ true → finish l m room tag issue outcome ≡ (after_finish l m tag outcome f.request, Accepted (Finished (length f.request.bios)))
-    finish_does e = finish_goes f here same good ∙ ap (λ b. accepted b m (after_finish l m tag outcome f.request) (Finished (length f.request.bios))) e
+    pub finish_does : room ≡ true → finish l m room tag issue outcome ≡ (after_finish l m tag (effect_of outcome f.request.op) f.request, Accepted (Finished (length f.request.bios)))
+    finish_does e = finish_goes f here same good ∙ ap (λ b. accepted b m (after_finish l m tag (effect_of outcome f.request.op) f.request) (Finished (length f.request.bios))) e
 
     pub finish_late : room ≡ false → finish l m room tag issue outcome ≡ (m, Refused HistoryFull)
-    finish_late e = finish_goes f here same good ∙ ap (λ b. accepted b m (after_finish l m tag outcome f.request) (Finished (length f.request.bios))) e
+    finish_late e = finish_goes f here same good ∙ ap (λ b. accepted b m (after_finish l m tag (effect_of outcome f.request.op) f.request) (Finished (length f.request.bios))) e
 
     pub finish_accepts : room ≡ true → MayGiveWay (finish l m room tag issue outcome).1
     finish_accepts e = let P : Plain × Answer → Type 0 = λ o. MayGiveWay o.1 in subst P (sym (finish_does e)) tt

@@ -4,7 +4,7 @@ use Rattle.std.specs.Prelude.{All, sum_by}
 use Rattle.std.proofs.Math.Path.{fun_ext}
 use Rattle.std.proofs.lemmas.Bool.{cases_lt}
 use Rattle.std.proofs.lemmas.List.{get_or-set_same, get_or-set_other}
-use Rattle.dispatch_core.proofs.Words.{Bio, Outcome, Request, Issue, bios_at, Seat, Tables, Plain, put, meaning, whole_at, outbox_at, Limits, after_outcome, completed, at, one, times, WellFormed, IsCompleted, leaving_entry, finished_tables, dropped_tables, without_bios}
+use Rattle.dispatch_core.proofs.Words.{Bio, Effect, Request, Issue, bios_at, Seat, Tables, Plain, put, meaning, whole_at, outbox_at, Limits, after_effect, completed, at, one, times, WellFormed, IsCompleted, leaving_entry, finished_tables, dropped_tables, without_bios}
 use Rattle.plain.specs.Entities.{owed_fewer, without_gone}
 use Rattle.dispatch_core.proofs.Sides.{CanFinish}
 use Rattle.dispatch_core.proofs.Times.{Apart, set_cases, at_within}
@@ -20,7 +20,7 @@ use Rattle.dispatch_core.proofs.Lessened.{placed_like, sessions_less, less-seate
 use Rattle.dispatch_core.proofs.Freed.{or_gone, or_gone-well, or_gone-meaning, fewer_is}
 use Rattle.dispatch_core.proofs.Finishes.{slots_of, slots_taken, distinct, other_apart, outbox_apart}
 
-module _ (l : Limits) (n : ℕ) (t : Tables) (tag issue slot seat : ℕ) (entry : Seat) (request : Request) (outcome : Outcome) (w : WellFormed l n t) (can : CanFinish t tag issue slot seat entry request)
+module _ (l : Limits) (n : ℕ) (t : Tables) (tag issue slot seat : ℕ) (entry : Seat) (request : Request) (effect : Effect) (w : WellFormed l n t) (can : CanFinish t tag issue slot seat entry request)
     (leaves : entry.leaving ≡ true) where
   -- the request's slots
   abbrev slots : List ℕ
@@ -28,7 +28,7 @@ module _ (l : Limits) (n : ℕ) (t : Tables) (tag issue slot seat : ℕ) (entry 
 
   -- the bios with their results
   abbrev results : List Bio
-  results = completed outcome t.overlay (bios_at t.bios slots)
+  results = completed effect t.overlay (bios_at t.bios slots)
 
   -- the entry that counts fewer
   abbrev fewer : Seat
@@ -37,7 +37,7 @@ module _ (l : Limits) (n : ℕ) (t : Tables) (tag issue slot seat : ℕ) (entry 
   -- the tables without those bios
   abbrev now : Tables
   now = record t {
-    overlay = after_outcome outcome t.overlay (bios_at t.bios slots);
+    overlay = after_effect effect t.overlay (bios_at t.bios slots);
     bios = without_bios t.bios slots;
     requests = set t.requests slot None;
     tags = set t.tags tag None;
@@ -87,8 +87,8 @@ module _ (l : Limits) (n : ℕ) (t : Tables) (tag issue slot seat : ℕ) (entry 
         };
         seated = less-seated l n t seat entry slots w can.within can.sits of few have now.overlay now.requests now.tags t.outboxes (w.seated.left seat entry can.sits leaves) (λ k other. refl);
         kept = less-kept l n t seat entry slots w can.within can.sits of few have now.overlay now.requests now.tags t.outboxes were boxed once_less;
-        placed = placed_like (n + 1) (finished_tables t tag slot seat slots outcome) now.overlay now.bios t.outboxes now.seats
-            (sessions_less l n t seat entry slots w can.within can.sits of few have) (finished-placed l n t tag issue slot seat entry request outcome w can);
+        placed = placed_like (n + 1) (finished_tables t tag slot seat slots effect) now.overlay now.bios t.outboxes now.seats
+            (sessions_less l n t seat entry slots w can.within can.sits of few have) (finished-placed l n t tag issue slot seat entry request effect w can);
         ruled = w.ruled;
         young = later.young;
         first = later.first;
@@ -108,14 +108,14 @@ module _ (l : Limits) (n : ℕ) (t : Tables) (tag issue slot seat : ℕ) (entry 
 
   -- the plain machine with the request off its tag
   abbrev off : Plain
-  off = record (meaning t) { overlay = after_outcome outcome t.overlay (bios_at t.bios slots); flight = put (meaning t).flight tag None }
+  off = record (meaning t) { overlay = after_effect effect t.overlay (bios_at t.bios slots); flight = put (meaning t).flight tag None }
 
   seat_is : (meaning now).seat ≡ (owed_fewer seat (length results) off).seat
   seat_is =
       let of = slots_of l n t tag issue slot seat entry request w can in
       let few = distinct l n t tag issue slot seat entry request w can in
       let have = slots_taken l n t tag issue slot seat entry request w can in
-      let count : length results ≡ length slots = length-completed outcome t.overlay (bios_at t.bios slots) ∙ length-bios_at t.bios slots have in
+      let count : length results ≡ length slots = length-completed effect t.overlay (bios_at t.bios slots) ∙ length-bios_at t.bios slots have in
       put-set t.seats seat (Some fewer) (at_within t.seats seat entry can.sits)
       ∙ sym (less-seat l n t seat entry slots w can.within can.sits of few have (meaning t).seat entry (length results) can.sits refl leaves count)
 
@@ -164,15 +164,15 @@ module _ (l : Limits) (n : ℕ) (t : Tables) (tag issue slot seat : ℕ) (entry 
   now_sits : at now.seats seat ≡ Some fewer
   now_sits = get_or-set_same t.seats seat (Some fewer) None (at_within t.seats seat entry can.sits)
 
-  tables_are : dropped_tables t tag slot seat entry slots outcome ≡ or_gone now seat fewer
+  tables_are : dropped_tables t tag slot seat entry slots effect ≡ or_gone now seat fewer
   tables_are = fewer_is (record t { overlay = now.overlay; bios = now.bios; requests = now.requests; tags = now.tags }) seat entry (length slots)
 
   -- the tables hold together
-  pub dropped-well : WellFormed l (n + 1) (dropped_tables t tag slot seat entry request.bios.items outcome)
+  pub dropped-well : WellFormed l (n + 1) (dropped_tables t tag slot seat entry request.bios.items effect)
   dropped-well = subst (WellFormed l (n + 1)) (sym tables_are) (or_gone-well l (n + 1) now seat fewer now-well can.within now_sits)
 
   -- and mean what the plain step does
-  pub dropped-meaning : meaning (dropped_tables t tag slot seat entry request.bios.items outcome)
-      ≡ without_gone l seat (owed_fewer seat (length (completed outcome t.overlay (bios_at t.bios request.bios.items)))
-      (let m : Plain = record (meaning t) { overlay = after_outcome outcome t.overlay (bios_at t.bios request.bios.items); flight = put (meaning t).flight tag None } in m))
+  pub dropped-meaning : meaning (dropped_tables t tag slot seat entry request.bios.items effect)
+      ≡ without_gone l seat (owed_fewer seat (length (completed effect t.overlay (bios_at t.bios request.bios.items)))
+      (let m : Plain = record (meaning t) { overlay = after_effect effect t.overlay (bios_at t.bios request.bios.items); flight = put (meaning t).flight tag None } in m))
   dropped-meaning = ap meaning tables_are ∙ or_gone-meaning l (n + 1) now seat fewer now-well can.within now_sits refl ∙ ap (without_gone l seat) now-meaning

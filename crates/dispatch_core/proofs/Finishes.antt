@@ -3,7 +3,7 @@ use Rattle.std.proofs.Common.{◌≡◌, inl, inr, ℕ, ◌+◌, ◌*◌, ◌<�
 use Rattle.std.specs.Prelude.{All, sum_by}
 use Rattle.std.proofs.lemmas.Bool.{cases_eq, cases_lt, eq-eqb, ne_eqb}
 use Rattle.std.proofs.lemmas.List.Elements.{All-append, All-same, filter_map-append}
-use Rattle.dispatch_core.proofs.Words.{Bio, Outcome, Request, Seat, Tables, bios_at, meaning, outbox_at, put, Limits, completed, seat_of, is_session, at, one, times, named, WellFormed, Seated, Kept, IsSlotOf, IsBio, IsWaiting, IsCompleted, IsOwned, finished_tables}
+use Rattle.dispatch_core.proofs.Words.{Bio, Effect, Request, Seat, Tables, bios_at, meaning, outbox_at, put, Limits, completed, seat_of, is_session, at, one, times, named, WellFormed, Seated, Kept, IsSlotOf, IsBio, IsWaiting, IsCompleted, IsOwned, finished_tables}
 use Rattle.dispatch_core.proofs.Sides.{CanFinish}
 use Rattle.dispatch_core.proofs.QueueLists.{find_first}
 use Rattle.dispatch_core.proofs.Times.{Apart, Apart_from_times, set_cases, at_within, times-append, times_here, filter_map_same}
@@ -98,18 +98,18 @@ module _ (l : Limits) (n : ℕ) (t : Tables) (tag issue slot seat : ℕ) (entry 
   seat_found = find_first (λ k. is_session request.session (at t.seats k)) 0 16 seat (omega arith) (omega (arith, can.within)) session_here
       (λ j _ lt. no_session j (λ e. absurd (omega (arith, e, lt))))
 
-  module _ (outcome : Outcome) where
+  module _ (effect : Effect) where
     -- the bios with their results
     abbrev results : List Bio
-    results = completed outcome t.overlay (bios_at t.bios slots)
+    results = completed effect t.overlay (bios_at t.bios slots)
 
     -- the tables afterwards
     abbrev now : Tables
-    now = finished_tables t tag slot seat slots outcome
+    now = finished_tables t tag slot seat slots effect
 
     -- there are as many results as slots
     length-results : length results ≡ length slots
-    length-results = length-completed outcome t.overlay (bios_at t.bios slots) ∙ length-bios_at t.bios slots slots_taken
+    length-results = length-completed effect t.overlay (bios_at t.bios slots) ∙ length-bios_at t.bios slots slots_taken
 
     -- the slots have the results
     results_are : bios_at now.bios slots ≡ results
@@ -133,7 +133,7 @@ module _ (l : Limits) (n : ℕ) (t : Tables) (tag issue slot seat : ℕ) (entry 
 
     -- each bio lies within the image
     kept_bio : (q : ℕ) (b : Bio) → at now.bios q ≡ Some b → IsBio l b
-    kept_bio = with_bios_each (IsBio l) t.bios slots results slots_taken (completed_bios l outcome t.overlay (bios_at t.bios slots) (All-bios_at (IsBio l) t.bios slots slots_taken w.kept.bio)) w.kept.bio
+    kept_bio = with_bios_each (IsBio l) t.bios slots results slots_taken (completed_bios l effect t.overlay (bios_at t.bios slots) (All-bios_at (IsBio l) t.bios slots slots_taken w.kept.bio)) w.kept.bio
 
     -- every other request is owned
     kept_request : (k : ℕ) (r : Request) → at now.requests k ≡ Some r → IsOwned now r
@@ -156,7 +156,7 @@ module _ (l : Limits) (n : ℕ) (t : Tables) (tag issue slot seat : ℕ) (entry 
 
     -- and the request's bios are completed
     now_done : All (IsCompleted now.bios seat) slots
-    now_done = completed_written seat t.bios slots results distinct slots_taken length-results slots_of (completed_done outcome t.overlay (bios_at t.bios slots))
+    now_done = completed_written seat t.bios slots results distinct slots_taken length-results slots_of (completed_done effect t.overlay (bios_at t.bios slots))
 
     -- so the outboxes have completed bios
     kept_outbox : (j : ℕ) → j < 16 → All (IsCompleted now.bios j) (outbox_at now.outboxes j)
@@ -189,7 +189,7 @@ module _ (l : Limits) (n : ℕ) (t : Tables) (tag issue slot seat : ℕ) (entry 
     outbox_bios j h = filter_map_same (at now.bios) (at t.bios) (outbox_at t.outboxes j) (outbox_keeps j h)
 
     -- what it means for the outboxes
-    pub outbox_is : (meaning now).outbox ≡ put (meaning t).outbox seat ((meaning t).outbox seat ++ completed outcome t.overlay (bios_at t.bios request.bios.items))
+    pub outbox_is : (meaning now).outbox ≡ put (meaning t).outbox seat ((meaning t).outbox seat ++ completed effect t.overlay (bios_at t.bios request.bios.items))
     outbox_is = put_from (meaning t).outbox (meaning now).outbox seat (bios_at t.bios box ++ results)
         (ap (bios_at now.bios) (outbox_same t.outboxes seat (box ++ slots) outbox_within) ∙ filter_map-append (at now.bios) box slots
         ∙ ap (λ xs. xs ++ bios_at now.bios slots) (outbox_bios seat can.within) ∙ ap (λ xs. bios_at t.bios box ++ xs) results_are)

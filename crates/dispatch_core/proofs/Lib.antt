@@ -26,6 +26,7 @@ pub mod Joined
 pub mod JoinedQueues
 pub mod NextFound
 pub mod NextTaken
+pub mod RoomMade
 pub mod Ruling
 pub mod NextSent
 pub mod NextSlot

@@ -4,7 +4,7 @@ use Rattle.std.specs.List.{find}
 use Rattle.std.specs.Option.{option_map, option_map_or, option_or}
 use Rattle.std.proofs.lemmas.Bool.Decides.{nat_tests}
 use Rattle.dispatch_core.proofs.Words.{Range, Op, Request, Link, queue_slots, bios_at, shape_at, merge_place, shape_of, same_op, has_room, may_join, joins, joins_at, Tables, WholeRequest, meaning, whole_at, shape, merge_in, at}
-use Rattle.sector_core.specs.declared.bio.Op.TheVariants.{Fetch, Store}
+use Rattle.sector_core.specs.declared.bio.Op.TheVariants.{Fetch, Store, Discard}
 use Rattle.plain.specs.declared.shape.Shape.{Shape}
 use Rattle.process_queue.specs.declared.merge.Place.{Place}
 use Rattle.dispatch_core.proofs.QueueFacts.{whole_with}
@@ -28,7 +28,12 @@ operation : (a b : Op) → same_op a b ≡ true → a ≡ b
 operation Fetch Fetch e = refl
 operation Fetch Store e = cc
 operation Store Fetch e = cc
+operation Fetch Discard e = cc
 operation Store Store e = refl
+operation Store Discard e = cc
+operation Discard Fetch e = cc
+operation Discard Store e = cc
+operation Discard Discard e = refl
 
 -- what a request is that a bio joins
 pub record IsJoined (t : Tables) (slot session : ℕ) (op : Op) (request : Request) : Type 0 where

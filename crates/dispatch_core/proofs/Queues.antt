@@ -8,7 +8,7 @@ use Rattle.std.proofs.lemmas.Option.{same_Some}
 use Rattle.std.proofs.lemmas.List.Elements.{All-from_recursion, recursion_from_All, All-append, All-drop, All-take}
 use Rattle.std.proofs.lemmas.List.Sums.{sum_by-set}
 use Rattle.std.specs.Option.{option_map, is_none}
-use Rattle.dispatch_core.proofs.Words.{Range, Op, Bio, Outcome, Request, Issue, Link, queue_slots, first_slot, first_in, is_empty, numbers, seats, Seat, Tables, bios_at, WholeRequest, Flight, put, meaning, whole_at, Limits, requests_of, with_unreaped, at, one, bears, WellFormed, Placed, IsQueued, attached_tables, submitted_tables, reaped_tables, sent_tables, finished_tables}
+use Rattle.dispatch_core.proofs.Words.{Range, Op, Bio, Effect, Request, Issue, Link, queue_slots, first_slot, first_in, is_empty, numbers, seats, Seat, Tables, bios_at, WholeRequest, Flight, put, meaning, whole_at, Limits, requests_of, with_unreaped, at, one, bears, WellFormed, Placed, IsQueued, attached_tables, submitted_tables, reaped_tables, sent_tables, finished_tables}
 use Rattle.sector_core.specs.Table.{AllTaken, IsFirstFree}
 use Rattle.sector_core.specs.declared.class.Class.{Class}
 use Rattle.soft_queue.specs.Turn.{is_waiting, next_seat}
@@ -425,10 +425,10 @@ sent-flight l n t seat slot tag request w can =
 -- Finish.
 
 -- the request that is finished leaves its tag and its slot
-pub finished-placed : (l : Limits) (n : ℕ) (t : Tables) (tag issue slot seat : ℕ) (entry : Seat) (request : Request) (outcome : Outcome) → WellFormed l n t → CanFinish t tag issue slot seat entry request
-    → Placed (n + 1) (finished_tables t tag slot seat request.bios.items outcome)
-finished-placed l n t tag issue slot seat entry request outcome w can =
-    let u : Tables = finished_tables t tag slot seat request.bios.items outcome in
+pub finished-placed : (l : Limits) (n : ℕ) (t : Tables) (tag issue slot seat : ℕ) (entry : Seat) (request : Request) (effect : Effect) → WellFormed l n t → CanFinish t tag issue slot seat entry request
+    → Placed (n + 1) (finished_tables t tag slot seat request.bios.items effect)
+finished-placed l n t tag issue slot seat entry request effect w can =
+    let u : Tables = finished_tables t tag slot seat request.bios.items effect in
     let gone : Issue = record { issue = issue; slot = slot } in
     let free : at t.links slot ≡ None = unlinked_borne n t tag gone w.placed can.borne in
     let ht : tag < length t.tags = within_of t.tags tag gone can.borne in
@@ -467,38 +467,38 @@ finished-placed l n t tag issue slot seat entry request outcome w can =
     }
 
 -- a request in another slot stays as it was, as no two requests name one bio
-finished-whole : (l : Limits) (n : ℕ) (t : Tables) (tag issue slot seat : ℕ) (entry : Seat) (request : Request) (outcome : Outcome) → WellFormed l n t
+finished-whole : (l : Limits) (n : ℕ) (t : Tables) (tag issue slot seat : ℕ) (entry : Seat) (request : Request) (effect : Effect) → WellFormed l n t
     → CanFinish t tag issue slot seat entry request → (k : ℕ) → k ≢ slot
-    → whole_at (finished_tables t tag slot seat request.bios.items outcome).requests (finished_tables t tag slot seat request.bios.items outcome).bios k ≡ whole_at t.requests t.bios k
-finished-whole l n t tag issue slot seat entry request outcome w can k other =
+    → whole_at (finished_tables t tag slot seat request.bios.items effect).requests (finished_tables t tag slot seat request.bios.items effect).bios k ≡ whole_at t.requests t.bios k
+finished-whole l n t tag issue slot seat entry request effect w can k other =
     whole_same t.requests _ t.bios _ k (get_or-set_other t.requests slot k None None other)
     (λ r e. bios_at_with t.bios request.bios.items _ r.bios.items (λ place. unnamed_other l t place slot k request r w.kept can.here e other))
 
 -- the queues stay
-pub finished-queue : (l : Limits) (n : ℕ) (t : Tables) (tag issue slot seat : ℕ) (entry : Seat) (request : Request) (outcome : Outcome) → WellFormed l n t → CanFinish t tag issue slot seat entry request
-    → (meaning (finished_tables t tag slot seat request.bios.items outcome)).queue ≡ (meaning t).queue
-finished-queue l n t tag issue slot seat entry request outcome w can =
+pub finished-queue : (l : Limits) (n : ℕ) (t : Tables) (tag issue slot seat : ℕ) (entry : Seat) (request : Request) (effect : Effect) → WellFormed l n t → CanFinish t tag issue slot seat entry request
+    → (meaning (finished_tables t tag slot seat request.bios.items effect)).queue ≡ (meaning t).queue
+finished-queue l n t tag issue slot seat entry request effect w can =
     let free : at t.links slot ≡ None = unlinked_borne n t tag (record { issue = issue; slot = slot }) w.placed can.borne in
     fun_ext (λ q. same_queue _ (whole_at t.requests t.bios) q t.links (λ k m e _.
-    finished-whole l n t tag issue slot seat entry request outcome w can k (λ f. let g : at t.links k ≡ None = ap (at t.links) f ∙ free in cc)))
+    finished-whole l n t tag issue slot seat entry request effect w can k (λ f. let g : at t.links k ≡ None = ap (at t.links) f ∙ free in cc)))
 
 -- the dispatch list stays
-pub finished-requeued : (l : Limits) (n : ℕ) (t : Tables) (tag issue slot seat : ℕ) (entry : Seat) (request : Request) (outcome : Outcome) → WellFormed l n t → CanFinish t tag issue slot seat entry request
-    → (meaning (finished_tables t tag slot seat request.bios.items outcome)).requeued ≡ (meaning t).requeued
-finished-requeued l n t tag issue slot seat entry request outcome w can =
+pub finished-requeued : (l : Limits) (n : ℕ) (t : Tables) (tag issue slot seat : ℕ) (entry : Seat) (request : Request) (effect : Effect) → WellFormed l n t → CanFinish t tag issue slot seat entry request
+    → (meaning (finished_tables t tag slot seat request.bios.items effect)).requeued ≡ (meaning t).requeued
+finished-requeued l n t tag issue slot seat entry request effect w can =
     let none : at t.requeued slot ≡ None = unrequeued_borne n t tag (record { issue = issue; slot = slot }) w.placed can.borne in
-    requeued_same t (finished_tables t tag slot seat request.bios.items outcome) refl (λ k link e.
-    finished-whole l n t tag issue slot seat entry request outcome w can k (requeued_apart t slot k link none e))
+    requeued_same t (finished_tables t tag slot seat request.bios.items effect) refl (λ k link e.
+    finished-whole l n t tag issue slot seat entry request effect w can k (requeued_apart t slot k link none e))
 
 -- the tag is free, and the other tags bear what they bore
-pub finished-flight : (l : Limits) (n : ℕ) (t : Tables) (tag issue slot seat : ℕ) (entry : Seat) (request : Request) (outcome : Outcome) → WellFormed l n t → CanFinish t tag issue slot seat entry request
-    → (meaning (finished_tables t tag slot seat request.bios.items outcome)).flight ≡ put (meaning t).flight tag None
-finished-flight l n t tag issue slot seat entry request outcome w can =
-    let u : Tables = finished_tables t tag slot seat request.bios.items outcome in
+pub finished-flight : (l : Limits) (n : ℕ) (t : Tables) (tag issue slot seat : ℕ) (entry : Seat) (request : Request) (effect : Effect) → WellFormed l n t → CanFinish t tag issue slot seat entry request
+    → (meaning (finished_tables t tag slot seat request.bios.items effect)).flight ≡ put (meaning t).flight tag None
+finished-flight l n t tag issue slot seat entry request effect w can =
+    let u : Tables = finished_tables t tag slot seat request.bios.items effect in
     let borne_issue : Issue = record { issue = issue; slot = slot } in
     put_is (meaning t).flight (meaning u).flight tag None
     (no_flight u tag (freed t.tags tag borne_issue can.borne))
     (λ j other.
     flight_same t.requests u.requests t.bios u.bios (at u.tags j) (λ b e.
-    finished-whole l n t tag issue slot seat entry request outcome w can b.slot (other_slot n t tag j borne_issue b w.placed can.borne e))
+    finished-whole l n t tag issue slot seat entry request effect w can b.slot (other_slot n t tag j borne_issue b w.placed can.borne e))
     ∙ ap (flight_of t.requests t.bios) (get_or-set_other t.tags tag j None None other))

@@ -7,6 +7,7 @@ pub use Rattle.request_pool.specs.declared.Request.{Request}
 pub use Rattle.sector_core.specs.declared.bio.Bio.{Bio}
 pub use Rattle.sector_core.specs.declared.bio.Op.{Op}
 pub use Rattle.sector_core.specs.declared.bio.Outcome.{Outcome}
+pub use Rattle.sector_core.specs.declared.bio.Effect.{Effect}
 pub use Rattle.plain.specs.declared.seat.Seat.{Seat}
 pub use Rattle.process_queue.specs.declared.Link.{Link}
 pub use Rattle.sector_core.specs.declared.range.Range.{Range}
@@ -24,7 +25,7 @@ pub use Rattle.dispatch_core.specs.Changes.{attached_tables, dropped_tables, end
 pub use Rattle.plain.specs.Sessions.{has_session, is_leaving, is_session, unreaped, with_unreaped}
 pub use Rattle.plain.specs.Merge.{has_room, joins, joins_at, may_join, merge_of, same_op, shape_of}
 pub use Rattle.plain.specs.Next.{has_start, next_of, starts, wanted}
-pub use Rattle.plain.specs.Steps.Finish.{after_finish, after_outcome, completed, content, delivered, finish, finished, fits, rest_of_outcome, result_of, seat_of, with_blocks}
+pub use Rattle.plain.specs.Steps.Finish.{after_effect, after_finish, completed, content, delivered, effect_of, finish, finished, fits, rest_of_effect, result_of, seat_of, with_blocks, with_zeros}
 pub use Rattle.plain.specs.Steps.Submit.{change_first, merge_in, needs_request, new_bio, payload_length, queue_with, submit, submitted, with_bio, woken}
 pub use Rattle.dispatch_core.specs.Ranges.{HasFewSectors, count_at, count_of_bio, first_start, start_of_bio, total_count}
 pub use Rattle.change_record.specs.Exchange.{after, tree_at}

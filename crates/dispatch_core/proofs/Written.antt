@@ -4,7 +4,7 @@ use Rattle.std.specs.Prelude.{All, IsSome}
 use Rattle.std.proofs.lemmas.Bool.{cases_eq}
 use Rattle.std.proofs.lemmas.List.{get_or-set_same, get_or-set_other}
 use Rattle.std.proofs.lemmas.List.Elements.{All-nil, All-cons, All-head, All-tail}
-use Rattle.dispatch_core.proofs.Words.{Bio, Outcome, Blocks, bios_at, Limits, completed, result_of, rest_of_outcome, at, one, IsSlotOf, IsBio, IsCompleted, with_bios}
+use Rattle.dispatch_core.proofs.Words.{Bio, Effect, Blocks, bios_at, Limits, completed, result_of, rest_of_effect, at, one, IsSlotOf, IsBio, IsCompleted, with_bios}
 use Rattle.request_pool.specs.Slots.{seat_slots}
 use Rattle.dispatch_core.specs.WellFormed.{taken}
 use Rattle.dispatch_core.proofs.Times.{Apart, set_cases, at_within}
@@ -139,22 +139,22 @@ completed_written seat table (s ∷ slots) (b ∷ bios) few h e of all =
     (All-tail (IsSlotOf seat) s slots of) (All-tail (λ (c : Bio). IsSome c.result) b bios all))
 
 -- completed bios have a result, and are where they were
-pub length-completed : (outcome : Outcome) (overlay : Blocks) (bios : List Bio) → length (completed outcome overlay bios) ≡ length bios
-length-completed outcome overlay [] = refl
-length-completed outcome overlay (b ∷ bios) = let rest = length-completed (rest_of_outcome b.range.count outcome) overlay bios in omega arith
+pub length-completed : (effect : Effect) (overlay : Blocks) (bios : List Bio) → length (completed effect overlay bios) ≡ length bios
+length-completed effect overlay [] = refl
+length-completed effect overlay (b ∷ bios) = let rest = length-completed (rest_of_effect b.range.count effect) overlay bios in omega arith
 
 -- each completed bio has a result
-pub completed_done : (outcome : Outcome) (overlay : Blocks) (bios : List Bio) → All (λ b. IsSome b.result) (completed outcome overlay bios)
-completed_done outcome overlay [] = All-nil (λ (b : Bio). IsSome b.result)
-completed_done outcome overlay (b ∷ bios) =
-    All-cons (λ (c : Bio). IsSome c.result) (record b { result = Some (result_of outcome overlay b) }) (completed (rest_of_outcome b.range.count outcome) overlay bios) refl
-    (completed_done (rest_of_outcome b.range.count outcome) overlay bios)
+pub completed_done : (effect : Effect) (overlay : Blocks) (bios : List Bio) → All (λ b. IsSome b.result) (completed effect overlay bios)
+completed_done effect overlay [] = All-nil (λ (b : Bio). IsSome b.result)
+completed_done effect overlay (b ∷ bios) =
+    All-cons (λ (c : Bio). IsSome c.result) (record b { result = Some (result_of effect overlay b) }) (completed (rest_of_effect b.range.count effect) overlay bios) refl
+    (completed_done (rest_of_effect b.range.count effect) overlay bios)
 
 -- and lies within the image as before
-pub completed_bios : (l : Limits) (outcome : Outcome) (overlay : Blocks) (bios : List Bio) → All (IsBio l) bios → All (IsBio l) (completed outcome overlay bios)
-completed_bios l outcome overlay [] all = All-nil (IsBio l)
-completed_bios l outcome overlay (b ∷ bios) all =
+pub completed_bios : (l : Limits) (effect : Effect) (overlay : Blocks) (bios : List Bio) → All (IsBio l) bios → All (IsBio l) (completed effect overlay bios)
+completed_bios l effect overlay [] all = All-nil (IsBio l)
+completed_bios l effect overlay (b ∷ bios) all =
     let here : IsBio l b = All-head (IsBio l) b bios all in
-    All-cons (IsBio l) (record b { result = Some (result_of outcome overlay b) }) (completed (rest_of_outcome b.range.count outcome) overlay bios)
+    All-cons (IsBio l) (record b { result = Some (result_of effect overlay b) }) (completed (rest_of_effect b.range.count effect) overlay bios)
     (record { some_sectors = here.some_sectors; few_sectors = here.few_sectors; within = here.within })
-    (completed_bios l (rest_of_outcome b.range.count outcome) overlay bios (All-tail (IsBio l) b bios all))
+    (completed_bios l (rest_of_effect b.range.count effect) overlay bios (All-tail (IsBio l) b bios all))

@@ -4,7 +4,7 @@ use Rattle.std.specs.Option.{option_map_or}
 use Rattle.sector_core.specs.declared.range.Range.{Range}
 use Rattle.sector_core.specs.declared.bio.Op.{Op}
 use Rattle.sector_core.specs.declared.bio.Bio.{Bio}
-use Rattle.sector_core.specs.declared.bio.Outcome.{Outcome}
+use Rattle.sector_core.specs.declared.bio.Effect.{Effect}
 use Rattle.sector_core.specs.declared.class.Class.{Class}
 use Rattle.request_pool.specs.declared.Request.{Request}
 use Rattle.plain.specs.declared.seat.Seat.{Seat}
@@ -18,7 +18,7 @@ use Rattle.plain.specs.Opening.{Limits}
 use Rattle.plain.specs.Steps.Attach.{prio_weight}
 use Rattle.plain.specs.Sessions.{with_unreaped}
 use Rattle.plain.specs.Steps.Submit.{new_bio}
-use Rattle.plain.specs.Steps.Finish.{after_outcome, completed}
+use Rattle.plain.specs.Steps.Finish.{after_effect, completed}
 use Rattle.dispatch_core.specs.WellFormed.{at}
 
 abbrev pub unreaped_at : Tables → ℕ → ℕ
@@ -106,10 +106,10 @@ with_bios table [] bios = table
 with_bios table (slot ∷ slots) [] = table
 with_bios table (slot ∷ slots) (bio ∷ bios) = with_bios (slice_set table slot (Some bio)) slots bios
 
-abbrev pub finished_tables : Tables → ℕ → ℕ → ℕ → List ℕ → Outcome → Tables
-finished_tables t tag slot seat slots outcome = record t {
-  overlay = after_outcome outcome t.overlay (bios_at t.bios slots);
-  bios = with_bios t.bios slots (completed outcome t.overlay (bios_at t.bios slots));
+abbrev pub finished_tables : Tables → ℕ → ℕ → ℕ → List ℕ → Effect → Tables
+finished_tables t tag slot seat slots effect = record t {
+  overlay = after_effect effect t.overlay (bios_at t.bios slots);
+  bios = with_bios t.bios slots (completed effect t.overlay (bios_at t.bios slots));
   requests = slice_set t.requests slot None;
   tags = slice_set t.tags tag None;
   outboxes = slice_set t.outboxes seat (record { items = outbox_at t.outboxes seat ++ slots });
@@ -145,15 +145,15 @@ left_tables t seat entry slots = fewer_tables (record t {
 }) seat entry (length slots)
 
 -- a request of a session that leaves is finished, and its bios are dropped
-abbrev pub dropped_tables : Tables → ℕ → ℕ → ℕ → Seat → List ℕ → Outcome → Tables
-dropped_tables t tag slot seat entry slots outcome = fewer_tables (record t {
-  overlay = after_outcome outcome t.overlay (bios_at t.bios slots);
+abbrev pub dropped_tables : Tables → ℕ → ℕ → ℕ → Seat → List ℕ → Effect → Tables
+dropped_tables t tag slot seat entry slots effect = fewer_tables (record t {
+  overlay = after_effect effect t.overlay (bios_at t.bios slots);
   bios = without_bios t.bios slots;
   requests = slice_set t.requests slot None;
   tags = slice_set t.tags tag None;
 }) seat entry (length slots)
 
 -- a request is finished: its bios go to the outbox of its session's seat, or are dropped where the session leaves
-abbrev pub ended_tables : Tables → ℕ → ℕ → ℕ → Seat → List ℕ → Outcome → Tables
-ended_tables t tag slot seat entry slots outcome =
-    if entry.leaving then dropped_tables t tag slot seat entry slots outcome else finished_tables t tag slot seat slots outcome
+abbrev pub ended_tables : Tables → ℕ → ℕ → ℕ → Seat → List ℕ → Effect → Tables
+ended_tables t tag slot seat entry slots effect =
+    if entry.leaving then dropped_tables t tag slot seat entry slots effect else finished_tables t tag slot seat slots effect

@@ -6,7 +6,8 @@ use Rattle.sector_core.specs.declared.config.Scheduler.{Scheduler}
 use Rattle.sector_core.specs.declared.config.Scheduler.TheVariants.{Plain as PlainScheduler, Bfq as BfqScheduler}
 use Rattle.plain.specs.Lists.{numbers, is_empty}
 use Rattle.sector_core.specs.declared.bio.Outcome.{Outcome}
-use Rattle.sector_core.specs.declared.bio.Outcome.TheVariants.{Fetched, Stored, Failed}
+use Rattle.sector_core.specs.declared.bio.Effect.{Effect}
+use Rattle.sector_core.specs.declared.bio.Effect.TheVariants.{Reads, Writes, Clears, Fails}
 use Rattle.plain.specs.Machine.{WholeRequest, Plain, Flight}
 use Rattle.plain.specs.declared.step.Step.{Step}
 use Rattle.plain.specs.declared.step.Step.TheVariants.{Attach, Submit, Reap, Leave, Dispatch, Finish, Requeue, GroupMake, GroupDrop, SetWeight, Freeze, Thaw, Switch, Tick}
@@ -14,18 +15,19 @@ use Rattle.plain.specs.Requests.{size_of}
 use Rattle.plain.specs.Steps.Submit.{merge_in}
 use Rattle.plain.specs.Entities.{is_bfq}
 use Rattle.plain.specs.Sessions.{is_leaving}
-use Rattle.plain.specs.Steps.Finish.{seat_of}
+use Rattle.plain.specs.Steps.Finish.{effect_of, seat_of}
 
--- a store puts one block at each of its sectors, another outcome none
-abbrev pub blocks_put : Outcome → ℕ → ℕ
-blocks_put (Fetched bytes) sectors = 0
-blocks_put Stored sectors = sectors
-blocks_put (Failed kind) sectors = 0
+-- a store puts one block at each of its sectors, and so does a discard; another effect none
+abbrev pub blocks_put : Effect → ℕ → ℕ
+blocks_put (Reads bytes) sectors = 0
+blocks_put Writes sectors = sectors
+blocks_put Clears sectors = sectors
+blocks_put (Fails kind) sectors = 0
 
 -- of a Finish: each bio, the blocks, and then the request, the tag, and the outbox or the entry of a seat that is leaving
 abbrev pub finish_exchanges : Outcome → Option Flight → ℕ
 finish_exchanges outcome None = 0
-finish_exchanges outcome (Some flight) = length flight.request.bios + blocks_put outcome (size_of flight.request.bios) + 3
+finish_exchanges outcome (Some flight) = length flight.request.bios + blocks_put (effect_of outcome flight.request.op) (size_of flight.request.bios) + 3
 
 -- of a Submit: a bio that joins a request has no link of its own
 abbrev pub submit_exchanges : Option (WholeRequest × Bool) → ℕ

@@ -4,7 +4,8 @@ use Rattle.sector_core.specs.declared.range.Range.{Range}
 use Rattle.sector_core.specs.declared.bio.Op.{Op}
 use Rattle.sector_core.specs.declared.bio.Bio.{Bio}
 use Rattle.sector_core.specs.declared.bio.Outcome.{Outcome}
-use Rattle.sector_core.specs.declared.bio.Outcome.TheVariants.{Fetched, Stored, Failed}
+use Rattle.sector_core.specs.declared.bio.Effect.{Effect}
+use Rattle.sector_core.specs.declared.bio.Effect.TheVariants.{Reads, Writes, Clears, Fails}
 use Rattle.request_pool.specs.declared.Request.{Request}
 use Rattle.plain.specs.declared.seat.Seat.{Seat}
 use Rattle.change_record.specs.Tables.{Tables}
@@ -15,28 +16,30 @@ use Rattle.plain.specs.Steps.Finish.{fits}
 use Rattle.dispatch_core.specs.WellFormed.{at, one, times, IsSlotOf}
 use Rattle.dispatch_core.specs.Ranges.{total_count}
 
--- the outcome has the bytes of so many sectors, if it has any
-abbrev pub HasBytes : ℕ → Outcome → Type 0
-HasBytes sectors (Fetched bytes) = 512 * sectors ≤ length bytes
-HasBytes sectors Stored = Unit {0}
-HasBytes sectors (Failed kind) = Unit {0}
+-- the effect has the bytes of so many sectors, if it has any
+abbrev pub HasBytes : ℕ → Effect → Type 0
+HasBytes sectors (Reads bytes) = 512 * sectors ≤ length bytes
+HasBytes sectors Writes = Unit {0}
+HasBytes sectors Clears = Unit {0}
+HasBytes sectors (Fails kind) = Unit {0}
 
 -- what is stored has the bytes of its sectors
-abbrev pub HasPayload : Outcome → Bio → Type 0
-HasPayload (Fetched bytes) bio = Unit {0}
-HasPayload Stored bio = 512 * bio.range.count ≤ length bio.payload
-HasPayload (Failed kind) bio = Unit {0}
+abbrev pub HasPayload : Effect → Bio → Type 0
+HasPayload (Reads bytes) bio = Unit {0}
+HasPayload Writes bio = 512 * bio.range.count ≤ length bio.payload
+HasPayload Clears bio = Unit {0}
+HasPayload (Fails kind) bio = Unit {0}
 
 -- the bios of a request that the device has finished: each in a slot of its own, with all the bytes that it needs
-pub record IsReady (bios : List (Option Bio)) (slots : List ℕ) (outcome : Outcome) : Type 0 where
+pub record IsReady (bios : List (Option Bio)) (slots : List ℕ) (effect : Effect) : Type 0 where
   -- no slot stands twice in the list, and each has a bio
   pub distinct : (slot : ℕ) → times slot slots ≤ 1
   pub taken : All (λ slot. one (at bios slot) ≡ 1) slots
   -- every bio's range ends somewhere
   pub ranges : (slot : ℕ) (bio : Bio) → at bios slot ≡ Some bio → bio.range.start + bio.range.count < 2 ^ 64
   pub small : (slot : ℕ) (bio : Bio) → at bios slot ≡ Some bio → bio.range.count ≤ 64
-  pub payloads : All (λ slot. (bio : Bio) → at bios slot ≡ Some bio → HasPayload outcome bio) slots
-  pub bytes : HasBytes (total_count bios slots) outcome
+  pub payloads : All (λ slot. (bio : Bio) → at bios slot ≡ Some bio → HasPayload effect bio) slots
+  pub bytes : HasBytes (total_count bios slots) effect
 
 -- what Submit's tests have shown before a request is sought that the bio joins, and a free slot for the bio
 pub record MaySubmit (l : Limits) (t : Tables) (seat : ℕ) (entry : Seat) (place session : ℕ) (op : Op) (range : Range) (payload : List ℕ) : Type 0 where

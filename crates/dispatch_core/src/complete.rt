@@ -3,7 +3,7 @@ ghost use Rattle.std.specs.Prelude.{◌≡◌, ◌+◌, ◌*◌, ◌≤◌, ◌<
 ghost use Rattle.std.specs.FinMap as blocks;
 ghost use Rattle.change_record.specs.Trail.{KeepsTrail};
 ghost use Rattle.process_queue.specs.Merge.{bios_at};
-ghost use Rattle.plain.specs.Steps.Finish.{content, with_blocks, after_outcome, completed, result_of, rest_of_outcome};
+ghost use Rattle.plain.specs.Steps.Finish.{content, with_blocks, with_zeros, after_effect, completed, result_of, rest_of_effect};
 ghost use Rattle.dispatch_core.specs.Changes.{with_bios, without_bios};
 ghost use Rattle.dispatch_core.specs.Counts.{blocks_put};
 ghost use Rattle.dispatch_core.specs.Ranges.{total_count};
@@ -14,30 +14,30 @@ use bytes::Bytes;
 use change_record::{Change, Parts, Tape};
 use overlay::Overlay;
 use plain::SECTOR_BYTES;
-use sector_core::{Bio, BioResult, Block, OutOfMemory, Outcome, Range, Slot};
+use sector_core::{Bio, BioResult, Block, Effect, OutOfMemory, Range, Slot};
 use std::alloc::Global;
 
-/// Gives every bio in these slots its result, and stores the blocks of a store.
+/// Gives every bio in these slots its result, and puts the blocks of a store or a discard.
 pub fn complete(
     alloc: Global,
     parts: &mut Parts,
     tape: &mut Tape,
     slots: &[Slot],
-    outcome: &Outcome,
+    effect: Effect,
 ) -> Result<(), OutOfMemory>
-    requires ready { IsReady parts.old.tables.bios slots.now outcome.now }
+    requires ready { IsReady parts.old.tables.bios slots.now effect }
     requires room { total_count parts.old.tables.bios slots.now + length slots.now ≤ tape.old.room }
     ensures tables { OnOk result (parts.new.tables ≡ record parts.old.tables {
-      overlay = after_outcome outcome.now parts.old.tables.overlay (bios_at parts.old.tables.bios slots.now);
-      bios = with_bios parts.old.tables.bios slots.now (completed outcome.now parts.old.tables.overlay (bios_at parts.old.tables.bios slots.now));
+      overlay = after_effect effect parts.old.tables.overlay (bios_at parts.old.tables.bios slots.now);
+      bios = with_bios parts.old.tables.bios slots.now (completed effect parts.old.tables.overlay (bios_at parts.old.tables.bios slots.now));
     }) }
     ensures trail { KeepsTrail tape.old.current parts.old.tables tape.new.current parts.new.tables }
     ensures steps { tape.new.steps ≡ tape.old.steps }
-    ensures count { OnOk result (length tape.new.current ≡ length tape.old.current + (length slots.now + blocks_put outcome.now (total_count parts.old.tables.bios slots.now))) }
+    ensures count { OnOk result (length tape.new.current ≡ length tape.old.current + (length slots.now + blocks_put effect (total_count parts.old.tables.bios slots.now))) }
     ensures room { tape.old.room ≤ tape.new.room + (total_count parts.old.tables.bios slots.now + length slots.now) }
     ensures spare { tape.new.spare ≡ tape.old.spare }
 {
-    let mut rest = outcome.clone()?;
+    let mut rest = effect;
     for slot in slots {
         let done = done_bio(alloc, parts, *slot, &rest)?;
         let count = done.range.count;
@@ -54,28 +54,28 @@ pub fn complete(
     Ok(())
 }
 
-/// Drops every bio in these slots, and stores the blocks of a store.
+/// Drops every bio in these slots, and puts the blocks of a store or a discard.
 pub fn drop_all(
     parts: &mut Parts,
     tape: &mut Tape,
     slots: &[Slot],
-    outcome: &Outcome,
+    effect: &Effect,
 ) -> Result<(), OutOfMemory>
-    requires ready { IsReady parts.old.tables.bios slots.now outcome.now }
+    requires ready { IsReady parts.old.tables.bios slots.now effect.now }
     requires room { total_count parts.old.tables.bios slots.now + length slots.now ≤ tape.old.room }
     ensures tables { OnOk result (parts.new.tables ≡ record parts.old.tables {
-      overlay = after_outcome outcome.now parts.old.tables.overlay (bios_at parts.old.tables.bios slots.now);
+      overlay = after_effect effect.now parts.old.tables.overlay (bios_at parts.old.tables.bios slots.now);
       bios = without_bios parts.old.tables.bios slots.now;
     }) }
     ensures trail { KeepsTrail tape.old.current parts.old.tables tape.new.current parts.new.tables }
     ensures steps { tape.new.steps ≡ tape.old.steps }
-    ensures count { OnOk result (length tape.new.current ≡ length tape.old.current + (length slots.now + blocks_put outcome.now (total_count parts.old.tables.bios slots.now))) }
+    ensures count { OnOk result (length tape.new.current ≡ length tape.old.current + (length slots.now + blocks_put effect.now (total_count parts.old.tables.bios slots.now))) }
     ensures room { tape.old.room ≤ tape.new.room + (total_count parts.old.tables.bios slots.now + length slots.now) }
     ensures spare { tape.new.spare ≡ tape.old.spare }
 {
     for slot in slots {
         let bio = bio_without_result(parts, *slot)?;
-        put_blocks(parts, tape, &bio, outcome)?;
+        put_blocks(parts, tape, &bio, effect)?;
         tape.exchange(
             parts,
             Change::BioSlot {
@@ -104,42 +104,46 @@ fn bio_without_result(parts: &Parts, slot: Slot) -> Result<Bio, OutOfMemory>
 }
 
 // The bio in a slot, with its result.
-fn done_bio(alloc: Global, parts: &Parts, slot: Slot, outcome: &Outcome) -> Result<Bio, OutOfMemory>
+fn done_bio(alloc: Global, parts: &Parts, slot: Slot, effect: &Effect) -> Result<Bio, OutOfMemory>
     requires taken { IsSome (at parts.now.tables.bios slot) }
     requires ends { IfSome (at parts.now.tables.bios slot) (λ bio. bio.range.start + bio.range.count < 2 ^ 64) }
-    ensures { IfOk result (λ done. IfSome (at parts.now.tables.bios slot) (λ bio. done ≡ record bio { result = Some (result_of outcome.now parts.now.tables.overlay bio) })) }
+    ensures { IfOk result (λ done. IfSome (at parts.now.tables.bios slot) (λ bio. done ≡ record bio { result = Some (result_of effect.now parts.now.tables.overlay bio) })) }
 {
     let Some(bio) = parts.pool().bio(slot) else {
         unreachable!()
     };
-    let done = completed_bio(alloc, parts.overlay(), bio, outcome)?;
+    let done = completed_bio(alloc, parts.overlay(), bio, effect)?;
     Ok(done)
 }
 
-// Puts the bio's blocks into the overlay, where the outcome is that of a store.
+// Puts the bio's blocks into the overlay, where the effect is that of a store or a discard.
 fn put_blocks(
     parts: &mut Parts,
     tape: &mut Tape,
     bio: &Bio,
-    outcome: &Outcome,
+    effect: &Effect,
 ) -> Result<(), OutOfMemory>
     requires ends { bio.now.range.start + bio.now.range.count < 2 ^ 64 }
-    requires long { HasPayload outcome.now bio.now }
+    requires long { HasPayload effect.now bio.now }
     requires room { bio.now.range.count ≤ tape.old.room }
-    ensures tables { OnOk result (parts.new.tables ≡ record parts.old.tables { overlay = after_outcome outcome.now parts.old.tables.overlay (bio.now ∷ []) }) }
+    ensures tables { OnOk result (parts.new.tables ≡ record parts.old.tables { overlay = after_effect effect.now parts.old.tables.overlay (bio.now ∷ []) }) }
     ensures trail { KeepsTrail tape.old.current parts.old.tables tape.new.current parts.new.tables }
     ensures steps { tape.new.steps ≡ tape.old.steps }
-    ensures count { OnOk result (length tape.new.current ≡ length tape.old.current + blocks_put outcome.now bio.now.range.count) }
+    ensures count { OnOk result (length tape.new.current ≡ length tape.old.current + blocks_put effect.now bio.now.range.count) }
     ensures room { tape.old.room ≤ tape.new.room + bio.now.range.count }
     ensures spare { tape.new.spare ≡ tape.old.spare }
 {
-    match outcome {
-        Outcome::Fetched(_) => return Ok(()),
-        Outcome::Stored => {
+    match effect {
+        Effect::Reads(_) => return Ok(()),
+        Effect::Writes => {
             store(parts, tape, bio.range, bio.payload.clone()?)?;
             return Ok(());
         }
-        Outcome::Failed(_) => return Ok(()),
+        Effect::Clears => {
+            clear(parts, tape, bio.range)?;
+            return Ok(());
+        }
+        Effect::Fails(_) => return Ok(()),
     }
 }
 
@@ -148,20 +152,21 @@ fn completed_bio(
     alloc: Global,
     overlay: &Overlay,
     bio: &Bio,
-    outcome: &Outcome,
+    effect: &Effect,
 ) -> Result<Bio, OutOfMemory>
     requires { bio.now.range.start + bio.now.range.count < 2 ^ 64 }
-    ensures { IfOk result (λ done. done ≡ record bio.now { result = Some (result_of outcome.now overlay.now bio.now) }) }
+    ensures { IfOk result (λ done. done ≡ record bio.now { result = Some (result_of effect.now overlay.now bio.now) }) }
 {
-    let result = match outcome {
-        Outcome::Fetched(bytes) => BioResult::Read(content_of(
+    let result = match effect {
+        Effect::Reads(bytes) => BioResult::Read(content_of(
             alloc,
             overlay,
             bio.range,
             bytes.as_slice(),
         )?),
-        Outcome::Stored => BioResult::Written,
-        Outcome::Failed(kind) => BioResult::IoError(*kind),
+        Effect::Writes => BioResult::Written,
+        Effect::Clears => BioResult::Discarded,
+        Effect::Fails(kind) => BioResult::IoError(*kind),
     };
     Ok(Bio {
         serial: bio.serial,
@@ -232,18 +237,42 @@ fn store(
     Ok(())
 }
 
-// The outcome without the bytes of its first sectors.
-fn without_first(outcome: Outcome, count: u32) -> Outcome
-    requires { HasBytes count outcome }
-    ensures { result ≡ rest_of_outcome count outcome }
+// Puts blocks of zeros into the overlay.
+fn clear(parts: &mut Parts, tape: &mut Tape, range: Range) -> Result<(), OutOfMemory>
+    requires ends { range.start + range.count < 2 ^ 64 }
+    requires room { range.count ≤ tape.old.room }
+    ensures tables { OnOk result (parts.new.tables ≡ record parts.old.tables { overlay = with_zeros parts.old.tables.overlay range.start range.count }) }
+    ensures trail { KeepsTrail tape.old.current parts.old.tables tape.new.current parts.new.tables }
+    ensures steps { tape.new.steps ≡ tape.old.steps }
+    ensures count { OnOk result (length tape.new.current ≡ length tape.old.current + range.count) }
+    ensures room { tape.old.room ≤ tape.new.room + range.count }
+    ensures spare { tape.new.spare ≡ tape.old.spare }
 {
-    match outcome {
-        Outcome::Fetched(bytes) => {
+    for sector in range.start..range.end() {
+        tape.try_exchange(
+            parts,
+            Change::Sector {
+                sector,
+                block: Some(Block::zeros()),
+            },
+        )?;
+    }
+    Ok(())
+}
+
+// The effect without the bytes of its first sectors.
+fn without_first(effect: Effect, count: u32) -> Effect
+    requires { HasBytes count effect }
+    ensures { result ≡ rest_of_effect count effect }
+{
+    match effect {
+        Effect::Reads(bytes) => {
             let mut bytes = bytes;
             bytes.advance(SECTOR_BYTES * count as usize);
-            return Outcome::Fetched(bytes);
+            return Effect::Reads(bytes);
         }
-        Outcome::Stored => return Outcome::Stored,
-        Outcome::Failed(kind) => return Outcome::Failed(kind),
+        Effect::Writes => return Effect::Writes,
+        Effect::Clears => return Effect::Clears,
+        Effect::Fails(kind) => return Effect::Fails(kind),
     }
 }

@@ -107,10 +107,11 @@ fn make_room(sizes: Sizes, parts: &mut Parts, tape: &mut Tape, serial: u64) -> R
         return Ok(());
     };
     let size = next_size(parts, slot.seat);
+    let queued = !parts.queues().is_empty(slot.seat);
     if slot.age >= u64::from(sizes.timeout) {
-        expire(parts, tape, Expiry::Timeout, sizes.max_budget, true)?;
+        expire(parts, tape, Expiry::Timeout, sizes.max_budget, queued)?;
     } else if slot.service + size > parts.budget(slot.seat) {
-        expire(parts, tape, Expiry::Exhaustion, sizes.max_budget, true)?;
+        expire(parts, tape, Expiry::Exhaustion, sizes.max_budget, queued)?;
     }
     Ok(())
 }

@@ -4,7 +4,7 @@ ghost use Rattle.change_record.specs.Machine.{meaning, outbox_at};
 ghost use Rattle.plain.specs.declared.seat.Seat.{Seat};
 ghost use Rattle.change_record.specs.Trail.{KeepsTrail};
 ghost use Rattle.plain.specs.declared.answer.Answer.TheVariants.{Refused};
-ghost use Rattle.plain.specs.Steps.Finish.{finish, fits};
+ghost use Rattle.plain.specs.Steps.Finish.{finish, effect_of, fits};
 ghost use Rattle.plain.specs.Step.{of_sizes};
 ghost use Rattle.dispatch_core.specs.Changes.{ended_tables};
 ghost use Rattle.dispatch_core.specs.Counts.{finish_exchanges, blocks_put, is_of_leaver};
@@ -19,10 +19,10 @@ use crate::leave::owe_fewer;
 use crate::slots::{list_from, list_joined, outbox_slots};
 use crate::{Answer, Code, Reply, Sizes};
 use change_record::{Change, Parts, Tape};
-use sector_core::{Op, OutOfMemory, Outcome, Slot};
+use sector_core::{Effect, Op, OutOfMemory, Outcome, Slot};
 use std::alloc::Global;
 
-/// A fetch needs all its bytes or a failure, a store needs to be stored; the issue tells one use of a tag from the next.
+/// A fetch needs all its bytes or a failure, a store or a discard needs to be stored; the issue tells one use of a tag from the next.
 pub fn run_finish(
     alloc: Global,
     sizes: Sizes,
@@ -50,8 +50,9 @@ pub fn run_finish(
     let slots = list_from(request.bios.as_slice());
     let slots = slots.as_slice();
     let bios = slots.len() as u32;
+    let effect = effect_of(outcome, request.op)?;
     tape.reserve(size as usize + slots.len() + 5)?;
-    end_request(alloc, parts, tape, tag, slot, seat, slots, outcome)?;
+    end_request(alloc, parts, tape, tag, slot, seat, slots, effect)?;
     Ok(Answer::Accepted(Reply::Finished { bios }))
 }
 
@@ -103,31 +104,31 @@ fn end_request(
     slot: Slot,
     seat: u8,
     slots: &[Slot],
-    outcome: &Outcome,
+    effect: Effect,
 ) -> Result<(), OutOfMemory>
-    requires ready { IsReady parts.old.tables.bios slots.now outcome.now }
+    requires ready { IsReady parts.old.tables.bios slots.now effect }
     requires room { total_count parts.old.tables.bios slots.now + length slots.now + 5 ≤ tape.old.room }
     requires fits { length (outbox_at parts.old.tables.outboxes seat) + length slots.now ≤ 32 }
     requires sits { IsSome (at parts.old.tables.seats seat) }
     requires few { length slots.now ≤ 32 }
-    ensures tables { OnOk result (IfSome (at parts.old.tables.seats seat) (λ entry. parts.new.tables ≡ ended_tables parts.old.tables tag slot seat entry slots.now outcome.now)) }
+    ensures tables { OnOk result (IfSome (at parts.old.tables.seats seat) (λ entry. parts.new.tables ≡ ended_tables parts.old.tables tag slot seat entry slots.now effect)) }
     ensures trail { KeepsTrail tape.old.current parts.old.tables tape.new.current parts.new.tables }
     ensures steps { tape.new.steps ≡ tape.old.steps }
-    ensures least { OnOk result (length tape.old.current + (length slots.now + blocks_put outcome.now (total_count parts.old.tables.bios slots.now) + 3) ≤ length tape.new.current) }
+    ensures least { OnOk result (length tape.old.current + (length slots.now + blocks_put effect (total_count parts.old.tables.bios slots.now) + 3) ≤ length tape.new.current) }
     ensures most { OnOk result (IfSome (at parts.old.tables.seats seat) (λ entry. length tape.new.current
-        ≤ length tape.old.current + (length slots.now + blocks_put outcome.now (total_count parts.old.tables.bios slots.now) + 3 + (if entry.leaving then 2 else 0)))) }
+        ≤ length tape.old.current + (length slots.now + blocks_put effect (total_count parts.old.tables.bios slots.now) + 3 + (if entry.leaving then 2 else 0)))) }
     ensures spare { tape.new.spare ≡ tape.old.spare }
 {
     let Some(entry) = parts.seat(seat) else {
         unreachable!()
     };
     if entry.leaving {
-        drop_all(parts, tape, slots, outcome)?;
+        drop_all(parts, tape, slots, &effect)?;
         free_request(parts, tape, tag, slot);
         owe_fewer(parts, tape, seat, entry, slots.len() as u8);
         return Ok(());
     }
-    complete(alloc, parts, tape, slots, outcome)?;
+    complete(alloc, parts, tape, slots, effect)?;
     deliver(parts, tape, tag, slot, seat, slots);
     Ok(())
 }
@@ -143,6 +144,25 @@ fn fits_outcome(op: Op, size: u32, outcome: &Outcome) -> bool
         (Op::Store, Outcome::Stored) => true,
         (Op::Store, Outcome::Fetched(_)) => false,
         (Op::Store, Outcome::Failed(_)) => false,
+        (Op::Discard, Outcome::Stored) => true,
+        (Op::Discard, Outcome::Fetched(_)) => false,
+        (Op::Discard, Outcome::Failed(_)) => false,
+    }
+}
+
+// What the outcome does to a request of the operation; its bytes are shared.
+fn effect_of(outcome: &Outcome, op: Op) -> Result<Effect, OutOfMemory>
+    ensures { IfOk result (λ effect. effect ≡ effect_of outcome.now op) }
+{
+    match outcome {
+        Outcome::Fetched(bytes) => Ok(Effect::Reads(bytes.clone()?)),
+        Outcome::Stored => match op {
+            // No outcome of a fetch is Stored, so nothing is written then.
+            Op::Fetch => Ok(Effect::Writes),
+            Op::Store => Ok(Effect::Writes),
+            Op::Discard => Ok(Effect::Clears),
+        },
+        Outcome::Failed(kind) => Ok(Effect::Fails(*kind)),
     }
 }
 

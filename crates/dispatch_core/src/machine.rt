@@ -4,7 +4,7 @@ ghost use Rattle.std.specs.Option.{option_map};
 ghost use Rattle.change_record.specs.Exchange.{FitBack, FitForth, ArePuts, back_tables, back_left, forth_tables, forth_left};
 ghost use Rattle.change_record.specs.Trail.{KeepsTrail};
 ghost use Rattle.change_record.specs.Machine.{meaning};
-ghost use Rattle.change_record.specs.Tape.{step_at};
+ghost use Rattle.change_record.specs.Tape.{step_at, TakesBack};
 ghost use Rattle.plain.specs.Step.{step as plain_step, Applies, of_sizes};
 ghost use Rattle.plain.specs.Opening.{opening};
 ghost use Rattle.plain.specs.Looks.{vtime_view, entity_view, request_view};
@@ -136,6 +136,7 @@ impl Machine {
         ensures steps { OnOk result (tape.new.steps ≡ slice_set tape.old.steps at (forth_left (step_at tape.old.steps at) self.old.tables)) }
         ensures current { tape.new.current ≡ tape.old.current }
         ensures err { OnErr result (self.new.tables ≡ self.old.tables) }
+        ensures turned_back { OnErr result (TakesBack self.old.turns (length (step_at tape.old.steps at)) self.new.turns) }
         ensures kept { OnErr result (tape.new.steps ≡ tape.old.steps) }
         ensures fits { FitForth (step_at tape.old.steps at) self.old.tables → IsOk result }
         ensures sizes { self.new.sizes ≡ self.old.sizes }

@@ -87,7 +87,7 @@ fn payload_len(op: Op, count: u32) -> usize
     ensures { result ≡ payload_length op count }
 {
     match op {
-        Op::Fetch => 0,
+        Op::Fetch | Op::Discard => 0,
         Op::Store => SECTOR_BYTES * count as usize,
     }
 }

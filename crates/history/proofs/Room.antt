@@ -21,7 +21,7 @@ use Rattle.plain.specs.Steps.Switch.{is_same}
 use Rattle.plain.specs.Steps.Requeue.{requeue_of, requeued}
 use Rattle.plain.specs.Steps.Dispatch.{dispatch_of, sent_again, sent, sent_by, sent_by_bfq, dispatch_to, next_queue, lowest_free}
 use Rattle.plain.specs.Steps.Tick.{ticked}
-use Rattle.plain.specs.Steps.Finish.{fits, finished, finish_of}
+use Rattle.plain.specs.Steps.Finish.{effect_of, fits, finished, finish_of}
 use Rattle.plain.specs.Steps.Reap.{reaped}
 use Rattle.plain.specs.Steps.GroupMake.{made_group, free_group}
 use Rattle.plain.specs.Entities.{group_tests, is_weight}
@@ -80,7 +80,7 @@ no_finish l m tag issue outcome None h = h
 no_finish l m tag issue outcome (Some f) h = refuses (
     (not (f.issue == issue), Refused NotInFlight)
     ∷ (not (fits f.request.op (size_of f.request.bios) outcome), Refused BadOutcome)
-    ∷ []) m (finished l m false tag outcome f.request) ((λ h. h), ((λ h. h), tt)) (λ h. h) h
+    ∷ []) m (finished l m false tag (effect_of outcome f.request.op) f.request) ((λ h. h), ((λ h. h), tt)) (λ h. h) h
 
 no_requeue : (m : Plain) (tag issue : ℕ) (f : Option Flight) → IsAccepted (requeue_of m false tag issue f).1 → ⊥
 no_requeue m tag issue None h = h

@@ -1,5 +1,5 @@
 -- How many exchanges the lists of the steps have, and how many an Undo and a Redo make.
-use Rattle.std.specs.Prelude.{◌≡◌, ℕ, ◌+◌, ◌-◌, ◌%◌, ◌^◌, List, [], ◌∷◌, ◌++◌, take, drop}
+use Rattle.std.specs.Prelude.{◌≡◌, ◌⊎◌, ℕ, ◌+◌, ◌-◌, ◌%◌, ◌^◌, List, [], ◌∷◌, ◌++◌, take, drop}
 use Rattle.std.specs.List.{sum}
 use Rattle.plain.specs.declared.call.Call.{Call}
 use Rattle.plain.specs.declared.call.Call.TheVariants.{Do, Hold, Release, Undo, Redo}
@@ -7,6 +7,8 @@ use Rattle.plain.specs.declared.answer.Answer.{Answer}
 use Rattle.plain.specs.declared.answer.Answer.TheVariants.{Accepted, Refused, NotYet}
 use Rattle.plain.specs.Keeper.{machine_of}
 use Rattle.plain.specs.Headline.{MayCall}
+use Rattle.plain.specs.declared.answer.Code.TheVariants.{OutOfMemory}
+use Rattle.change_record.specs.Tape.{TakesBack}
 use Rattle.dispatch_core.specs.Counts.{IsCount}
 use Rattle.history.specs.Kept.{Kept}
 
@@ -19,12 +21,15 @@ abbrev pub MakesTurns : ℕ → ℕ → ℕ → Type 0
 MakesTurns old count new = new % 2 ^ 64 ≡ (old + count) % 2 ^ 64
 
 -- an accepted step cuts the lists at the cursor and adds one with so many exchanges as it may have, 512 at most;
--- an accepted Undo or Redo makes exactly the exchanges of its steps, and leaves each list as long as it is
+-- an accepted Undo or Redo makes exactly the exchanges of its steps, and leaves each list as long as it is;
+-- a Redo that finds no memory turns back what it has made, and any other refused one makes none
 abbrev pub Turns : Kept → Call → Answer → Kept → Type 0
 Turns old (Undo n) (Accepted reply) new = MakesTurns old.turns (changes_of old.lengths (old.state.cursor - n) n) new.turns × (new.lengths ≡ old.lengths)
 Turns old (Redo n) (Accepted reply) new = MakesTurns old.turns (changes_of old.lengths old.state.cursor n) new.turns × (new.lengths ≡ old.lengths)
 Turns old (Undo n) (Refused code) new = (new.turns ≡ old.turns) × (new.lengths ≡ old.lengths)
-Turns old (Redo n) (Refused code) new = new.lengths ≡ old.lengths
+Turns old (Redo n) (Refused OutOfMemory) new =
+    ((new.turns ≡ old.turns) ⊎ TakesBack old.turns (changes_of old.lengths old.state.cursor n) new.turns) × (new.lengths ≡ old.lengths)
+Turns old (Redo n) (Refused code) new = (new.turns ≡ old.turns) × (new.lengths ≡ old.lengths)
 Turns old (Undo n) (NotYet cause) new = new.lengths ≡ old.lengths
 Turns old (Redo n) (NotYet cause) new = new.lengths ≡ old.lengths
 Turns old (Do s) (Accepted reply) new =

@@ -1,5 +1,6 @@
 // Several undos and redos, one after the other.
 ghost use Rattle.std.specs.Prelude.{◌≡◌, ◌+◌, ◌-◌, ◌≤◌, OnOk, OnErr, length};
+ghost use Rattle.change_record.specs.Tape.{TakesBack};
 ghost use Rattle.history.specs.Turns.{changes_of, MakesTurns};
 
 use crate::roll::Roll;
@@ -30,6 +31,7 @@ pub fn redo_steps(roll: &mut Roll, count: usize) -> Result<(), OutOfMemory>
     ensures last { roll.new.last ≡ roll.old.last }
     ensures lengths { roll.new.lengths ≡ roll.old.lengths }
     ensures turns { OnOk result (MakesTurns roll.old.turns (changes_of roll.old.lengths roll.old.cursor count) roll.new.turns) }
+    ensures turned_back { OnErr result (TakesBack roll.old.turns (changes_of roll.old.lengths roll.old.cursor count) roll.new.turns) }
 {
     for done in 0..count {
         match roll.redo() {

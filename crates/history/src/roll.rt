@@ -4,6 +4,7 @@ ghost use Rattle.std.specs.Option.{option_copied};
 ghost use Rattle.plain.specs.Step.{of_sizes, IsAccepted};
 ghost use Rattle.plain.specs.Keeper.{fold};
 ghost use Rattle.dispatch_core.specs.Running.{plain_of, sizes_of, IsFor};
+ghost use Rattle.change_record.specs.Tape.{TakesBack};
 ghost use Rattle.history.specs.Roll.{plain_at, SameLine, LengthsAfter, MayStep};
 
 use change_record::{Tape, push_within};
@@ -173,6 +174,7 @@ impl Roll {
         ensures last { self.new.last ≡ self.old.last }
         ensures lengths { self.new.lengths ≡ self.old.lengths }
         ensures turns { OnOk result (self.new.turns % 2 ^ 64 ≡ (self.old.turns + slice_index_or self.old.lengths self.old.cursor 0) % 2 ^ 64) }
+        ensures turned_back { OnErr result (TakesBack self.old.turns (slice_index_or self.old.lengths self.old.cursor 0) self.new.turns) }
     {
         match self.machine.forth(&mut self.tape, self.cursor) {
             Ok(()) => {

@@ -4,7 +4,7 @@ use Rattle.std.specs.FinMap as blocks
 use Rattle.std.proofs.lemmas.List.Elements.{All-nil, All-cons, All-append, All-same, All-tail}
 use Rattle.sector_core.specs.declared.bio.Bio.{Bio}
 use Rattle.sector_core.specs.declared.bio.Op.{Op}
-use Rattle.sector_core.specs.declared.bio.Op.TheVariants.{Fetch, Store}
+use Rattle.sector_core.specs.declared.bio.Op.TheVariants.{Fetch, Store, Discard}
 use Rattle.sector_core.specs.declared.range.Range.{Range}
 use Rattle.plain.specs.Merge.{same_op}
 use Rattle.plain.specs.Machine.{Plain}
@@ -13,7 +13,7 @@ use Rattle.plain.specs.Keeper.{machine_of}
 use Rattle.plain.specs.Headline.{replay}
 use Rattle.plain.specs.Opening.{Limits, opening}
 use Rattle.plain.specs.Steps.Submit.{new_bio, queue_with, merge_in}
-use Rattle.plain.specs.Steps.Finish.{completed}
+use Rattle.plain.specs.Steps.Finish.{effect_of, completed}
 use Rattle.plain_laws.proofs.Joins.{All-queue_with, joined_is}
 use Rattle.plain_laws.specs.Requests.{EachRequest}
 use Rattle.host_calls.specs.Lengths.{BlocksAreFull, HasPayload, HasPayloads, HasFittingResult, ResultsFit, EachBlockIsFull, EachPayloadFits, EachResultFits}
@@ -31,8 +31,13 @@ Filled m = BlocksAreFull m.overlay × EachRequest HasPayloads m × ResultsFit m
 same_op-is : (a b : Op) → same_op a b ≡ true → a ≡ b
 same_op-is Fetch Fetch h = refl
 same_op-is Fetch Store h = cc
+same_op-is Fetch Discard h = cc
 same_op-is Store Fetch h = cc
 same_op-is Store Store h = refl
+same_op-is Store Discard h = cc
+same_op-is Discard Fetch h = cc
+same_op-is Discard Store h = cc
+same_op-is Discard Discard h = refl
 
 filled-queue : (n : ℕ) (m : Plain) (seat session : ℕ) (op : Op) (range : Range) (payload : List ℕ) → IsSized op range payload → All HasPayloads (m.queue seat)
     → All HasPayloads (queue_with session op (new_bio n range payload) (merge_in m seat session op range) (m.queue seat))
@@ -64,7 +69,7 @@ filled-moves l = record {
   lands = λ n m tag f outcome low is fit h.
       (blocks-stay f.request.op outcome m.overlay f.request.bios fit h.0 (h.1.2 tag f is), each-landed HasPayloads m tag h.1, h.2);
   delivers = λ n m tag f outcome seat low is fit small its h.
-      let bios : List Bio = completed outcome m.overlay f.request.bios in
+      let bios : List Bio = completed (effect_of outcome f.request.op) m.overlay f.request.bios in
       let fitted : All HasFittingResult bios = results-fit f.request.op outcome m.overlay f.request.bios fit h.0 (h.1.2 tag f is) in (
         blocks-stay f.request.op outcome m.overlay f.request.bios fit h.0 (h.1.2 tag f is),
         each-landed HasPayloads m tag h.1,

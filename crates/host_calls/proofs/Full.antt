@@ -1,17 +1,19 @@
 -- Blocks have 512 bytes, and what is read has the bytes of its sectors.
-use Rattle.std.proofs.Common.{true, false, Bool, ◌≡◌, ℕ, zero, suc, ◌+◌, ◌*◌, ◌≤◌, List, [], ◌∷◌, length, take, drop, Option, None, Some, All, cond, unwrap_or, refl, sym, ap, ◌∙◌, subst, arith, eqb-true}
+use Rattle.std.proofs.Common.{true, false, Bool, ◌≡◌, ℕ, zero, suc, ◌+◌, ◌*◌, ◌≤◌, List, [], ◌∷◌, length, take, drop, replicate, Option, None, Some, All, cond, unwrap_or, refl, sym, ap, ◌∙◌, subst, arith, eqb-true}
 use Rattle.std.specs.Ordering.{nat_cmp, eq_by_cmp}
 use Rattle.std.specs.FinMap as blocks
 use Rattle.std.specs.Cmp.{nat_cmp_total}
-use Rattle.std.proofs.lemmas.List.{length-append, length-drop, length-take}
+use Rattle.std.proofs.lemmas.List.{length-append, length-drop, length-take, length-replicate}
 use Rattle.std.proofs.lemmas.List.Elements.{All-nil, All-cons, All-head, All-tail}
 use Rattle.sector_core.specs.declared.bio.Bio.{Bio}
 use Rattle.sector_core.specs.declared.bio.Op.{Op}
-use Rattle.sector_core.specs.declared.bio.Op.TheVariants.{Fetch, Store}
+use Rattle.sector_core.specs.declared.bio.Op.TheVariants.{Fetch, Store, Discard}
 use Rattle.sector_core.specs.declared.bio.Outcome.{Outcome}
 use Rattle.sector_core.specs.declared.bio.Outcome.TheVariants.{Fetched, Stored, Failed}
+use Rattle.sector_core.specs.declared.bio.Effect.{Effect}
+use Rattle.sector_core.specs.declared.bio.Effect.TheVariants.{Reads, Writes, Clears, Fails}
 use Rattle.plain.specs.Machine.{Blocks}
-use Rattle.plain.specs.Steps.Finish.{fits, with_blocks, with_stored, after_outcome, content, result_of, rest_of_outcome, completed}
+use Rattle.plain.specs.Steps.Finish.{effect_of, fits, with_blocks, with_stored, with_zeros, with_cleared, after_effect, content, result_of, rest_of_effect, completed}
 use Rattle.plain.specs.Requests.{size_of}
 use Rattle.plain_laws.proofs.Puts.{some_is}
 use Rattle.plain_laws.proofs.Wholes.{size_of-cons}
@@ -40,12 +42,23 @@ with_stored-full (bio ∷ bios) overlay full all =
     with_stored-full bios (with_blocks overlay bio.range.start bio.range.count bio.payload)
     (with_blocks-full bio.range.count overlay bio.range.start bio.payload (All-head (HasPayload Store) bio bios all).1 full) (All-tail (HasPayload Store) bio bios all)
 
--- what the device did leaves them so
+with_zeros-full : (count : ℕ) (overlay : Blocks) (sector : ℕ) → BlocksAreFull overlay → BlocksAreFull (with_zeros overlay sector count)
+with_zeros-full zero overlay sector full = full
+with_zeros-full (suc count) overlay sector full =
+    with_zeros-full count (blocks.insert overlay sector (replicate 512 0)) (sector + 1) (full-insert overlay sector (replicate 512 0) (length-replicate {A = ℕ} 512 0) full)
+
+with_cleared-full : (bios : List Bio) (overlay : Blocks) → BlocksAreFull overlay → BlocksAreFull (with_cleared overlay bios)
+with_cleared-full [] overlay full = full
+with_cleared-full (bio ∷ bios) overlay full =
+    with_cleared-full bios (with_zeros overlay bio.range.start bio.range.count) (with_zeros-full bio.range.count overlay bio.range.start full)
+
+-- what becomes of the overlay leaves them so
 pub blocks-stay : (op : Op) (outcome : Outcome) (overlay : Blocks) (bios : List Bio) → fits op (size_of bios) outcome ≡ true → BlocksAreFull overlay → All (HasPayload op) bios
-    → BlocksAreFull (after_outcome outcome overlay bios)
+    → BlocksAreFull (after_effect (effect_of outcome op) overlay bios)
 blocks-stay op (Fetched bytes) overlay bios h full all = full
 blocks-stay Fetch Stored overlay bios h full all = cc
 blocks-stay Store Stored overlay bios h full all = with_stored-full bios overlay full all
+blocks-stay Discard Stored overlay bios h full all = with_cleared-full bios overlay full
 blocks-stay op (Failed kind) overlay bios h full all = full
 
 -- a sector's content has 512 bytes
@@ -61,45 +74,52 @@ content-length (suc count) overlay sector base full h =
     let others = content-length count overlay (sector + 1) (drop 512 base) full (omega (arith, h, length-drop 512 base)) in
     omega (arith, length-append first (content overlay (sector + 1) count (drop 512 base)), one, others)
 
--- the outcome has bytes for so many sectors
-abbrev HasBytes : ℕ → Outcome → Type 0
-HasBytes count (Fetched bytes) = 512 * count ≤ length bytes
-HasBytes count Stored = Unit {0}
-HasBytes count (Failed kind) = Unit {0}
+-- the effect has bytes for so many sectors
+abbrev HasBytes : ℕ → Effect → Type 0
+HasBytes count (Reads bytes) = 512 * count ≤ length bytes
+HasBytes count Writes = Unit {0}
+HasBytes count Clears = Unit {0}
+HasBytes count (Fails kind) = Unit {0}
 
-result-fits : (outcome : Outcome) (overlay : Blocks) (bio : Bio) → BlocksAreFull overlay → HasBytes bio.range.count outcome → FitsSectors bio.range.count (Some (result_of outcome overlay bio))
-result-fits (Fetched bytes) overlay bio full h = content-length bio.range.count overlay bio.range.start bytes full h
-result-fits Stored overlay bio full h = tt
-result-fits (Failed kind) overlay bio full h = tt
+result-fits : (effect : Effect) (overlay : Blocks) (bio : Bio) → BlocksAreFull overlay → HasBytes bio.range.count effect → FitsSectors bio.range.count (Some (result_of effect overlay bio))
+result-fits (Reads bytes) overlay bio full h = content-length bio.range.count overlay bio.range.start bytes full h
+result-fits Writes overlay bio full h = tt
+result-fits Clears overlay bio full h = tt
+result-fits (Fails kind) overlay bio full h = tt
 
-front-bytes : (a b : ℕ) (outcome : Outcome) → HasBytes (a + b) outcome → HasBytes a outcome
-front-bytes a b (Fetched bytes) h = omega (arith, h)
-front-bytes a b Stored h = tt
-front-bytes a b (Failed kind) h = tt
+front-bytes : (a b : ℕ) (effect : Effect) → HasBytes (a + b) effect → HasBytes a effect
+front-bytes a b (Reads bytes) h = omega (arith, h)
+front-bytes a b Writes h = tt
+front-bytes a b Clears h = tt
+front-bytes a b (Fails kind) h = tt
 
-rest-bytes : (a b : ℕ) (outcome : Outcome) → HasBytes (a + b) outcome → HasBytes b (rest_of_outcome a outcome)
-rest-bytes a b (Fetched bytes) h = omega (arith, h, length-drop (512 * a) bytes)
-rest-bytes a b Stored h = tt
-rest-bytes a b (Failed kind) h = tt
+rest-bytes : (a b : ℕ) (effect : Effect) → HasBytes (a + b) effect → HasBytes b (rest_of_effect a effect)
+rest-bytes a b (Reads bytes) h = omega (arith, h, length-drop (512 * a) bytes)
+rest-bytes a b Writes h = tt
+rest-bytes a b Clears h = tt
+rest-bytes a b (Fails kind) h = tt
 
-completed-fit : (op : Op) (outcome : Outcome) (overlay : Blocks) (bios : List Bio) → BlocksAreFull overlay → All (HasPayload op) bios → HasBytes (size_of bios) outcome
-    → All HasFittingResult (completed outcome overlay bios)
-completed-fit op outcome overlay [] full all h = All-nil HasFittingResult
-completed-fit op outcome overlay (bio ∷ bios) full all h =
-    let has : HasBytes (bio.range.count + size_of bios) outcome = subst (λ n. HasBytes n outcome) (size_of-cons bio bios) h in
-    All-cons HasFittingResult (record bio { result = Some (result_of outcome overlay bio) }) (completed (rest_of_outcome bio.range.count outcome) overlay bios)
-    ((All-head (HasPayload op) bio bios all).0, result-fits outcome overlay bio full (front-bytes bio.range.count (size_of bios) outcome has))
-    (completed-fit op (rest_of_outcome bio.range.count outcome) overlay bios full (All-tail (HasPayload op) bio bios all) (rest-bytes bio.range.count (size_of bios) outcome has))
+completed-fit : (op : Op) (effect : Effect) (overlay : Blocks) (bios : List Bio) → BlocksAreFull overlay → All (HasPayload op) bios → HasBytes (size_of bios) effect
+    → All HasFittingResult (completed effect overlay bios)
+completed-fit op effect overlay [] full all h = All-nil HasFittingResult
+completed-fit op effect overlay (bio ∷ bios) full all h =
+    let has : HasBytes (bio.range.count + size_of bios) effect = subst (λ n. HasBytes n effect) (size_of-cons bio bios) h in
+    All-cons HasFittingResult (record bio { result = Some (result_of effect overlay bio) }) (completed (rest_of_effect bio.range.count effect) overlay bios)
+    ((All-head (HasPayload op) bio bios all).0, result-fits effect overlay bio full (front-bytes bio.range.count (size_of bios) effect has))
+    (completed-fit op (rest_of_effect bio.range.count effect) overlay bios full (All-tail (HasPayload op) bio bios all) (rest-bytes bio.range.count (size_of bios) effect has))
 
-fitted-bytes : (op : Op) (size : ℕ) (outcome : Outcome) → fits op size outcome ≡ true → HasBytes size outcome
+fitted-bytes : (op : Op) (size : ℕ) (outcome : Outcome) → fits op size outcome ≡ true → HasBytes size (effect_of outcome op)
 fitted-bytes Fetch size (Fetched bytes) h = let e = eqb-true (length bytes) (512 * size) h in omega (arith, e)
 fitted-bytes Fetch size Stored h = tt
 fitted-bytes Fetch size (Failed kind) h = tt
 fitted-bytes Store size (Fetched bytes) h = cc
 fitted-bytes Store size Stored h = tt
 fitted-bytes Store size (Failed kind) h = tt
+fitted-bytes Discard size (Fetched bytes) h = cc
+fitted-bytes Discard size Stored h = tt
+fitted-bytes Discard size (Failed kind) h = tt
 
 -- each bio that is completed has a result for its sectors
 pub results-fit : (op : Op) (outcome : Outcome) (overlay : Blocks) (bios : List Bio) → fits op (size_of bios) outcome ≡ true → BlocksAreFull overlay → All (HasPayload op) bios
-    → All HasFittingResult (completed outcome overlay bios)
-results-fit op outcome overlay bios h full all = completed-fit op outcome overlay bios full all (fitted-bytes op (size_of bios) outcome h)
+    → All HasFittingResult (completed (effect_of outcome op) overlay bios)
+results-fit op outcome overlay bios h full all = completed-fit op (effect_of outcome op) overlay bios full all (fitted-bytes op (size_of bios) outcome h)

@@ -3,13 +3,13 @@ use Rattle.std.proofs.Common.{◌≡◌, ℕ, List, [], ◌∷◌, ◌++◌, Som
 use Rattle.std.proofs.lemmas.List.Elements.{All-nil, All-cons, All-append, All-same, All-tail}
 use Rattle.sector_core.specs.declared.bio.Bio.{Bio}
 use Rattle.sector_core.specs.declared.bio.Op.{Op}
-use Rattle.sector_core.specs.declared.bio.Outcome.{Outcome}
+use Rattle.sector_core.specs.declared.bio.Effect.{Effect}
 use Rattle.sector_core.specs.declared.range.Range.{Range}
 use Rattle.plain.specs.Machine.{Blocks, Plain}
 use Rattle.plain.specs.declared.call.Call.{Call}
 use Rattle.plain.specs.Opening.{Limits}
 use Rattle.plain.specs.Steps.Submit.{new_bio, queue_with, merge_in}
-use Rattle.plain.specs.Steps.Finish.{completed, result_of, rest_of_outcome}
+use Rattle.plain.specs.Steps.Finish.{effect_of, completed, result_of, rest_of_effect}
 use Rattle.plain_laws.proofs.Joins.{All-queue_with}
 use Rattle.host_calls.specs.Results.{HasResult, Waits, ResultsAreOut, OutboxesHaveResults}
 use Rattle.plain_laws.proofs.Moves.{Moves}
@@ -17,11 +17,11 @@ use Rattle.plain_laws.proofs.Stamps.{machine-moves}
 use Rattle.plain_laws.proofs.Each.{put-all, with_bio-all, each-queued, each-sent, each-resent, each-given_back, each-landed}
 
 -- each bio that is completed has a result
-completed-all : (outcome : Outcome) (overlay : Blocks) (bios : List Bio) → All HasResult (completed outcome overlay bios)
-completed-all outcome overlay [] = All-nil HasResult
-completed-all outcome overlay (bio ∷ bios) =
-    All-cons HasResult (record bio { result = Some (result_of outcome overlay bio) }) (completed (rest_of_outcome bio.range.count outcome) overlay bios) refl
-    (completed-all (rest_of_outcome bio.range.count outcome) overlay bios)
+completed-all : (effect : Effect) (overlay : Blocks) (bios : List Bio) → All HasResult (completed effect overlay bios)
+completed-all effect overlay [] = All-nil HasResult
+completed-all effect overlay (bio ∷ bios) =
+    All-cons HasResult (record bio { result = Some (result_of effect overlay bio) }) (completed (rest_of_effect bio.range.count effect) overlay bios) refl
+    (completed-all (rest_of_effect bio.range.count effect) overlay bios)
 
 abbrev HasNone : Bio → Type 0
 HasNone bio = bio.result ≡ None
@@ -49,9 +49,9 @@ results-moves l = record {
   gives_back = λ n m tag f low is h. (each-given_back Waits m tag f is h.0, h.1);
   lands = λ n m tag f outcome low is fit h. (each-landed Waits m tag h.0, h.1);
   delivers = λ n m tag f outcome seat low is fit small its h.
-      let bios : List Bio = completed outcome m.overlay f.request.bios in (
+      let bios : List Bio = completed (effect_of outcome f.request.op) m.overlay f.request.bios in (
         each-landed Waits m tag h.0,
-        put-all HasResult m.outbox seat (m.outbox seat ++ bios) (All-append HasResult (m.outbox seat) bios (h.1 seat) (completed-all outcome m.overlay f.request.bios)) h.1,
+        put-all HasResult m.outbox seat (m.outbox seat ++ bios) (All-append HasResult (m.outbox seat) bios (h.1 seat) (completed-all (effect_of outcome f.request.op) m.overlay f.request.bios)) h.1,
       );
   rests = λ n m frozen served head b scheduler h. h;
 }

@@ -5,13 +5,13 @@ use Rattle.std.proofs.lemmas.List.Sums.{sum_by-cons, sum_by_push, sum_by-append}
 use Rattle.plain.specs.Lists.{numbers, seats}
 use Rattle.sector_core.specs.declared.bio.Bio.{Bio}
 use Rattle.sector_core.specs.declared.bio.Op.{Op}
-use Rattle.sector_core.specs.declared.bio.Outcome.{Outcome}
+use Rattle.sector_core.specs.declared.bio.Effect.{Effect}
 use Rattle.sector_core.specs.declared.range.Range.{Range}
 use Rattle.plain.specs.Machine.{Blocks, WholeRequest, Flight, Plain, put}
 use Rattle.plain.specs.declared.call.Call.{Call}
 use Rattle.plain.specs.Opening.{Limits, opening}
 use Rattle.plain.specs.Steps.Submit.{new_bio, with_bio, queue_with, merge_in}
-use Rattle.plain.specs.Steps.Finish.{completed, result_of, rest_of_outcome}
+use Rattle.plain.specs.Steps.Finish.{effect_of, completed, result_of, rest_of_effect}
 use Rattle.plain.specs.Keeper.{machine_of}
 use Rattle.plain.specs.Headline.{replay}
 use Rattle.plain_laws.proofs.Puts.{put_here, put_other}
@@ -141,30 +141,30 @@ given_back-places l m tag f low is serial =
     omega (arith, ends, its, longer)
 
 -- Finish
-completed-named : (serial : ℕ) (outcome : Outcome) (overlay : Blocks) (bios : List Bio) → bios_named serial (completed outcome overlay bios) ≡ bios_named serial bios
-completed-named serial outcome overlay [] = refl
-completed-named serial outcome overlay (bio ∷ bios) =
-    let rest : List Bio = completed (rest_of_outcome bio.range.count outcome) overlay bios in
-    let a = sum_by-cons (is_named serial) (record bio { result = Some (result_of outcome overlay bio) }) rest in
+completed-named : (serial : ℕ) (effect : Effect) (overlay : Blocks) (bios : List Bio) → bios_named serial (completed effect overlay bios) ≡ bios_named serial bios
+completed-named serial effect overlay [] = refl
+completed-named serial effect overlay (bio ∷ bios) =
+    let rest : List Bio = completed (rest_of_effect bio.range.count effect) overlay bios in
+    let a = sum_by-cons (is_named serial) (record bio { result = Some (result_of effect overlay bio) }) rest in
     let b = sum_by-cons (is_named serial) bio bios in
-    let others = completed-named serial (rest_of_outcome bio.range.count outcome) overlay bios in
+    let others = completed-named serial (rest_of_effect bio.range.count effect) overlay bios in
     omega (arith, a, b, others)
 
-landed-places : (l : Limits) (m : Plain) (tag : ℕ) (f : Flight) (outcome : Outcome) → tag < l.tags → m.flight tag ≡ Some f → (serial : ℕ)
-    → places l (landed m tag outcome f.request) serial + named serial f.request ≡ places l m serial
-landed-places l m tag f outcome low is serial =
+landed-places : (l : Limits) (m : Plain) (tag : ℕ) (f : Flight) (effect : Effect) → tag < l.tags → m.flight tag ≡ Some f → (serial : ℕ)
+    → places l (landed m tag effect f.request) serial + named serial f.request ≡ places l m serial
+landed-places l m tag f effect low is serial =
     let ends = flown-put (named serial) m.flight l.tags tag None low in
     let its : of_flight (named serial) (m.flight tag) ≡ named serial f.request = ap (of_flight (named serial)) is in
     omega (arith, ends, its)
 
-delivered-places : (l : Limits) (m : Plain) (tag : ℕ) (f : Flight) (outcome : Outcome) (seat : ℕ) → tag < l.tags → m.flight tag ≡ Some f → seat < 16 → (serial : ℕ)
-    → places l (landed_at m tag outcome f.request seat) serial ≤ places l m serial
-delivered-places l m tag f outcome seat low is small serial =
-    let bios : List Bio = completed outcome m.overlay f.request.bios in
-    let ends = landed-places l m tag f outcome low is serial in
+delivered-places : (l : Limits) (m : Plain) (tag : ℕ) (f : Flight) (effect : Effect) (seat : ℕ) → tag < l.tags → m.flight tag ≡ Some f → seat < 16 → (serial : ℕ)
+    → places l (landed_at m tag effect f.request seat) serial ≤ places l m serial
+delivered-places l m tag f effect seat low is small serial =
+    let bios : List Bio = completed effect m.overlay f.request.bios in
+    let ends = landed-places l m tag f effect low is serial in
     let put_one = seats-put (bios_named serial) m.outbox seat (m.outbox seat ++ bios) small in
     let longer : bios_named serial (m.outbox seat ++ bios) ≡ bios_named serial (m.outbox seat) + bios_named serial bios = sum_by-append (is_named serial) (m.outbox seat) bios in
-    let same = completed-named serial outcome m.overlay f.request.bios in
+    let same = completed-named serial effect m.overlay f.request.bios in
     omega (arith, ends, put_one, longer, same)
 
 -- an outbox gets shorter
@@ -203,10 +203,10 @@ placing-moves l = record {
   gives_back = λ n m tag f low is h.
       no-more l n m (given_back m tag f.request) (given_back-places l m tag f low is) (h.2.0, h.2.1, same-put m.flight tag l.tags None h.2.2) h;
   lands = λ n m tag f outcome low is fit h.
-      no-more l n m (landed m tag outcome f.request) (λ serial. let a = landed-places l m tag f outcome low is serial in omega (arith, a))
+      no-more l n m (landed m tag (effect_of outcome f.request.op) f.request) (λ serial. let a = landed-places l m tag f (effect_of outcome f.request.op) low is serial in omega (arith, a))
       (h.2.0, h.2.1, same-put m.flight tag l.tags None h.2.2) h;
   delivers = λ n m tag f outcome seat low is fit small its h.
-      no-more l n m (landed_at m tag outcome f.request seat) (delivered-places l m tag f outcome seat low is small)
+      no-more l n m (landed_at m tag (effect_of outcome f.request.op) f.request seat) (delivered-places l m tag f (effect_of outcome f.request.op) seat low is small)
       (h.2.0, low-put m.outbox seat _ 16 [] small h.2.1, same-put m.flight tag l.tags None h.2.2) h;
   rests = λ n m frozen served head b scheduler h. h;
 }

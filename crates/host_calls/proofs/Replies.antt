@@ -5,7 +5,7 @@ use Rattle.std.proofs.lemmas.List.Elements.{All-head}
 use Rattle.plain.specs.Lists.{first_of}
 use Rattle.sector_core.specs.declared.bio.Bio.{Bio}
 use Rattle.sector_core.specs.declared.bio.BioResult.{BioResult}
-use Rattle.sector_core.specs.declared.bio.BioResult.TheVariants.{Read, Written, IoError}
+use Rattle.sector_core.specs.declared.bio.BioResult.TheVariants.{Read, Written, Discarded, IoError}
 use Rattle.sector_core.specs.declared.bio.Outcome.{Outcome}
 use Rattle.sector_core.specs.declared.config.Scheduler.{Scheduler}
 use Rattle.sector_core.specs.declared.config.Scheduler.TheVariants.{Plain as PlainScheduler, Bfq as BfqScheduler}
@@ -33,7 +33,7 @@ use Rattle.plain.specs.Requests.{requests_of, range_of, size_of}
 use Rattle.plain.specs.Steps.Reap.{reaped}
 use Rattle.plain.specs.Steps.Leave.{left}
 use Rattle.plain.specs.Steps.Dispatch.{next_queue, lowest_free, sent, sent_by_bfq, sent_by, dispatch_to, sent_again, dispatch_of}
-use Rattle.plain.specs.Steps.Finish.{fits, after_finish, finished, finish_of}
+use Rattle.plain.specs.Steps.Finish.{effect_of, fits, after_finish, finished, finish_of}
 use Rattle.plain.specs.Steps.Requeue.{requeued, requeue_of}
 use Rattle.plain.specs.Steps.GroupMake.{free_group, made_group}
 use Rattle.plain.specs.Entities.{is_weight, group_tests}
@@ -100,6 +100,7 @@ result-frame : (bio : Bio) (o : Option BioResult) → (1 ≤ bio.range.count) ×
 result-frame bio None sectors fits = absurd fits
 result-frame bio (Some (Read bytes)) sectors fits = (bio.range.count, sectors.0, sectors.1, fits)
 result-frame bio (Some Written) sectors fits = tt
+result-frame bio (Some Discarded) sectors fits = tt
 result-frame bio (Some (IoError kind)) sectors fits = tt
 
 reaped-is : (room : Bool) (m : Plain) (seat session at : ℕ) (bios : List Bio) → All HasFittingResult bios → IsAnswer (IsReplyOf (Reap seat session)) (StepWaits (Reap seat session)) (reaped room m at bios).1
@@ -148,8 +149,8 @@ finish_of-is l m room tag issue outcome (Some f) =
     let R : Reply → Type 0 = IsReplyOf (Finish tag issue outcome) in
     let tests : List (Bool × Answer) =
     (not (f.issue == issue), Refused NotInFlight) ∷ (not (fits f.request.op (size_of f.request.bios) outcome), Refused BadOutcome) ∷ [] in
-    first-is R Never tests m (finished l m room tag outcome f.request) (tt, (tt, tt))
-    (accepted-is R Never room m (after_finish l m tag outcome f.request) (Finished (length f.request.bios)) (length f.request.bios, refl))
+    first-is R Never tests m (finished l m room tag (effect_of outcome f.request.op) f.request) (tt, (tt, tt))
+    (accepted-is R Never room m (after_finish l m tag (effect_of outcome f.request.op) f.request) (Finished (length f.request.bios)) (length f.request.bios, refl))
 
 requeue_of-is : (m : Plain) (room : Bool) (tag issue : ℕ) (o : Option Flight) → IsAnswer (λ reply. reply ≡ Requeued) Never (requeue_of m room tag issue o).1
 requeue_of-is m room tag issue None = tt

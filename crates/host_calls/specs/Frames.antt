@@ -1,7 +1,7 @@
 -- Which answers have a frame of the host: what it can send over a socket (our profile).
 use Rattle.std.specs.Prelude.{◌≡◌, ℕ, ◌*◌, ◌≤◌, length}
 use Rattle.sector_core.specs.declared.bio.BioResult.{BioResult}
-use Rattle.sector_core.specs.declared.bio.BioResult.TheVariants.{Read, Written, IoError}
+use Rattle.sector_core.specs.declared.bio.BioResult.TheVariants.{Read, Written, Discarded, IoError}
 use Rattle.plain.specs.declared.answer.Reply.{Reply}
 use Rattle.plain.specs.declared.answer.Reply.TheVariants.{Attached, Queued, Completed, Left, Issued, Finished, Requeued, Group, Done, Moved, Taken}
 use Rattle.plain.specs.declared.answer.Answer.{Answer}
@@ -13,6 +13,7 @@ use Rattle.host_calls.specs.declared.ring.RingReply.TheVariants as ring
 abbrev pub ResultHasFrame : BioResult → Type 0
 ResultHasFrame (Read bytes) = (count : ℕ) × (1 ≤ count) × (count ≤ 64) × (length bytes ≡ 512 * count)
 ResultHasFrame Written = Unit {0}
+ResultHasFrame Discarded = Unit {0}
 ResultHasFrame (IoError kind) = Unit {0}
 
 -- the replies to clients and to the operator have one; those to the dispatcher and to devices are never sent, and have none

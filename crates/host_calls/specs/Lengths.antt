@@ -4,7 +4,7 @@ use Rattle.std.specs.FinMap as blocks
 use Rattle.sector_core.specs.declared.bio.Bio.{Bio}
 use Rattle.sector_core.specs.declared.bio.Op.{Op}
 use Rattle.sector_core.specs.declared.bio.BioResult.{BioResult}
-use Rattle.sector_core.specs.declared.bio.BioResult.TheVariants.{Read, Written, IoError}
+use Rattle.sector_core.specs.declared.bio.BioResult.TheVariants.{Read, Written, Discarded, IoError}
 use Rattle.plain.specs.Machine.{Blocks, WholeRequest, Plain}
 use Rattle.plain.specs.declared.call.Call.{Call}
 use Rattle.plain.specs.Opening.{Limits}
@@ -31,6 +31,7 @@ abbrev pub FitsSectors : ℕ → Option BioResult → Type 0
 FitsSectors count None = ⊥
 FitsSectors count (Some (Read bytes)) = length bytes ≡ 512 * count
 FitsSectors count (Some Written) = Unit {0}
+FitsSectors count (Some Discarded) = Unit {0}
 FitsSectors count (Some (IoError kind)) = Unit {0}
 
 -- a completed bio of 1 to 64 sectors, with a result for as many

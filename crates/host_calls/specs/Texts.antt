@@ -3,9 +3,9 @@ use Rattle.std.specs.Prelude.{ℕ, ◌/◌, List, ◌∷◌, ◌++◌, length, c
 use Rattle.std.specs.Fmt.{decimal}
 use Rattle.sector_core.specs.declared.range.Range.{Range}
 use Rattle.sector_core.specs.declared.bio.Op.{Op}
-use Rattle.sector_core.specs.declared.bio.Op.TheVariants.{Fetch, Store}
+use Rattle.sector_core.specs.declared.bio.Op.TheVariants.{Fetch, Store, Discard}
 use Rattle.sector_core.specs.declared.bio.BioResult.{BioResult}
-use Rattle.sector_core.specs.declared.bio.BioResult.TheVariants.{Read, Written, IoError}
+use Rattle.sector_core.specs.declared.bio.BioResult.TheVariants.{Read, Written, Discarded, IoError}
 use Rattle.sector_core.specs.declared.bio.FailKind.{FailKind}
 use Rattle.sector_core.specs.declared.bio.FailKind.TheVariants.{Short, Fault}
 use Rattle.sector_text.specs.Hex.{hex_words}
@@ -20,6 +20,7 @@ use Rattle.host_calls.specs.declared.ring.RingReply.TheVariants as ring
 abbrev pub op_text : Op → List ℕ
 op_text Fetch = codes "fetch"
 op_text Store = codes "store"
+op_text Discard = codes "discard"
 
 -- the tag, the issue, what the device is asked for, and where
 abbrev pub sent_text : ℕ → ℕ → Op → Range → List ℕ
@@ -34,6 +35,7 @@ kind_text Fault = codes "fault"
 abbrev pub result_text : BioResult → List ℕ
 result_text (Read bytes) = codes "read" ++ hex_words (length bytes / 512) bytes
 result_text Written = codes "written"
+result_text Discarded = codes "discarded"
 result_text (IoError kind) = codes "error " ++ kind_text kind
 
 abbrev pub reply_text : Reply → List ℕ

@@ -66,6 +66,7 @@ fn put_result(what: &BioResult, out: &mut Vec<u8>) -> io::Result<()>
             Ok(())
         }
         BioResult::Written => write!(out, "written"),
+        BioResult::Discarded => write!(out, "discarded"),
         BioResult::IoError(FailKind::Short) => write!(out, "error short"),
         BioResult::IoError(FailKind::Fault) => write!(out, "error fault"),
     }
@@ -78,5 +79,6 @@ fn put_sent(tag: u8, issue: u64, op: Op, range: Range, out: &mut Vec<u8>) -> io:
     match op {
         Op::Fetch => write!(out, "{tag} {issue} fetch {start} {count}"),
         Op::Store => write!(out, "{tag} {issue} store {start} {count}"),
+        Op::Discard => write!(out, "{tag} {issue} discard {start} {count}"),
     }
 }

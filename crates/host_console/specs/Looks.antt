@@ -1,7 +1,7 @@
 -- What a line that begins with `show` prints of a keeper (our profile).
 use Rattle.std.specs.Prelude.{◌≡◌, ℕ, ◌-◌, nat_lt, Bool, true, false, List, [], ◌∷◌, ◌++◌, length, codes, Option, None, Some, slice_get, if◌then◌else◌}
 use Rattle.std.specs.Fmt.{decimal}
-use Rattle.sector_core.specs.declared.bio.Op.TheVariants.{Fetch, Store}
+use Rattle.sector_core.specs.declared.bio.Op.TheVariants.{Fetch, Store, Discard}
 use Rattle.sector_core.specs.declared.bio.FailKind.TheVariants.{Short, Fault}
 use Rattle.sector_core.specs.declared.bio.Outcome.{Outcome}
 use Rattle.sector_core.specs.declared.bio.Outcome.TheVariants.{Fetched, Stored, Failed}
@@ -43,6 +43,8 @@ line_text (step.Submit seat session Fetch range payload) =
     codes "read " ++ (decimal seat ++ 32 ∷ (decimal session ++ 32 ∷ (decimal range.start ++ 32 ∷ decimal range.count)))
 line_text (step.Submit seat session Store range payload) =
     codes "write " ++ (decimal seat ++ 32 ∷ (decimal session ++ 32 ∷ (decimal range.start ++ 32 ∷ (decimal range.count ++ 32 ∷ fill_text payload))))
+line_text (step.Submit seat session Discard range payload) =
+    codes "discard " ++ (decimal seat ++ 32 ∷ (decimal session ++ 32 ∷ (decimal range.start ++ 32 ∷ decimal range.count)))
 line_text (step.Reap seat session) = codes "reap " ++ (decimal seat ++ 32 ∷ decimal session)
 line_text (step.Leave seat why) = codes "leave " ++ decimal seat
 line_text step.Dispatch = codes "dispatch"

@@ -11,7 +11,7 @@ use Rattle.sector_core.specs.declared.class.Class.{Class as ClassOf}
 use Rattle.sector_core.specs.declared.class.Class.TheVariants as class
 use Rattle.sector_text.specs.Hex.{hex_of}
 use Rattle.script_line.specs.declared.line.Line.{Line}
-use Rattle.script_line.specs.declared.line.Line.TheVariants.{Attach, ClassAttach, Read, Write, Reap, Leave, Dispatch, Finish, Work, Requeue, Hold, Release, Undo, Redo, Group, Drop, Weight, Freeze, Thaw, Switch, Tick, Sector, Queue, Cursor, Vtime, ClassVtime, Entity, Class, Show}
+use Rattle.script_line.specs.declared.line.Line.TheVariants.{Attach, ClassAttach, Read, Write, Discard, Reap, Leave, Dispatch, Finish, Work, Requeue, Hold, Release, Undo, Redo, Group, Drop, Weight, Freeze, Thaw, Switch, Tick, Sector, Queue, Cursor, Vtime, ClassVtime, Entity, Class, Show}
 use Rattle.script_line.specs.declared.line.Ending.{Ending}
 use Rattle.script_line.specs.declared.line.Ending.TheVariants.{Stored, Fill, Short, Fault}
 use Rattle.plain.specs.Machine.{WholeRequest}
@@ -148,6 +148,7 @@ asked (Attach seat group prio) = Some (call.Do (step.Attach seat group prio clas
 asked (ClassAttach seat group prio named) = Some (call.Do (step.Attach seat group prio named))
 asked (Read seat session start count) = Some (call.Do (step.Submit seat session op.Fetch (record { start = start; count = count }) []))
 asked (Write seat session start count byte) = Some (call.Do (step.Submit seat session op.Store (record { start = start; count = count }) (payload_of count byte)))
+asked (Discard seat session start count) = Some (call.Do (step.Submit seat session op.Discard (record { start = start; count = count }) []))
 asked (Reap seat session) = Some (call.Do (step.Reap seat session))
 asked (Leave seat) = Some (call.Do (step.Leave seat why.Ended))
 asked Dispatch = Some (call.Do step.Dispatch)

@@ -3,10 +3,10 @@ use Rattle.std.specs.Prelude.{ℕ, ◌+◌, ◌==◌, Bool, true, false, List, [
 use Rattle.std.specs.List.{flat_map}
 use Rattle.std.specs.Fmt.{decimal}
 use Rattle.sector_core.specs.declared.bio.Op.{Op}
-use Rattle.sector_core.specs.declared.bio.Op.TheVariants.{Fetch, Store}
+use Rattle.sector_core.specs.declared.bio.Op.TheVariants.{Fetch, Store, Discard}
 use Rattle.sector_core.specs.declared.bio.Bio.{Bio}
 use Rattle.sector_core.specs.declared.bio.BioResult.{BioResult}
-use Rattle.sector_core.specs.declared.bio.BioResult.TheVariants.{Read, Written, IoError}
+use Rattle.sector_core.specs.declared.bio.BioResult.TheVariants.{Read, Written, Discarded, IoError}
 use Rattle.sector_core.specs.declared.bio.FailKind.TheVariants.{Short, Fault}
 use Rattle.sector_core.specs.declared.range.Range.{Range}
 use Rattle.sector_core.specs.declared.config.Scheduler.{Scheduler}
@@ -50,6 +50,7 @@ abbrev pub result_text : Option BioResult → List ℕ
 result_text None = codes "open"
 result_text (Some (Read bytes)) = codes "read"
 result_text (Some Written) = codes "written"
+result_text (Some Discarded) = codes "discarded"
 result_text (Some (IoError Short)) = codes "short"
 result_text (Some (IoError Fault)) = codes "fault"
 
@@ -68,6 +69,7 @@ outbox_look m seat = elim (m.seat seat) [
 abbrev pub op_text : Op → List ℕ
 op_text Fetch = codes "fetch"
 op_text Store = codes "store"
+op_text Discard = codes "discard"
 
 -- the serial of a bio after a comma
 abbrev pub next_text : Bio → List ℕ

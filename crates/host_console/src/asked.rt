@@ -4,7 +4,7 @@ ghost use Rattle.host_console.specs.Printed.{asked};
 
 use crate::group::{make, unmake, weigh};
 use crate::steps::{attach, freeze, leave, requeue, switch, thaw, tick};
-use crate::submit::{fetch, store};
+use crate::submit::{discard, fetch, store};
 use plain::{Call, Step};
 use script_line::Line;
 use sector_core::{Class, OutOfMemory};
@@ -36,6 +36,12 @@ pub fn call_of(alloc: Global, line: Line) -> Result<Option<Call>, OutOfMemory>
             count,
             byte,
         } => done(store(alloc, seat, session, start, count, byte)?),
+        Line::Discard {
+            seat,
+            session,
+            start,
+            count,
+        } => done(discard(seat, session, start, count)),
         Line::Reap { seat, session } => done(Step::Reap { seat, session }),
         Line::Leave { seat } => done(leave(seat)),
         Line::Dispatch => done(Step::Dispatch),

@@ -41,6 +41,19 @@ pub fn store(
     })
 }
 
+/// The step of a `discard` line.
+pub fn discard(seat: u8, session: u64, start: u64, count: u16) -> Step
+    ensures { result ≡ Step.Submit seat session Op.Discard (record { start = start; count = count }) [] }
+{
+    Step::Submit {
+        seat,
+        session,
+        op: Op::Discard,
+        range: range(start, count),
+        payload: Bytes::new(),
+    }
+}
+
 fn range(start: u64, count: u16) -> Range
     ensures { result ≡ record { start = start; count = count } }
 {

@@ -15,11 +15,11 @@ use Rattle.host_core.specs.RowSettling.{IsSeatedIn}
 use Rattle.host_core.specs.Visits.{AllReady}
 use Rattle.host_core.specs.Names.{same_name, AreNamed}
 use Rattle.host_core.specs.Opening.{AreIdle}
-use Rattle.host_core.specs.Keeping.{judges, is_entry, entry_under, is_own, AreKept}
+use Rattle.host_core.specs.Keeping.{devices_among, judges, is_entry, entry_under, is_own, AreKept}
 
 pub kept-fresh : (p : Pages) (callers devices : ℕ) (rows : List Row) → p.entries ≡ [] → AreOpened callers devices rows → AreKept p rows
 kept-fresh p callers devices rows e o = λ i r at. let f = o.fresh i r at in
-    rw (e, f.0, f.1, f.2, f.3) (account-none (judges p.limits p.most r.name) is_entry (entry_under r.name) (is_own r.name) Answered [])
+    rw (e, f.0, f.1, f.2, f.3) (account-none (judges (devices_among rows) p.limits p.most r.name) is_entry (entry_under r.name) (is_own r.name) Answered [])
 
 pub ready-fresh : (callers devices : ℕ) (rows : List Row) → AreOpened callers devices rows → AllReady rows
 ready-fresh callers devices rows o = λ i r at. let f = o.fresh i r at in (f.3, rw f.1 refl, λ k. ap length f.1)

@@ -47,25 +47,25 @@ added-others name other call true apart = rw apart refl
 added-others name other call false apart = refl
 
 -- an account of a seat that did not hear the end
-open-account : (p : Pages) (r : Row) → r.closed ≡ false → IsKept p r
-    → IsAccount (judges p.limits p.most r.name) is_entry (entry_under r.name) (is_own r.name) Answered p.entries r.taken r.waiting r.replied []
-open-account p r was h = subst (λ b. IsAccount (judges p.limits p.most r.name) is_entry (entry_under r.name) (is_own r.name) Answered p.entries r.taken r.waiting r.replied (closing b)) was h
+open-account : (devices : ℕ) (p : Pages) (r : Row) → r.closed ≡ false → IsKept devices p r
+    → IsAccount (judges devices p.limits p.most r.name) is_entry (entry_under r.name) (is_own r.name) Answered p.entries r.taken r.waiting r.replied []
+open-account devices p r was h = subst (λ b. IsAccount (judges devices p.limits p.most r.name) is_entry (entry_under r.name) (is_own r.name) Answered p.entries r.taken r.waiting r.replied (closing b)) was h
 
 -- a seat at which a call may have been taken, while others made entries
-pub kept-took : (p q : Pages) (more : List Entry) (r s : Row) → Took r s → q.entries ≡ p.entries ++ more → q.limits ≡ p.limits → q.most ≡ p.most
-    → filter (is_own r.name) more ≡ [] → IsKept p r → IsKept q s
-kept-took p q more r s t e l m others h =
-    rw (e, l, m, t.name, t.replied, t.closed) (account-takes (judges p.limits p.most r.name) is_entry (entry_under r.name) (is_own r.name) Answered
+pub kept-took : (devices : ℕ) (p q : Pages) (more : List Entry) (r s : Row) → Took r s → q.entries ≡ p.entries ++ more → q.limits ≡ p.limits → q.most ≡ p.most
+    → filter (is_own r.name) more ≡ [] → IsKept devices p r → IsKept devices q s
+kept-took devices p q more r s t e l m others h =
+    rw (e, l, m, t.name, t.replied, t.closed) (account-takes (judges devices p.limits p.most r.name) is_entry (entry_under r.name) (is_own r.name) Answered
     p.entries more r.taken r.waiting s.taken s.waiting r.replied (closing r.closed) others t.taken_is h)
 
 -- the seat that was answered
-pub kept-serves : (lasts : List (Option ℕ)) (p q : Pages) (r s : Row) → length lasts ≤ 4 → Serves lasts p r q s → IsKept p r → IsKept q s
-kept-serves lasts p q r s few v h =
+pub kept-serves : (lasts : List (Option ℕ)) (devices : ℕ) (p q : Pages) (r s : Row) → length lasts ≡ devices → Serves lasts p r q s → IsKept devices p r → IsKept devices q s
+kept-serves lasts devices p q r s few v h =
     rw (v.entries, entered-added p.entries r.name v.call v.answer, v.limits, v.most, v.name, v.replied, v.closed, v.waiting)
-    (account-answers (judges p.limits p.most r.name) is_entry (entry_under r.name) (is_own r.name) Answered p.entries r.taken r.waiting s.taken r.replied v.call v.answer
-    (λ c. own-name r.name) v.taken_is (lasts, few, v.judged) (open-account p r v.was_open h))
+    (account-answers (judges devices p.limits p.most r.name) is_entry (entry_under r.name) (is_own r.name) Answered p.entries r.taken r.waiting s.taken r.replied v.call v.answer
+    (λ c. own-name r.name) v.taken_is (lasts, few, v.judged) (open-account devices p r v.was_open h))
 
 -- the seat that hears the end
-pub kept-closes : (p : Pages) (r s : Row) → Closes r s → IsKept p r → IsKept p s
-kept-closes p r s c h = subst (IsKept p) (sym c.1)
-    (account-closes (judges p.limits p.most r.name) is_entry (entry_under r.name) (is_own r.name) Answered p.entries r.taken r.waiting r.replied Ended (open-account p r c.0 h))
+pub kept-closes : (devices : ℕ) (p : Pages) (r s : Row) → Closes r s → IsKept devices p r → IsKept devices p s
+kept-closes devices p r s c h = subst (IsKept devices p) (sym c.1)
+    (account-closes (judges devices p.limits p.most r.name) is_entry (entry_under r.name) (is_own r.name) Answered p.entries r.taken r.waiting r.replied Ended (open-account devices p r c.0 h))

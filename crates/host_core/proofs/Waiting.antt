@@ -1,12 +1,17 @@
 -- What waits at the seats of a core, and how many devices it has.
-use Rattle.std.proofs.Common.{◌≡◌, ℕ, zero, suc, ◌≤◌, List, [], ◌∷◌, ◌++◌, length, map, Option, None, Some, slice_get, option_to_list, subst, arith}
-use Rattle.std.proofs.lemmas.List.{length-map}
+use Rattle.std.proofs.Common.{◌≡◌, ℕ, zero, suc, ◌≤◌, List, [], ◌∷◌, ◌++◌, length, map, Option, None, Some, slice_get, option_to_list, refl, sym, ap, ◌∙◌, subst, arith}
+use Rattle.std.specs.List.{filter}
+use Rattle.std.proofs.lemmas.List.{length-map, append-nil}
+use Rattle.std.proofs.lemmas.List.Elements.{filter-append}
 use Rattle.std.proofs.lemmas.Option.{same_Some}
 use Rattle.host_calls.specs.declared.seat.SeatName.TheVariants.{Client, Device, Operator}
 use Rattle.host_core.specs.Asked.{client_asked, device_asked, operator_asked}
 use Rattle.host_core.specs.Rows.{Row, last_taken}
 use Rattle.host_core.specs.Seats.{row_of}
 use Rattle.host_core.specs.Desks.{rows, lasts, caller_rows, device_rows, operator_row}
+use Rattle.host_core.specs.Keeping.{is_device, devices_among}
+use Rattle.host_core.specs.declared.asked.Asked.{Asked}
+use Rattle.host_core.specs.declared.desk.Desk.{Desk}
 use Rattle.host_core.specs.declared.desks.Desks.{Desks}
 
 module _ {X : Type 0} (Q : X → Type 0) where
@@ -33,6 +38,24 @@ one-waits d = all-joined (λ r. length r.waiting ≤ 1) (caller_rows d) (device_
     (all-mapped (λ r. length r.waiting ≤ 1) (row_of device_asked Device) (λ e. at-most-one e.waiting) d.devices.items)
     (all-mapped (λ r. length r.waiting ≤ 1) (row_of operator_asked (λ _. Operator)) (λ e. at-most-one e.waiting) (d.operator ∷ [])))
 
--- a core has at most four devices
-pub few-devices : (d : Desks) → length (lasts d) ≤ 4
-few-devices d = omega (arith, d.devices_few, length-map (device_rows d) (λ r. last_taken r.replied), length-map d.devices.items (row_of device_asked Device))
+-- no caller is a device, and each device is one
+module _ {C P : Type 0} (asked_by : ℕ → C → Asked) where
+  no-callers : (ds : List (Desk C P)) → filter (λ r. is_device r.name) (map (row_of asked_by Client) ds) ≡ []
+  no-callers [] = refl
+  no-callers (d ∷ ds) = no-callers ds
+
+  all-devices : (ds : List (Desk C P)) → filter (λ r. is_device r.name) (map (row_of asked_by Device) ds) ≡ map (row_of asked_by Device) ds
+  all-devices [] = refl
+  all-devices (d ∷ ds) = ap (λ rs. row_of asked_by Device d ∷ rs) (all-devices ds)
+
+-- as many devices are told of as are among the seats
+pub devices-told : (d : Desks) → length (lasts d) ≡ devices_among (rows d)
+devices-told d =
+    length-map (device_rows d) (λ r. last_taken r.replied)
+    ∙ ap length (sym (append-nil (device_rows d)))
+    ∙ sym (ap length (
+    filter-append (λ r. is_device r.name) (caller_rows d) (device_rows d ++ operator_row d ∷ [])
+    ∙ ap (λ rs. rs ++ filter (λ r. is_device r.name) (device_rows d ++ operator_row d ∷ [])) (no-callers client_asked d.callers.items)
+    ∙ filter-append (λ r. is_device r.name) (device_rows d) (operator_row d ∷ [])
+    ∙ ap (λ rs. rs ++ []) (all-devices device_asked d.devices.items)
+    ))

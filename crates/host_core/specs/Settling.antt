@@ -16,7 +16,7 @@ use Rattle.host_core.specs.declared.seat.Seat.{Seat}
 use Rattle.host_core.specs.RowSettling.{IsSeatedIn, IsSeated, name_of, staged_calls, collected_replies}
 use Rattle.host_core.specs.declared.row_settling.SeatEnd.{SeatEnd}
 use Rattle.host_core.specs.Cores.{seats_of}
-use Rattle.host_core.specs.Keeping.{judges, is_entry, entry_under, is_own, closing}
+use Rattle.host_core.specs.Keeping.{devices_among, judges, is_entry, entry_under, is_own, closing}
 use Rattle.host_core.specs.declared.settling.CoreEnd.{CoreEnd}
 use Rattle.host_core.specs.declared.turns.Core.{Core}
 
@@ -52,5 +52,5 @@ module _ {B : Type 0} {j : journal.Ghosts B} where
     pub place : ℕ
     pub stands : slice_get (seats_of core) place ≡ Some row
     pub named : row.name ≡ name_of end
-    pub first : IsFirstPart (judges p.limits p.most (name_of end)) is_entry (entry_under (name_of end)) (is_own (name_of end)) Answered
+    pub first : IsFirstPart (judges (devices_among (seats_of core)) p.limits p.most (name_of end)) is_entry (entry_under (name_of end)) (is_own (name_of end)) Answered
         p.entries row.taken row.waiting row.replied (staged_calls end) (collected_replies end) (closing row.closed)

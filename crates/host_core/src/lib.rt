@@ -34,7 +34,7 @@
 //! A [`Seat`] is the side of who asks, and a [`Desk`] that of the host's core. Each may stand on a thread of its own. Who waits looks at
 //! its ring a number of times and then sleeps on its [`Bell`]. A bell carries nothing: each contract is the same without it.
 //!
-//! A client's seat takes an Attach of each class. Only one of best effort has a frame: another one is staged by who holds the seat.
+//! A client's seat takes each call of a client, in whatever version of the frames it came.
 //!
 //! The desk takes a call only where its ring of replies has two free places. So there is always one for the answer and one for
 //! Closed, and neither can fail.

@@ -33,7 +33,7 @@ const SUBCOMMANDS: [Words; 3] = [
         "serve",
         &[],
         &CONFIGURATION,
-        &["dir", "clients", "workers", "record"],
+        &["dir", "clients", "workers", "delay", "bad", "record"],
         &["no-inspect"],
     ),
     ("replay", &["file"], &REPLAY, &[], &["list"]),

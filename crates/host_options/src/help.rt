@@ -62,6 +62,8 @@ OPTIONS of serve
     --dir DIR            the folder of the sockets: client0, client1 and so on, operator and inspect
     --clients N          clients that have a socket, 1 to 16 (4)
     --workers N          workers of the device, 1 to 4 (2)
+    --delay US           each read or write takes a worker so many microseconds at least, 0 to 1000000 (0)
+    --bad START+COUNT,.. a read that has one of these sectors fails; at most 16 runs of sectors
     --no-inspect         no socket inspect
     --record FILE        every accepted call goes to FILE, which must not be there
 
@@ -79,8 +81,9 @@ SERVE
 
 SCRIPT: one call a line, words joined by one space; an empty line or one that begins with # is skipped
     attach SEAT GROUP PRIO [rt|be|idle]  read SEAT SESSION START COUNT
-    write SEAT SESSION START COUNT BYTE  reap SEAT SESSION
-    leave SEAT                           dispatch
+    write SEAT SESSION START COUNT BYTE  discard SEAT SESSION START COUNT
+    reap SEAT SESSION                    leave SEAT
+    dispatch
     finish TAG ISSUE stored|short|fault|fill BYTE
     work TAG ISSUE                       requeue TAG ISSUE
     group PARENT WEIGHT
@@ -104,8 +107,8 @@ REFUSALS: what 'refused N' says; nothing has changed
      9 TooDeep: groups stand at most four levels under the root
     10 GroupsFull: there are 32 groups, the root among them, and there can be no more
     11 GroupInUse: another group is in this group, or a session, even one that has left with a request that is not finished
-    12 BadCount: a read or a write has 1 to 64 sectors
-    13 BadLength: a write brings 512 bytes for each sector, and a read none; no line of a script breaks this
+    12 BadCount: a read, a write or a discard has 1 to 64 sectors
+    13 BadLength: a write brings 512 bytes for each sector, and a read or a discard none; no line of a script breaks this
     14 OutOfRange: the last of these sectors is past the end of the device
     15 TooManyBios: the session has 32 reads and writes that are not reaped; reap one first
     16 NothingOwed: the session has no result to come: it has reaped one for each read and write, if it made any
@@ -113,7 +116,7 @@ REFUSALS: what 'refused N' says; nothing has changed
     18 NoTag: every tag bears a request in flight; one must be finished or given back first
     19 BadTag: tags are numbered from 0, and are as many as --tags says
     20 NotInFlight: no request is in flight under this tag and issue; perhaps it was undone or has been finished
-    21 BadOutcome: a write is finished by stored alone, and a read by fill, short or fault
+    21 BadOutcome: a write or a discard is finished by stored alone, and a read by fill, short or fault
     22 AlreadyFrozen: the host is frozen already
     23 NotFrozen: the host is not frozen; thaw and switch want a frozen host
     24 NotDrained: a request is still queued, in flight or given back by the device

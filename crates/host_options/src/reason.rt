@@ -15,6 +15,8 @@ pub enum Reason<'a> {
     Unexpected(&'a str),
     /// An option, and what is given as its number.
     NoNumber(&'a str, &'a str),
+    /// What is given as runs of sectors.
+    NoRuns(&'a str),
     /// What is given as the scheduler.
     NoScheduler(&'a str),
     /// An option that `serve` needs.
@@ -43,6 +45,11 @@ impl<'a> Reason<'a> {
             Reason::Unexpected(word) => format!(in alloc; "unexpected {word}"),
             Reason::NoNumber(option, text) => {
                 format!(in alloc; "--{option} takes a whole number below 2^64, and not {text}")
+            }
+            Reason::NoRuns(text) => {
+                format!(in alloc;
+                    "--bad takes START+COUNT, or several of these with commas between, and not {text}"
+                )
             }
             Reason::NoScheduler(text) => {
                 format!(in alloc; "--scheduler is bfq or none, and not {text}")

@@ -4,7 +4,7 @@ use crate::reason::Reason;
 use clap::ArgMatches;
 use clap::error::ErrorKind;
 use script_line::number;
-use sector_core::{ConfigDraft, Scheduler};
+use sector_core::{ConfigDraft, Range, Scheduler};
 use std::alloc::{AllocError, Global};
 
 /// What the words ask for.
@@ -35,6 +35,10 @@ pub enum Request {
         clients: u64,
         /// How many workers the device has; not yet checked.
         workers: u64,
+        /// How long each request takes a worker at least, in microseconds; not yet checked.
+        delay: u64,
+        /// The runs of sectors that are bad; not yet checked.
+        bad: Vec<Range>,
         /// Whether there is a path for looks.
         inspect: bool,
         /// The file of the record, if one is to be made.
@@ -153,6 +157,8 @@ fn serve<'a>(alloc: Global, options: &ArgMatches<'a>) -> Result<Request, Reason<
     let draft = draft_of(options)?;
     let clients = number_or(options, "clients", 4)?;
     let workers = number_or(options, "workers", 2)?;
+    let delay = number_or(options, "delay", 0)?;
+    let bad = bad_of(alloc, options)?;
     let image = text_of(alloc, options, "image")?.ok_or(Reason::Missing("image"))?;
     let dir = text_of(alloc, options, "dir")?.ok_or(Reason::Missing("dir"))?;
     let inspect = !options.get_flag("no-inspect");
@@ -163,9 +169,36 @@ fn serve<'a>(alloc: Global, options: &ArgMatches<'a>) -> Result<Request, Reason<
         dir,
         clients,
         workers,
+        delay,
+        bad,
         inspect,
         record,
     })
+}
+
+// The runs of sectors that are bad, none where none are named.
+fn bad_of<'a>(alloc: Global, options: &ArgMatches<'a>) -> Result<Vec<Range>, Reason<'a>> {
+    let mut bad = Vec::new(alloc);
+    let Some(text) = options.get_str("bad") else {
+        return Ok(bad);
+    };
+    for part in text.split(',') {
+        let Some(range) = run_of(part) else {
+            return Err(Reason::NoRuns(text));
+        };
+        if bad.push(range).is_err() {
+            return Err(Reason::OutOfMemory);
+        }
+    }
+    Ok(bad)
+}
+
+// A run of sectors, by its first one and how many they are.
+fn run_of(text: &str) -> Option<Range> {
+    let (start, count) = text.split_once('+')?;
+    let start = number(start.as_bytes())?;
+    let count = u32::try_from(number(count.as_bytes())?).ok()?;
+    Some(Range { start, count })
 }
 
 // A replay needs a record.

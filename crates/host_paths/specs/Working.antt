@@ -1,8 +1,9 @@
 -- What a worker of a device does, call after call (our profile).
 use Rattle.std.specs.Prelude.{◌≡◌, ℕ, ◌-◌, ◌^◌, Bool, true, false, List, [], ◌∷◌, ◌++◌, length, Option, None, Some, map}
 use Rattle.rtrb.specs.declared.AnyItems.{AnyItems}
-use Rattle.base_image.specs.Image.{Disk}
-use Rattle.device_engine.specs.Work.{Works}
+use Rattle.base_image.specs.Image.{Disk, Log}
+use Rattle.base_image.specs.Kinds.{Read}
+use Rattle.device_engine.specs.Work.{Works, ReadsFor, ReadsInVain}
 use Rattle.host_calls.specs.declared.ring.RingReply.{RingReply}
 use Rattle.host_calls.specs.declared.ring.RingReply.TheVariants.{Answer as Answered, Closed as Closing}
 use Rattle.plain.specs.declared.answer.Answer.TheVariants.{Accepted, Refused}
@@ -48,12 +49,34 @@ DoesAll number taken before [] after = after ≡ before
 DoesAll number taken before (e ∷ rest) after =
     (middle : Disk) × Does number taken before e.0 middle × DoesAll number (handed_out e.1) middle rest after
 
+-- work that was taken last and not told, as memory was wanting, may have been read
+abbrev pub Loses : Option Work → Log → Log → Type 0
+Loses (Some work) before after = ReadsInVain work before after
+Loses None before after = after ≡ before
+
+-- a call asks for work, with no read; or it tells what the image gave for the work that was taken last, once that was read
+abbrev pub ReadsOf : Option Work → Log → DeviceCall → Log → Type 0
+ReadsOf taken before (Take worker) after = Loses taken before after
+ReadsOf (Some work) before call after = ReadsFor work call before after
+ReadsOf None before call after = ⊥
+
+-- so are all calls, one after the other, and no other read is made
+abbrev pub ReadsAll : Option Work → Log → List Exchange → Log → Type 0
+ReadsAll taken before [] after = Loses taken before after
+ReadsAll taken before (e ∷ rest) after =
+    (middle : Log) × ReadsOf taken before e.0 middle × ReadsAll (handed_out e.1) middle rest after
+
+-- what is known of an image, and the reads that were made of it
+abbrev pub read_of : {I : Type 0} → (I → Disk) → (I → Log) → I → Read
+read_of disk log image = record { disk = disk image; log = log image }
+
 -- from one state of a seat and of its image to another, where this work was taken last
-pub record HasDone (taken : Option Work) (s : Device) (before : Disk) (t : Device) (after : Disk) : Type 0 where
+pub record HasDone (taken : Option Work) (s : Device) (before : Read) (t : Device) (after : Read) : Type 0 where
   pub exchanges : List Exchange
   pub calls : staged t ≡ staged s ++ map (λ e. e.0) exchanges
   pub replies : collected t ≡ collected s ++ map (λ e. e.1) exchanges
-  pub does : DoesAll (seat_number s) taken before exchanges after
+  pub does : DoesAll (seat_number s) taken before.disk exchanges after.disk
+  pub reads : ReadsAll taken before.log exchanges after.log
 
 -- why it ended: the host has; or its last call was refused, as the history is full, and the next may be made
 abbrev pub IsEndOf : WorkerEnd → Device → Type 0
@@ -76,9 +99,9 @@ abbrev pub IfEnded : Round → (WorkerEnd → Type 0) → Type 0
 IfEnded (Ended end) P = P end
 IfEnded round P = Unit {0}
 
--- one round, whatever was taken before it
-abbrev pub IsRound : Device → Disk → Device → Disk → Type 0
-IsRound s before t after = (taken : Option Work) → HasDone taken s before t after
+-- one round, whatever was taken before it, and read in vain for that
+abbrev pub IsRound : Device → Read → Device → Read → Type 0
+IsRound s before t after = (taken : Option Work) (log : Log) → Loses taken log before.log → HasDone taken s (record before { log = log }) t after
 
 -- one call was made, and got a reply
 abbrev pub IsMade : DeviceCall → Device → Device → Type 0

@@ -7,6 +7,7 @@
 //! | [`start_workers`] | a thread for each image, at the device's seat of its number |
 //! | [`start_paths`] | the threads of all paths: the clients', each at the seat of its number, and the operator's |
 //! | [`start_client`] | the thread of one client's path |
+//! | [`serve_client`] | a connection of a client is a session of at most 1,048,576 frames |
 //! | [`serve_operator`] | each call of the operator is asked at his seat, and is answered before the next is asked |
 //! | [`tell_closed`] | the operator is told that the host has ended |
 //! | [`SeatAsker::ask`](session_proto::Asks::ask) | one call staged at the seat and one reply collected there; an answer has a frame of the host, and is no NotYet; once the host has ended nothing is staged |
@@ -17,7 +18,7 @@
 //! cannot be answered yet waits there, and so the client waits.
 //!
 //! Each path has a thread, which owns a seat and meets one connection after the other. So has each device.
-//! An Attach that comes by a client's path is of best effort: one of another class has no frame yet.
+//! A client's path takes both versions of a client's frames: each connection says its own.
 //!
 //! | path | who is met there |
 //! |---|---|
@@ -51,6 +52,7 @@ mod threads;
 mod worker;
 
 pub use asker::SeatAsker;
+pub use clients::serve_client;
 pub use doors::{Door, DoorFault, Doors, open_doors, remove_all};
 pub use end::ServeEnd;
 pub use operator::{serve_operator, tell_closed};

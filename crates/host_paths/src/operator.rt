@@ -9,7 +9,7 @@ use crate::threads::breathe;
 use byte_writing::write_whole;
 use host_calls::{OperatorCall, RingReply};
 use host_core::OperatorSeat;
-use session_proto::{Feeder, Host, Operator, encode};
+use session_proto::{Feeder, Host, Operator, Version, encode};
 use std::alloc::Global;
 use std::io::{Read, Write};
 use std::os::unix::net::{UnixListener, UnixStream};
@@ -52,7 +52,7 @@ pub fn serve_operators<R: Wait + Clock>(
 
 /// Tells the operator that the host has ended. If he has gone away, he does not want to know.
 pub fn tell_closed<W: Write>(alloc: Global, writer: &mut W) {
-    if let Ok(frame) = encode(alloc, &Host(RingReply::Closed)) {
+    if let Ok(frame) = encode(alloc, Version::One, &Host(RingReply::Closed)) {
         let _ = writer.write_all(frame.as_slice());
     }
 }
@@ -147,7 +147,7 @@ fn answer<T: Wait, W: Write>(
     let Ok(answer) = seat.ask(rt, call) else {
         return false;
     };
-    let Ok(frame) = encode(alloc, &Host(RingReply::Answer(answer))) else {
+    let Ok(frame) = encode(alloc, Version::One, &Host(RingReply::Answer(answer))) else {
         return false;
     };
     write_whole(writer, frame.as_slice())

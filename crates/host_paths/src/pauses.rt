@@ -1,5 +1,5 @@
 // How long a worker sleeps before it tries again.
-ghost use Rattle.std.specs.Prelude.{◌≤◌};
+ghost use Rattle.std.specs.Prelude.{◌≡◌, ◌*◌, ◌≤◌, min};
 
 use std::thread;
 use std::time::{Clock, Duration};
@@ -12,7 +12,8 @@ const LONGEST: u64 = 100;
 
 /// The pause after one of so many milliseconds: twice as long, and no longer than the longest.
 pub fn longer(pause: u64) -> u64
-    ensures { result ≤ 100 }
+    ensures is { result ≡ min (pause * 2) 100 }
+    ensures few { result ≤ 100 }
 {
     pause.saturating_mul(2).min(LONGEST)
 }
@@ -20,4 +21,11 @@ pub fn longer(pause: u64) -> u64
 /// Sleeps so many milliseconds.
 pub fn sleep(clock: &impl Clock, pause: u64) {
     thread::sleep(clock, Duration::from_millis(pause));
+}
+
+/// Sleeps so many microseconds, and not at all for none.
+pub fn linger(clock: &impl Clock, microseconds: u32) {
+    if microseconds > 0 {
+        thread::sleep(clock, Duration::from_micros(u64::from(microseconds)));
+    }
 }

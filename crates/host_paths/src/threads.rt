@@ -23,7 +23,7 @@ pub fn breathe(clock: &impl Clock) {
     thread::sleep(clock, Duration::from_millis(BREATH));
 }
 
-/// Starts a worker for each image, at the device's seat of its number.
+/// Starts a worker for each image, at the device's seat of its number. Each request takes it so many microseconds at least.
 ///
 /// # Errors
 ///
@@ -31,7 +31,13 @@ pub fn breathe(clock: &impl Clock) {
 pub fn start_workers<
     R: Threads + Wait + Clock + Copy + Drop + Send + 'static,
     I: Image + Drop + Send + 'static,
->(rt: R, alloc: Global, mut devices: Vec<DeviceSeat>, mut images: Vec<I>) -> Result<(), ServeEnd>
+>(
+    rt: R,
+    alloc: Global,
+    mut devices: Vec<DeviceSeat>,
+    mut images: Vec<I>,
+    delay: u32,
+) -> Result<(), ServeEnd>
     requires { AreIdle devices.items }
 {
     for _ in 0..images.len() {
@@ -43,7 +49,7 @@ pub fn start_workers<
             move || -> ()
                 requires { IsIdle seat }
             {
-                run_worker(&rt, alloc, &mut seat, &mut image);
+                run_worker(&rt, alloc, &mut seat, &mut image, delay);
             },
         );
         if working.is_err() {

@@ -1,9 +1,9 @@
 // The rounds of a worker.
 ghost use Rattle.std.specs.Prelude.{◌≡◌, ◌-◌, ◌^◌, ◌<◌, [], ◌∷◌, ◌++◌, true, false, None, Some};
 ghost use Rattle.host_core.specs.Seats.{staged, collected, is_closed, closed_by, SameSeat};
-ghost use Rattle.host_paths.specs.Working.{HasDone, IsOpen, IsRound, IsMade, IsGoing, IsWhy, IfEnded, IsEndOf};
+ghost use Rattle.host_paths.specs.Working.{HasDone, read_of, IsOpen, IsRound, IsMade, IsGoing, IsWhy, IfEnded, IsEndOf};
 
-use crate::pauses::{FIRST, longer, sleep};
+use crate::pauses::{FIRST, linger, longer, sleep};
 use base_image::Image;
 use device_engine::work_once;
 use host_calls::{Closed, RingReply};
@@ -40,15 +40,18 @@ pub enum Round {
 
 /// Takes work, does it and tells how it ended, again and again. It asks that the host has not ended and no call of the seat is open. So it
 /// is then, too, if it ends for another reason than that the host has.
+///
+/// Before it does its work it lingers for so many microseconds. So a device can be as slow as one likes, and no rule reads a time.
 pub fn run_worker<R: Wait + Clock, I: Image>(
     rt: &R,
     alloc: Global,
     seat: &mut DeviceSeat,
     image: &mut I,
+    delay: u32,
 ) -> WorkerEnd
     requires { IsOpen seat.old }
     ensures seat { SameSeat seat.old seat.new }
-    ensures works { HasDone None seat.old (I.disk image.old) seat.new (I.disk image.new) }
+    ensures works { HasDone None seat.old (read_of I.disk I.log image.old) seat.new (read_of I.disk I.log image.new) }
     ensures why { IsWhy result seat.new (I.disk image.new) }
 {
     let mut pause = FIRST;
@@ -56,7 +59,7 @@ pub fn run_worker<R: Wait + Clock, I: Image>(
         if image.faults() == u64::MAX {
             return WorkerEnd::Faults;
         }
-        match work(rt, alloc, seat, image) {
+        match work(rt, alloc, seat, image, delay) {
             Round::Told => pause = FIRST,
             Round::Waits => {
                 sleep(rt, pause);
@@ -69,17 +72,24 @@ pub fn run_worker<R: Wait + Clock, I: Image>(
 }
 
 // One round: work is taken, done, and told.
-fn work<R: Wait, I: Image>(rt: &R, alloc: Global, seat: &mut DeviceSeat, image: &mut I) -> Round
+fn work<R: Wait + Clock, I: Image>(
+    rt: &R,
+    alloc: Global,
+    seat: &mut DeviceSeat,
+    image: &mut I,
+    delay: u32,
+) -> Round
     requires open { IsOpen seat.old }
     requires countable { (I.disk image.old).faults < 2 ^ 64 - 1 }
     ensures seat { SameSeat seat.old seat.new }
-    ensures round { IsRound seat.old (I.disk image.old) seat.new (I.disk image.new) }
+    ensures round { IsRound seat.old (read_of I.disk I.log image.old) seat.new (read_of I.disk I.log image.new) }
     ensures open { IsGoing result → IsOpen seat.new }
     ensures why { IfEnded result (λ end. IsWhy end seat.new (I.disk image.new)) }
 {
     let worker = seat.number();
     match exchange(rt, seat, DeviceCall::Take { worker }) {
         RingReply::Answer(Answer::Accepted(Reply::Taken(work))) => {
+            linger(rt, delay);
             done(rt, alloc, seat, image, &work)
         }
         RingReply::Answer(_) => Round::Waits,
@@ -98,7 +108,7 @@ fn done<R: Wait, I: Image>(
     requires open { IsOpen seat.old }
     requires countable { (I.disk image.old).faults < 2 ^ 64 - 1 }
     ensures seat { SameSeat seat.old seat.new }
-    ensures told { HasDone (Some work.now) seat.old (I.disk image.old) seat.new (I.disk image.new) }
+    ensures told { HasDone (Some work.now) seat.old (read_of I.disk I.log image.old) seat.new (read_of I.disk I.log image.new) }
     ensures open { IsGoing result → IsOpen seat.new }
     ensures why { IfEnded result (λ end. IsWhy end seat.new (I.disk image.new)) }
 {

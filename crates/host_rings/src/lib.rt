@@ -42,7 +42,7 @@
 //! is a path for looks, its thread asks at a seat of its own (`host_looks`), and the core tells between two turns what is asked there.
 //!
 //! ```text
-//! let options = ServeOptions { dir: "/run/bfq", clients: 4 };
+//! let options = ServeOptions { dir: "/run/bfq", clients: 4, delay: 0 };
 //! let watching = Watching { inspect: true, record: None };
 //! run_host(rt, alloc, config, images, options, watching, &mut fault)                     // Ok(Stopped), after the operator's Stop
 //! run_server(rt, alloc, config, images, options, &mut fault)                             // the same, with no path for looks

@@ -34,6 +34,8 @@ pub struct ServeOptions<'a> {
     pub dir: &'a str,
     /// How many clients have a path, 1 to 16.
     pub clients: u8,
+    /// How long each request takes a worker at least, in microseconds.
+    pub delay: u32,
 }
 
 /// Who sees a host that serves, beside its clients and its operator.
@@ -60,7 +62,7 @@ pub fn run_server<
     requires workers { 1 ≤ length images.items × length images.items ≤ 4 }
     requires clients { 1 ≤ options.clients × options.clients ≤ 16 }
 {
-    let ServeOptions { dir, clients } = options;
+    let ServeOptions { dir, clients, .. } = options;
     let mut made = Vec::new(alloc);
     let served = match open_doors(&rt, alloc, dir, clients, false, &mut made, fault) {
         Ok(doors) => serve_at(
@@ -107,7 +109,7 @@ where
     requires workers { 1 ≤ length images.items × length images.items ≤ 4 }
     requires clients { 1 ≤ options.clients × options.clients ≤ 16 }
 {
-    let ServeOptions { dir, clients } = options;
+    let ServeOptions { dir, clients, .. } = options;
     let inspect = watching.inspect;
     let mut made = Vec::new(alloc);
     let served = match open_doors(&rt, alloc, dir, clients, inspect, &mut made, fault) {
@@ -172,8 +174,12 @@ fn serve_at<
     requires { length images.items ≤ 4 }
 {
     let workers = images.len();
-    let Started { operator, core } = start_host(rt, alloc, config, images, doors, recorder)?;
-    let ServeOptions { dir, clients } = options;
+    let ServeOptions {
+        dir,
+        clients,
+        delay,
+    } = options;
+    let Started { operator, core } = start_host(rt, alloc, config, images, delay, doors, recorder)?;
     let _ = eprintln!(rt; "serving {dir}, {clients} clients, {workers} workers");
     let stream = operator.join(&rt);
     core.join(&rt);
@@ -196,6 +202,7 @@ fn start_host<
     alloc: Global,
     config: Config,
     images: Vec<I>,
+    delay: u32,
     mut doors: Doors,
     recorder: Option<Recorder<W>>,
 ) -> Result<Started, ServeEnd>
@@ -211,7 +218,7 @@ fn start_host<
         looks,
     };
     let core = start_core(rt, alloc, core, watcher)?;
-    start_workers(rt, alloc, devices, images)?;
+    start_workers(rt, alloc, devices, images, delay)?;
     let operator = start_paths(rt, alloc, doors, callers, operator)?;
     Ok(Started { operator, core })
 }

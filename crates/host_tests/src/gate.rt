@@ -1,7 +1,7 @@
 // Images that share a gate.
-ghost use Rattle.std.specs.Prelude.{◌≡◌, None};
+ghost use Rattle.std.specs.Prelude.{◌≡◌, None, true};
 
-use base_image::{Image, ImageFault};
+use base_image::{Image, ImageFault, LoggedRead, ReadLog};
 use std::alloc::{AllocError, Global};
 use std::sync::Arc;
 use std::sync::atomic::{AtomicU64, Ordering};
@@ -16,6 +16,7 @@ pub struct Gated {
     begun: Arc<AtomicU64, Global>,
     faults: u64,
     last: Option<ImageFault>,
+    log: ReadLog,
 }
 
 impl Gated {
@@ -31,6 +32,7 @@ impl Gated {
             begun,
             faults: 0,
             last: None,
+            log: ReadLog::new(),
         }
     }
 
@@ -46,7 +48,9 @@ impl Gated {
 }
 
 impl Image for Gated {
-    ghost disk = { λ image. record { sectors = 64; bytes = None; faults = image.faults; last = image.last } };
+    ghost disk = { λ image. record { sectors = 64; bytes = None; may_fail = true; faults = image.faults; last = image.last } };
+
+    ghost log = { λ image. image.log.reads };
 
     fn sectors(&self) -> u64 {
         64
@@ -54,17 +58,24 @@ impl Image for Gated {
 
     fn read_at(&mut self, offset: u64, buffer: &mut [u8]) -> Result<usize, ImageFault> {
         self.begun.fetch_add(1, Ordering::SeqCst);
-        if !self.opens() {
+        let read = if self.opens() {
+            // A sector at most, so that a longer range takes several reads.
+            let count = buffer.len().min(512 - (offset % 512) as usize);
+            for place in 0..count {
+                buffer[place] = (offset / 512 % 256) as u8;
+            }
+            Ok(count)
+        } else {
             self.faults += 1;
             self.last = Some(ImageFault::Device);
-            return Err(ImageFault::Device);
-        }
-        // A sector at most, so that a longer range takes several reads.
-        let count = buffer.len().min(512 - (offset % 512) as usize);
-        for place in 0..count {
-            buffer[place] = (offset / 512 % 256) as u8;
-        }
-        Ok(count)
+            Err(ImageFault::Device)
+        };
+        self.log = self.log.then(&LoggedRead {
+            offset,
+            asked: buffer.len(),
+            outcome: read,
+        });
+        read
     }
 
     fn faults(&self) -> u64 {

@@ -9,6 +9,7 @@
 //! | `asking` | a seat and its desk in two threads, which look and sleep |
 //! | `looks` | a look wakes a core that sleeps, tells of its last turn, and of nothing once it has ended |
 //! | `operators` | a connection of the operator ends at its limit of frames, and what is behind it is not asked |
+//! | `paths` | how often a client's path leaves: once for each connection, as whoever keeps the journal counts it |
 //! | `runs` | how often a core that runs shows its journal, and how many workers a host may have |
 //! | `settling` | what is left of a seat that ends before all is answered and collected |
 //! | `threads` | a core that sleeps is woken from another thread |
@@ -37,6 +38,8 @@ mod looks;
 mod opening;
 #[cfg(test)]
 mod operators;
+#[cfg(test)]
+mod paths;
 #[cfg(test)]
 mod peer;
 #[cfg(test)]

@@ -68,7 +68,11 @@ const AT_ONCE: [Talk; 8] = [
 fn two_in(dir: &str) -> ServeOptions<'_>
     ensures { result.clients ≡ 2 }
 {
-    ServeOptions { dir, clients: 2 }
+    ServeOptions {
+        dir,
+        clients: 2,
+        delay: 0,
+    }
 }
 
 // A new folder for sockets.

@@ -158,7 +158,7 @@ pub fn work<R: Wait + Clock>(
 ) -> WorkerEnd
     requires { IsIdle device }
 {
-    run_worker(rt, alloc, &mut device, &mut image)
+    run_worker(rt, alloc, &mut device, &mut image, 0)
 }
 
 // The worker, and the client with the operator, in two threads.

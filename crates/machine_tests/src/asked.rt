@@ -38,6 +38,8 @@ enum Ask {
     // Stores two sectors in this session, and the same with one byte too few.
     Store(u64),
     StoreShort(u64),
+    // Discards two sectors in this session, with bytes as a store has them.
+    DiscardOfBytes(u64),
     // Reaps in this session.
     Reap(u64),
     Leave,
@@ -51,20 +53,24 @@ fn call_of(alloc: Global, ask: Ask) -> Result<ClientCall, Fail> {
             class: Class::BestEffort,
         },
         Ask::Store(session) => store(alloc, session)?,
-        Ask::StoreShort(session) => store_of(session, Bytes::from_static(&[65; 1023])),
+        Ask::StoreShort(session) => { submit(session, Op::Store, Bytes::from_static(&[65; 1023])) }
+        Ask::DiscardOfBytes(session) => {
+            submit(session, Op::Discard, Bytes::from_static(&[0; 1024]))
+        }
         Ask::Reap(session) => ClientCall::Reap { session },
         Ask::Leave => ClientCall::Leave { why: Why::Ended },
     })
 }
 
 fn store(alloc: Global, session: u64) -> Result<ClientCall, Fail> {
-    Ok(store_of(session, Bytes::from_vec(vec![in alloc; 65u8; 1024]?)?))
+    let payload = Bytes::from_vec(vec![in alloc; 65u8; 1024]?)?;
+    Ok(submit(session, Op::Store, payload))
 }
 
-fn store_of(session: u64, payload: Bytes) -> ClientCall {
+fn submit(session: u64, op: Op, payload: Bytes) -> ClientCall {
     ClientCall::Submit {
         session,
-        op: Op::Store,
+        op,
         range: TWO,
         payload,
     }
@@ -104,6 +110,7 @@ fn client_stores(rt: HostRuntime) -> Result<(), Fail> {
         (0, Ask::Attach(4), 1),
         (0, Ask::Store(2), 104),
         (0, Ask::StoreShort(1), 113),
+        (0, Ask::DiscardOfBytes(1), 113),
         (0, Ask::Store(1), 2),
         (0, Ask::Reap(1), 244),
     ];

@@ -151,9 +151,14 @@ fn fetches_of_one_sector(rt: HostRuntime) {
         [fetch(1, 1, SHORT)].as_slice(),
         [fetch(0, 2, SHORT)].as_slice(),
         [fetch((1 << 55) - 1, 1, SHORT), Told::Reads(0)].as_slice(),
-        // A store reads nothing.
+        // A store reads nothing, and a discard neither.
         [
             Told::Work(Op::Store, 0, 1, Answered::Stored),
+            Told::Reads(0),
+        ]
+        .as_slice(),
+        [
+            Told::Work(Op::Discard, 0, 1, Answered::Stored),
             Told::Reads(0),
         ]
         .as_slice(),
@@ -239,6 +244,7 @@ fn failing_image(rt: HostRuntime) {
             ImageFault::Device,
             [
                 Told::Work(Op::Store, 0, 1, Answered::Stored),
+                Told::Work(Op::Discard, 0, 1, Answered::Stored),
                 Told::Faults(0),
                 fetch(0, 1, FAULT),
             ]

@@ -1,4 +1,4 @@
-// A request as long as one can be: 32 stores of 8 sectors, merged, dispatched and finished, each step turned back and forth.
+// Requests as long as one can be: 32 stores or discards of 8 sectors, merged, dispatched and finished, each step turned back and forth.
 use crate::host::{Host, Place};
 use bytes::Bytes;
 use dispatch_core::{Reply, SectorView, Step};
@@ -7,29 +7,36 @@ use std::alloc::Global;
 use std::process::Abort;
 use std::test::Fail;
 
-// The sectors of all stores.
+// The sectors of all of them.
 const WHOLE: Range = Range {
     start: 0,
     count: 256,
 };
 
-// Only the Finish stores, so once a step is turned back the last sector of the stores is the image's.
+// Only the Finish changes the overlay, so once a step is turned back the last of these sectors is the image's.
 const LAST: u64 = 255;
 
-// The last sector of the stores has what was stored.
-fn is_stored(host: &Host) -> bool {
+// What the last sector has: none where it is the image's, or else each byte of it.
+fn last_byte(host: &Host) -> Option<u8> {
     match host.view().sector(LAST) {
-        SectorView::Outside => false,
-        SectorView::Base => false,
-        SectorView::Stored(block) => block.as_slice() == [9; 512].as_slice(),
+        SectorView::Outside => None,
+        SectorView::Base => None,
+        SectorView::Stored(block) => {
+            let bytes = block.as_slice();
+            let (first, others) = bytes.split_first()?;
+            others
+                .iter()
+                .all(|byte: &u8| *byte == *first)
+                .then_some(*first)
+        }
     }
 }
 
-// A step of this test. A store is named by the serial that it gets, so the first is 2.
+// A step of this test. A store or a discard is named by the serial that it gets, so the first is 2.
 #[derive(Clone, Copy, Debug, PartialEq, Eq)]
 enum Act {
     Attach,
-    Store(u64),
+    Submit(Op, u64),
     Dispatch,
     Finish,
 }
@@ -52,7 +59,7 @@ enum Told {
     Step(Act, Came, [u64; 3], bool),
     // At a place of seat 0.
     Request(usize, Place),
-    IsStored(bool),
+    LastByte(Option<u8>),
     // How many steps the line has, and how many exchanges were made.
     Made(u32, u64),
 }
@@ -65,15 +72,18 @@ fn step_of(act: Act) -> Step {
             prio: 4,
             class: Class::BestEffort,
         },
-        Act::Store(serial) => Step::Submit {
+        Act::Submit(op, serial) => Step::Submit {
             seat: 0,
             session: 1,
-            op: Op::Store,
+            op,
             range: Range {
                 start: serial.wrapping_sub(2).wrapping_mul(8),
                 count: 8,
             },
-            payload: Bytes::from_static(&[9; 4096]),
+            payload: match op {
+                Op::Store => Bytes::from_static(&[9; 4096]),
+                Op::Fetch | Op::Discard => Bytes::new(),
+            },
         },
         Act::Dispatch => Step::Dispatch,
         Act::Finish => Step::Finish {
@@ -107,7 +117,7 @@ fn again(host: &mut Host, alloc: Global, told: Told) -> Result<Told, Fail> {
             Ok(Told::Step(act, reply_of(&reply), exchanges, is_base))
         }
         Told::Request(place, _) => Ok(Told::Request(place, host.place(0, place))),
-        Told::IsStored(_) => Ok(Told::IsStored(is_stored(host))),
+        Told::LastByte(_) => Ok(Told::LastByte(last_byte(host))),
         Told::Made(..) => Ok(Told::Made(host.steps(), host.turns())),
     }
 }
@@ -120,36 +130,45 @@ fn expect(rt: &(impl Abort + AllocGlobal), host: &mut Host, all: &[Told]) -> Res
     Ok(())
 }
 
-// The first store begins a request and activates an entity, and the others join it. The request is sent to the device: its
-// entity is selected (2), charged (2), and expires (3). The Finish has a block for each sector, the bios, and then the
-// request, the tag and the outbox.
-#[test]
-fn steps_of_a_full_store(rt: HostRuntime) -> Result<(), Fail> {
+// The first bio begins a request and activates an entity, and the others join it. The request is sent to the device: its entity is
+// selected (2), charged (2), and expires (3). The Finish has a block for each sector, the bios, and then the request, the tag and the
+// outbox.
+fn steps_of_a_full_request(rt: &(impl Abort + AllocGlobal), op: Op, last: u8) -> Result<(), Fail> {
     let mut host = Host::new(rt.alloc(), 1024)?;
     let attach = Told::Step(Act::Attach, Came::Attached(1), [6; 3], true);
-    expect(&rt, &mut host, &[attach])?;
+    expect(rt, &mut host, &[attach])?;
     for serial in 2..34 {
         let exchanges = if serial == 2 { 5 } else { 3 };
-        let store = Told::Step(
-            Act::Store(serial),
+        let submit = Told::Step(
+            Act::Submit(op, serial),
             Came::Queued(serial),
             [exchanges; 3],
             true,
         );
-        expect(&rt, &mut host, &[store, Told::Request(1, Place::Past)])?;
+        expect(rt, &mut host, &[submit, Told::Request(1, Place::Past)])?;
     }
     let full = Place::Queued {
         range: WHOLE,
         bios: 32,
     };
-    let issued = Came::Issued(0, 34, Op::Store, WHOLE);
+    let issued = Came::Issued(0, 34, op, WHOLE);
     let all = [
         Told::Request(0, full),
         Told::Step(Act::Dispatch, issued, [10; 3], true),
         Told::Step(Act::Finish, Came::Finished(32), [256 + 32 + 3; 3], true),
-        Told::IsStored(true),
+        Told::LastByte(Some(last)),
         // 6, 5, 31 times 3, 10 and 291 exchanges, each made three times.
         Told::Made(35, 1215),
     ];
-    expect(&rt, &mut host, &all)
+    expect(rt, &mut host, &all)
+}
+
+#[test]
+fn steps_of_a_full_store(rt: HostRuntime) -> Result<(), Fail> {
+    steps_of_a_full_request(&rt, Op::Store, 9)
+}
+
+#[test]
+fn steps_of_a_full_discard(rt: HostRuntime) -> Result<(), Fail> {
+    steps_of_a_full_request(&rt, Op::Discard, 0)
 }

@@ -1,7 +1,7 @@
 // An image of which a test says how it is read.
-ghost use Rattle.std.specs.Prelude.{◌≡◌, None};
+ghost use Rattle.std.specs.Prelude.{◌≡◌, None, true};
 
-use base_image::{Image, ImageFault};
+use base_image::{Image, ImageFault, LoggedRead, ReadLog};
 
 // It has these bytes, gives at most `piece` of them a read, and the read with one number fails, if that is not 0.
 #[derive(Drop)]
@@ -13,6 +13,7 @@ pub struct Scripted<'a> {
     pub reads: u64,
     pub faults: u64,
     pub last: Option<ImageFault>,
+    pub log: ReadLog,
 }
 
 impl<'a> Scripted<'a> {
@@ -28,12 +29,15 @@ impl<'a> Scripted<'a> {
             reads: 0,
             faults: 0,
             last: None,
+            log: ReadLog::new(),
         }
     }
 }
 
 impl Image for Scripted<'_> {
-    ghost disk = { λ image. record { sectors = 2; bytes = None; faults = image.faults; last = image.last } };
+    ghost disk = { λ image. record { sectors = 2; bytes = None; may_fail = true; faults = image.faults; last = image.last } };
+
+    ghost log = { λ image. image.log.reads };
 
     fn sectors(&self) -> u64 {
         2
@@ -41,15 +45,22 @@ impl Image for Scripted<'_> {
 
     fn read_at(&mut self, offset: u64, buffer: &mut [u8]) -> Result<usize, ImageFault> {
         self.reads = self.reads.saturating_add(1);
-        if self.reads == self.fails_at {
+        let read = if self.reads == self.fails_at {
             self.faults += 1;
             self.last = Some(self.fault);
-            return Err(self.fault);
-        }
-        let rest = self.bytes.get(offset as usize..).unwrap_or(&[]);
-        let count = rest.len().min(buffer.len()).min(self.piece);
-        buffer[..count].copy_from_slice(&rest[..count]);
-        Ok(count)
+            Err(self.fault)
+        } else {
+            let rest = self.bytes.get(offset as usize..).unwrap_or(&[]);
+            let count = rest.len().min(buffer.len()).min(self.piece);
+            buffer[..count].copy_from_slice(&rest[..count]);
+            Ok(count)
+        };
+        self.log = self.log.then(&LoggedRead {
+            offset,
+            asked: buffer.len(),
+            outcome: read,
+        });
+        read
     }
 
     fn faults(&self) -> u64 {

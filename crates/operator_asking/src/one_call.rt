@@ -1,11 +1,12 @@
 // A call and its reply.
 ghost use Rattle.session_proto.specs.Frame.{framed};
+ghost use Rattle.session_proto.specs.declared.version.Version.TheVariants.{One};
 ghost use Rattle.operator_asking.specs.Asked.{Ends};
 
 use crate::fault::AskFault;
 use crate::receiving::receive;
 use crate::writing::write_flushed;
-use session_proto::{Side, encode};
+use session_proto::{Side, Version, encode};
 use std::alloc::Global;
 use std::io::{Read, Write};
 
@@ -22,11 +23,11 @@ pub fn ask<C: Side, H: Side, R: Read, W: Write>(
     writer: &mut W,
     call: &C,
 ) -> Result<H, AskFault>
-    requires { C.fits call.now }
-    ensures { Ends H.body H.fits H.body_at H.MOST (R.remaining reader.old) (R.remaining reader.new)
+    requires { C.fits One call.now }
+    ensures { Ends H.body (H.fits One) (H.body_at One) H.MOST (R.remaining reader.old) (R.remaining reader.new)
         (W.contents writer.old) (W.contents writer.new) (framed (C.body call.now)) result }
 {
-    let frame = encode(alloc, call)?;
+    let frame = encode(alloc, Version::One, call)?;
     if !write_flushed(writer, frame.as_slice()) {
         return Err(AskFault::Socket);
     }

@@ -1,4 +1,5 @@
 // The frame of a reply, received.
+ghost use Rattle.session_proto.specs.declared.version.Version.TheVariants.{One};
 ghost use Rattle.operator_asking.specs.Asked.{Receives};
 
 use crate::fault::AskFault;
@@ -15,7 +16,7 @@ const PIECE_BYTES: usize = 4096;
 ///
 /// `Socket`: a read failed. `Frame`: the bytes begin with a fault, or end before a whole frame. `OutOfMemory`.
 pub fn receive<H: Side, R: Read>(alloc: Global, reader: &mut R) -> Result<H, AskFault>
-    ensures { Receives H.body H.fits H.body_at H.MOST (R.remaining reader.old) (R.remaining reader.new) result }
+    ensures { Receives H.body (H.fits One) (H.body_at One) H.MOST (R.remaining reader.old) (R.remaining reader.new) result }
 {
     let mut feeder = Feeder::<H>::new(alloc);
     let mut piece = [0u8; PIECE_BYTES];

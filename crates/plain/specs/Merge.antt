@@ -3,7 +3,7 @@ use Rattle.std.specs.Prelude.{ℕ, ◌+◌, ◌==◌, nat_le, nat_lt, Bool, true
 use Rattle.std.specs.Option.{option_map, option_map_or, option_or}
 use Rattle.sector_core.specs.declared.range.Range.{Range}
 use Rattle.sector_core.specs.declared.bio.Op.{Op}
-use Rattle.sector_core.specs.declared.bio.Op.TheVariants.{Fetch, Store}
+use Rattle.sector_core.specs.declared.bio.Op.TheVariants.{Fetch, Store, Discard}
 use Rattle.sector_core.specs.declared.bio.Bio.{Bio}
 use Rattle.plain.specs.declared.shape.Shape.{Shape}
 use Rattle.plain.specs.Lists.{first_in}
@@ -18,12 +18,17 @@ shape_of session op bios = record {
   bios = length bios;
 }
 
--- whether two bios do the same: fetch or store (our profile, as the kernel's code: reads and writes are never one request)
+-- whether two bios do the same: fetch, store or discard (our profile, as the kernel's code: reads, writes and discards are never one request)
 abbrev pub same_op : Op → Op → Bool
 same_op Fetch Fetch = true
 same_op Fetch Store = false
+same_op Fetch Discard = false
 same_op Store Fetch = false
 same_op Store Store = true
+same_op Store Discard = false
+same_op Discard Fetch = false
+same_op Discard Store = false
+same_op Discard Discard = true
 
 -- a request has at most 256 sectors and 32 bios, the joining one among them (our profile)
 abbrev pub has_room : Range → Shape → Bool

@@ -33,7 +33,7 @@ pub enum Code {
     GroupInUse,
     /// A bio has 1 to 64 sectors.
     BadCount,
-    /// A store has 512 bytes for each sector, a fetch has none.
+    /// A store has 512 bytes for each sector, a fetch or a discard has none.
     BadLength,
     /// The range ends past the image.
     OutOfRange,

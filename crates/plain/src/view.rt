@@ -6,7 +6,7 @@ use sector_core::{Block, Class, Range};
 pub enum SectorView<'a> {
     /// There is no such sector.
     Outside,
-    /// Nothing has been stored there: it is the image's.
+    /// Nothing has been stored or discarded there: it is the image's.
     Base,
     /// The overlay's block.
     Stored(&'a Block),

@@ -31,7 +31,7 @@ use Rattle.plain.specs.Entities.{without_entity, with_entity, is_weight}
 use Rattle.plain.specs.Steps.Leave.{left, leave}
 use Rattle.plain.specs.Steps.Dispatch.{next_queue, lowest_free, sent, sent_by_bfq, sent_by, dispatch_to, sent_again, dispatch_of}
 use Rattle.plain.specs.Requests.{size_of, range_of, requests_of}
-use Rattle.plain.specs.Steps.Finish.{fits, after_finish, finished, finish_of, finish}
+use Rattle.plain.specs.Steps.Finish.{fits, effect_of, after_finish, finished, finish_of, finish}
 use Rattle.plain.specs.Steps.Requeue.{requeued, requeue_of, requeue}
 use Rattle.plain.specs.Steps.GroupDrop.{is_used, group_drop}
 use Rattle.plain.specs.Steps.GroupMake.{free_group, made_group, group_make}
@@ -76,7 +76,7 @@ pub record Steps (l : Limits) (Switches : Type 0) (P Q : ℕ → Plain → Type 
   pub sends : (n : ℕ) (m : Plain) (tag : ℕ) (o : Plain × Reply) → m.scheduler ≡ BfqScheduler → sent_by_bfq l m n tag ≡ Some o → tag < l.tags → m.flight tag ≡ None → P n m → Q (n + 1) o.0
   pub resends : (n : ℕ) (m : Plain) (tag : ℕ) (r : WholeRequest) (rest : List WholeRequest) → m.requeued ≡ r ∷ rest → tag < l.tags → m.flight tag ≡ None → P n m → Q n (resent m n tag r rest)
   pub finishes : (n : ℕ) (m : Plain) (tag : ℕ) (f : Flight) (outcome : Outcome) → tag < l.tags → m.flight tag ≡ Some f → fits f.request.op (size_of f.request.bios) outcome ≡ true
-      → P n m → Q n (after_finish l m tag outcome f.request)
+      → P n m → Q n (after_finish l m tag (effect_of outcome f.request.op) f.request)
   pub gives_back : (n : ℕ) (m : Plain) (tag : ℕ) (f : Flight) → tag < l.tags → m.flight tag ≡ Some f → P n m → Q n (given_back m tag f.request)
   pub makes : (n : ℕ) (m : Plain) (group parent weight : ℕ) → stands m.bfq parent ≡ true → is_weight weight ≡ true → nat_le most_levels (depth m.bfq.parent parent) ≡ false
       → free_group m.bfq ≡ Some group → P n m → Q n (record m { bfq = made l group parent weight m.bfq })
@@ -199,11 +199,11 @@ finish_of-leads : (l : Limits) (S : Type 0) (P Q : ℕ → Plain → Type 0) →
     → P n m → Q n (finish_of l m room tag issue outcome o).0
 finish_of-leads l S P Q k m n room tag issue outcome None low is h = k.stays n m h
 finish_of-leads l S P Q k m n room tag issue outcome (Some f) low is h =
-    unless-keeps (Q n) _ m (finished l m room tag outcome f.request) (k.stays n m h)
+    unless-keeps (Q n) _ m (finished l m room tag (effect_of outcome f.request.op) f.request) (k.stays n m h)
     (λ e.
     let its = first_fails (not (f.issue == issue)) _ _ e in
     let fit = first_fails (not (fits f.request.op (size_of f.request.bios) outcome)) _ _ its.1 in
-    accepted-keeps (Q n) room m (after_finish l m tag outcome f.request) (Finished (length f.request.bios)) (k.stays n m h)
+    accepted-keeps (Q n) room m (after_finish l m tag (effect_of outcome f.request.op) f.request) (Finished (length f.request.bios)) (k.stays n m h)
     (k.finishes n m tag f outcome low is (not-false (fits f.request.op (size_of f.request.bios) outcome) fit.0) h))
 
 finish-leads : (l : Limits) (S : Type 0) (P Q : ℕ → Plain → Type 0) → Steps l S P Q → (m : Plain) (n : ℕ) (room : Bool) (tag issue : ℕ) (outcome : Outcome) → P n m → Q n (finish l m room tag issue outcome).0

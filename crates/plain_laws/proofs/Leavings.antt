@@ -6,7 +6,7 @@ use Rattle.std.proofs.lemmas.Bool.{cases_eq, and_parts}
 use Rattle.std.proofs.lemmas.List.{length-append}
 use Rattle.std.proofs.lemmas.List.Elements.{All-nil, All-same, All-head, All-weaker}
 use Rattle.sector_core.specs.declared.bio.Bio.{Bio}
-use Rattle.sector_core.specs.declared.bio.Outcome.{Outcome}
+use Rattle.sector_core.specs.declared.bio.Effect.{Effect}
 use Rattle.plain.specs.Machine.{Blocks, WholeRequest, Flight, Bfq, Plain, put}
 use Rattle.plain.specs.Lists.{numbers, is_empty}
 use Rattle.plain.specs.declared.seat.Seat.{Seat}
@@ -15,7 +15,7 @@ use Rattle.plain.specs.Sessions.{is_session, is_leaving, has_session}
 use Rattle.plain.specs.Entities.{without_entity, without_gone, owed_fewer}
 use Rattle.plain.specs.Requests.{flying, is_of, left_of, is_gone}
 use Rattle.plain.specs.Steps.Leave.{with_leaving, left}
-use Rattle.plain.specs.Steps.Finish.{completed, rest_of_outcome, after_outcome, seat_of, delivered, after_finish}
+use Rattle.plain.specs.Steps.Finish.{completed, rest_of_effect, after_effect, seat_of, delivered, after_finish}
 use Rattle.plain_laws.specs.Owed.{bios_in, owed}
 use Rattle.plain_laws.proofs.Puts.{put_here, put_other, put_cases, map_is}
 use Rattle.plain_laws.proofs.Flights.{find-numbers, bios_flown, bios_of-put}
@@ -138,9 +138,9 @@ left-sound l n m seat h =
     without_gone-sound l n seat (owed_fewer seat count next) (fewer-sound l n next seat count (marked-placed n m seat h.placed) others more)
 
 -- Finish: every bio of a request is completed.
-length-completed : (outcome : Outcome) (overlay : Blocks) (bios : List Bio) → length (completed outcome overlay bios) ≡ length bios
-length-completed outcome overlay [] = refl
-length-completed outcome overlay (bio ∷ bios) = let rest = length-completed (rest_of_outcome bio.range.count outcome) overlay bios in omega (arith, rest)
+length-completed : (effect : Effect) (overlay : Blocks) (bios : List Bio) → length (completed effect overlay bios) ≡ length bios
+length-completed effect overlay [] = refl
+length-completed effect overlay (bio ∷ bios) = let rest = length-completed (rest_of_effect bio.range.count effect) overlay bios in omega (arith, rest)
 
 -- what is not found in a run of numbers is none of them
 not_found : (p : ℕ → Bool) (from count k : ℕ) → find p (numbers from count) ≡ None → from ≤ k → k < from + count → p k ≡ false
@@ -192,12 +192,12 @@ delivered-sound l n m seat bios entry is p others more =
       }
     ] refl
 
-pub after_finish-sound : (l : Limits) (n : ℕ) (m : Plain) (tag : ℕ) (outcome : Outcome) (flight : Flight)
-    → tag < l.tags → m.flight tag ≡ Some flight → Sound l n m → Sound l n (after_finish l m tag outcome flight.request)
-after_finish-sound l n m tag outcome flight lt borne h =
+pub after_finish-sound : (l : Limits) (n : ℕ) (m : Plain) (tag : ℕ) (effect : Effect) (flight : Flight)
+    → tag < l.tags → m.flight tag ≡ Some flight → Sound l n m → Sound l n (after_finish l m tag effect flight.request)
+after_finish-sound l n m tag effect flight lt borne h =
     let r : WholeRequest = flight.request in
-    let bios : List Bio = completed outcome m.overlay r.bios in
-    let next : Plain = record m { overlay = after_outcome outcome m.overlay r.bios; flight = put m.flight tag None } in
+    let bios : List Bio = completed effect m.overlay r.bios in
+    let next : Plain = record m { overlay = after_effect effect m.overlay r.bios; flight = put m.flight tag None } in
     let p = h.placed in
     let placed : Placed n next = record { seated = p.seated; queued = p.queued; requeued = p.requeued; flown = landed n m.flight tag p.flown; empty = p.empty } in
     let owes : (k : ℕ) (s : Seat) → m.seat k ≡ Some s → s.unreaped ≡ owed l next k s.session + bios_in s.session r =
@@ -230,5 +230,5 @@ after_finish-sound l n m tag outcome flight lt borne h =
           (λ s e.
           let had = owes seat s e in
           let its : bios_in s.session r ≡ length r.bios = bios_in-same s.session r (sym (session_is m seat r.session s e sits)) in
-          omega (arith, had, its, length-completed outcome m.overlay r.bios))
+          omega (arith, had, its, length-completed effect m.overlay r.bios))
     ] refl

@@ -10,7 +10,7 @@ use Rattle.plain.specs.Opening.{Limits}
 use Rattle.plain.specs.Steps.Attach.{attached}
 use Rattle.plain.specs.Steps.Submit.{submitted}
 use Rattle.plain.specs.Steps.Leave.{left}
-use Rattle.plain.specs.Steps.Finish.{after_finish}
+use Rattle.plain.specs.Steps.Finish.{effect_of, after_finish}
 use Rattle.plain.specs.Entities.{without_entity, with_entity}
 use Rattle.plain.specs.Steps.GroupMake.{free_group}
 use Rattle.plain_laws.specs.Times.{VtimesNeverFall, KeepsVtimes}
@@ -57,7 +57,7 @@ since-steps l b =
       sends = λ n m tag o bfq sent low free is. since b m o.0.bfq is (sent_by_bfq-rules l Any (Rise m.bfq) (rise-changes l.max_budget m.bfq) m n tag o sent (Rise-refl m.bfq));
       resends = λ n m tag r rest first low free is. same m is;
       finishes = λ n m tag f outcome low borne fit is.
-          since b m (after_finish l m tag outcome f.request).bfq is (after_finish-bfq l (Rise m.bfq) m tag outcome f.request (Rise-refl m.bfq) (λ seat g d. Rise-member m.bfq (group_of m.bfq seat) seat None g d));
+          since b m (after_finish l m tag (effect_of outcome f.request.op) f.request).bfq is (after_finish-bfq l (Rise m.bfq) m tag (effect_of outcome f.request.op) f.request (Rise-refl m.bfq) (λ seat g d. Rise-member m.bfq (group_of m.bfq seat) seat None g d));
       gives_back = λ n m tag f low borne is. same m is;
       makes = λ n m group parent weight known weighs few free is. subst (λ (a : Bfq). VtimesNeverFall a (made l group parent weight m.bfq)) is (made-since l m.bfq group parent weight free);
       drops = λ n m group known other unused is. since b m (without_entity (entity_of group) m.bfq) is (λ g d. Rise-member m.bfq (group_of m.bfq (entity_of group)) (entity_of group) None g d);

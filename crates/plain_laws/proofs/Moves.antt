@@ -4,6 +4,7 @@ use Rattle.std.specs.Option.{option_map, option_map_or}
 use Rattle.sector_core.specs.declared.bio.Bio.{Bio}
 use Rattle.sector_core.specs.declared.bio.Op.{Op}
 use Rattle.sector_core.specs.declared.bio.Outcome.{Outcome}
+use Rattle.sector_core.specs.declared.bio.Effect.{Effect}
 use Rattle.sector_core.specs.declared.range.Range.{Range}
 use Rattle.sector_core.specs.declared.config.Scheduler.{Scheduler}
 use Rattle.sector_core.specs.declared.class.Class.{Class}
@@ -17,7 +18,7 @@ use Rattle.plain.specs.Steps.Submit.{new_bio, queue_with, merge_in, submitted, w
 use Rattle.plain.specs.Entities.{without_entity, without_gone, owed_fewer}
 use Rattle.plain.specs.Requests.{is_gone, size_of}
 use Rattle.plain.specs.Steps.Leave.{with_leaving, left}
-use Rattle.plain.specs.Steps.Finish.{fits, after_outcome, completed, seat_of, delivered, after_finish}
+use Rattle.plain.specs.Steps.Finish.{fits, effect_of, after_effect, completed, seat_of, delivered, after_finish}
 use Rattle.plain.specs.Steps.Switch.{switched}
 use Rattle.plain_laws.proofs.Flights.{find-numbers}
 use Rattle.plain_laws.proofs.Sendings.{IsTaken, IsTaken-first, dispatched, resent, given_back}
@@ -41,15 +42,15 @@ abbrev pub sent_from : Plain → ℕ → ℕ → ℕ → WholeRequest → List W
 sent_from m n seat tag r rest = record m { queue = put m.queue seat rest; flight = put m.flight tag (Some (record { issue = n; request = r })) }
 
 -- the flight under a tag ends
-abbrev pub landed : Plain → ℕ → Outcome → WholeRequest → Plain
-landed m tag outcome r = record m { overlay = after_outcome outcome m.overlay r.bios; flight = put m.flight tag None }
+abbrev pub landed : Plain → ℕ → Effect → WholeRequest → Plain
+landed m tag effect r = record m { overlay = after_effect effect m.overlay r.bios; flight = put m.flight tag None }
 
 -- and its bios go to an outbox
-abbrev pub landed_at : Plain → ℕ → Outcome → WholeRequest → ℕ → Plain
-landed_at m tag outcome r seat = record m {
-  overlay = after_outcome outcome m.overlay r.bios;
+abbrev pub landed_at : Plain → ℕ → Effect → WholeRequest → ℕ → Plain
+landed_at m tag effect r seat = record m {
+  overlay = after_effect effect m.overlay r.bios;
   flight = put m.flight tag None;
-  outbox = put m.outbox seat (m.outbox seat ++ completed outcome m.overlay r.bios);
+  outbox = put m.outbox seat (m.outbox seat ++ completed effect m.overlay r.bios);
 }
 
 -- what stands after steps with serials below a number, each move of requests and bios keeps
@@ -68,10 +69,10 @@ pub record Moves (l : Limits) (P : ℕ → Plain → Type 0) : Type 1 where
       → P n m → P n (resent m i tag r rest)
   pub gives_back : (n : ℕ) (m : Plain) (tag : ℕ) (f : Flight) → tag < l.tags → m.flight tag ≡ Some f → P n m → P n (given_back m tag f.request)
   pub lands : (n : ℕ) (m : Plain) (tag : ℕ) (f : Flight) (outcome : Outcome) → tag < l.tags → m.flight tag ≡ Some f → fits f.request.op (size_of f.request.bios) outcome ≡ true
-      → P n m → P n (landed m tag outcome f.request)
+      → P n m → P n (landed m tag (effect_of outcome f.request.op) f.request)
   pub delivers : (n : ℕ) (m : Plain) (tag : ℕ) (f : Flight) (outcome : Outcome) (seat : ℕ) → tag < l.tags → m.flight tag ≡ Some f
       → fits f.request.op (size_of f.request.bios) outcome ≡ true → seat < 16 → is_session f.request.session (m.seat seat) ≡ true
-      → P n m → P n (landed_at m tag outcome f.request seat)
+      → P n m → P n (landed_at m tag (effect_of outcome f.request.op) f.request seat)
   pub rests : (n : ℕ) (m : Plain) (frozen : Bool) (served : ℕ) (head : ℕ → ℕ) (b : Bfq) (scheduler : Scheduler)
       → P n m → P n (record m { frozen = frozen; served = served; head = head; bfq = b; scheduler = scheduler })
 
@@ -126,18 +127,19 @@ dispatched-moves l P k m n seat tag r rest served head b is low free h =
 
 -- Finish
 after_finish-moves : (l : Limits) (P : ℕ → Plain → Type 0) → Moves l P → (m : Plain) (n tag : ℕ) (outcome : Outcome) (f : Flight) → tag < l.tags → m.flight tag ≡ Some f
-    → fits f.request.op (size_of f.request.bios) outcome ≡ true → P n m → P n (after_finish l m tag outcome f.request)
+    → fits f.request.op (size_of f.request.bios) outcome ≡ true → P n m → P n (after_finish l m tag (effect_of outcome f.request.op) f.request)
 after_finish-moves l P k m n tag outcome f low is fit h =
     let r : WholeRequest = f.request in
-    let next : Plain = landed m tag outcome r in
-    let bios : List Bio = completed outcome m.overlay r.bios in
+    let effect : Effect = effect_of outcome r.op in
+    let next : Plain = landed m tag effect r in
+    let bios : List Bio = completed effect m.overlay r.bios in
     let now : P n next = k.lands n m tag f outcome low is fit h in
     elim (seat_of m r.session) as (λ o. seat_of m r.session ≡ o → P n (option_map_or (delivered l bios next) o next)) [
       | None ↦ λ _. now
       | Some seat ↦ λ there.
           let found = find-numbers (λ s. is_session r.session (m.seat s)) 0 16 seat there in
           let small : seat < 16 = omega (arith, found.1) in
-          elim (is_leaving (m.seat seat)) as (λ t. P n (cond t (without_gone l seat (owed_fewer seat (length bios) next)) (landed_at m tag outcome r seat))) [
+          elim (is_leaving (m.seat seat)) as (λ t. P n (cond t (without_gone l seat (owed_fewer seat (length bios) next)) (landed_at m tag effect r seat))) [
             | true ↦ without_gone-moves l P k (owed_fewer seat (length bios) next) n seat (owed_fewer-moves l P k next n seat (length bios) now)
             | false ↦ k.delivers n m tag f outcome seat low is fit small found.2 h
           ]

@@ -2,7 +2,7 @@
 use Rattle.std.proofs.Common.{true, false, ◌≡◌, ℕ, ◌+◌, ◌<◌, ◌≤◌, List, [], ◌++◌, length, Some, None, cond, arith}
 use Rattle.std.specs.Option.{option_map, option_map_or}
 use Rattle.sector_core.specs.declared.bio.Bio.{Bio}
-use Rattle.sector_core.specs.declared.bio.Outcome.{Outcome}
+use Rattle.sector_core.specs.declared.bio.Effect.{Effect}
 use Rattle.sector_core.specs.declared.class.Class.{Class}
 use Rattle.sector_core.specs.declared.class.Class.TheVariants.{BestEffort}
 use Rattle.plain.specs.Groups.{entity_of, path}
@@ -17,7 +17,7 @@ use Rattle.plain.specs.Steps.Submit.{submitted}
 use Rattle.plain.specs.Requests.{is_gone}
 use Rattle.plain.specs.Steps.Leave.{with_leaving, left}
 use Rattle.plain.specs.Sessions.{is_leaving}
-use Rattle.plain.specs.Steps.Finish.{seat_of, delivered, completed, after_outcome, after_finish}
+use Rattle.plain.specs.Steps.Finish.{effect_of, seat_of, delivered, completed, after_effect, after_finish}
 use Rattle.plain.specs.Steps.Switch.{with_first_budgets}
 use Rattle.plain.specs.Steps.Tick.{older}
 use Rattle.plain_laws.proofs.Leads.{Leads}
@@ -52,10 +52,10 @@ left-bfq l P seat m h gone =
     without_gone-bfq l P seat (owed_fewer seat (length (m.outbox seat)) marked) h gone
 
 -- Finish
-pub after_finish-bfq : (l : Limits) (P : Bfq → Type 0) (m : Plain) (tag : ℕ) (outcome : Outcome) (r : WholeRequest) → P m.bfq → ((seat : ℕ) → P (without_entity seat m.bfq)) → P (after_finish l m tag outcome r).bfq
-after_finish-bfq l P m tag outcome r h gone =
-    let next : Plain = record m { overlay = after_outcome outcome m.overlay r.bios; flight = put m.flight tag None } in
-    let bios : List Bio = completed outcome m.overlay r.bios in
+pub after_finish-bfq : (l : Limits) (P : Bfq → Type 0) (m : Plain) (tag : ℕ) (effect : Effect) (r : WholeRequest) → P m.bfq → ((seat : ℕ) → P (without_entity seat m.bfq)) → P (after_finish l m tag effect r).bfq
+after_finish-bfq l P m tag effect r h gone =
+    let next : Plain = record m { overlay = after_effect effect m.overlay r.bios; flight = put m.flight tag None } in
+    let bios : List Bio = completed effect m.overlay r.bios in
     elim (seat_of m r.session) as (λ o. P (option_map_or (delivered l bios next) o next).bfq) [
       | None ↦ h
       | Some seat ↦ elim (is_leaving (m.seat seat)) as (λ t. P (cond t (without_gone l seat (owed_fewer seat (length bios) next)) (record next { outbox = put next.outbox seat (next.outbox seat ++ bios) })).bfq) [
@@ -80,7 +80,7 @@ ruled-leads l Q k = record {
   takes_turns = λ n m seat tag r rest none is low free h. h;
   sends = λ n m tag o bfq is low free h. sent_by_bfq-rules l Any (Q (n + 1)) (k.rules n) m n tag o is (k.later n (n + 1) m.bfq (omega arith) h);
   resends = λ n m tag r rest is low free h. h;
-  finishes = λ n m tag f outcome low is fit h. after_finish-bfq l (Q n) m tag outcome f.request h (λ seat. k.goes n m.bfq seat h);
+  finishes = λ n m tag f outcome low is fit h. after_finish-bfq l (Q n) m tag (effect_of outcome f.request.op) f.request h (λ seat. k.goes n m.bfq seat h);
   gives_back = λ n m tag f low is h. h;
   makes = λ n m group parent weight known weighs few is h. k.opens n _ group (k.enters n m.bfq (entity_of group) parent BestEffort weight h);
   drops = λ n m group known other unused h. k.goes n m.bfq (entity_of group) h;

@@ -16,7 +16,7 @@ use Rattle.plain.specs.Opening.{Limits}
 use Rattle.plain.specs.Entities.{is_bfq}
 use Rattle.plain.specs.Steps.Submit.{woken}
 use Rattle.plain.specs.Requests.{range_of}
-use Rattle.plain.specs.Steps.Dispatch.{next_size, with_budget_in, with_selected, without_empty, sent_by_bfq}
+use Rattle.plain.specs.Steps.Dispatch.{has_queued, next_size, with_budget_in, with_selected, without_empty, sent_by_bfq}
 use Rattle.plain_laws.proofs.Puts.{some_is, and_then_is, map_is}
 use Rattle.plain_laws.proofs.Sent.{rest_of, sent-is}
 use Rattle.plain_laws.proofs.Placed.{least_of}
@@ -213,10 +213,11 @@ pub with_budget_in-keeps : (l : Limits) (E : ℕ → Type 0) (Q : Bfq → Type 0
 with_budget_in-keeps l E Q k m None b e h = subst Q (some_is m.bfq b e) h
 with_budget_in-keeps l E Q k m (Some slot) b e h =
     let full : Bool = nat_lt (m.bfq.budget slot.seat) (slot.service + next_size m slot.seat) in
-    elim (nat_le l.timeout slot.age) as (λ t. cond t (expire Timeout l.max_budget true m.bfq) (cond full (expire Exhaustion l.max_budget true m.bfq) (Some m.bfq)) ≡ Some b → Q b) [
-      | true ↦ λ late. expire-keeps l.max_budget E Q k Timeout true m.bfq b late h
-      | false ↦ λ early. elim full as (λ t. cond t (expire Exhaustion l.max_budget true m.bfq) (Some m.bfq) ≡ Some b → Q b) [
-        | true ↦ λ over. expire-keeps l.max_budget E Q k Exhaustion true m.bfq b over h
+    let queued : Bool = has_queued m slot.seat in
+    elim (nat_le l.timeout slot.age) as (λ t. cond t (expire Timeout l.max_budget queued m.bfq) (cond full (expire Exhaustion l.max_budget queued m.bfq) (Some m.bfq)) ≡ Some b → Q b) [
+      | true ↦ λ late. expire-keeps l.max_budget E Q k Timeout queued m.bfq b late h
+      | false ↦ λ early. elim full as (λ t. cond t (expire Exhaustion l.max_budget queued m.bfq) (Some m.bfq) ≡ Some b → Q b) [
+        | true ↦ λ over. expire-keeps l.max_budget E Q k Exhaustion queued m.bfq b over h
         | false ↦ λ fits. subst Q (some_is m.bfq b fits) h
       ] early
     ] e

@@ -15,6 +15,7 @@ use Rattle.plain_laws.specs.Owed.{UnreapedIsOwed}
 use Rattle.plain_laws.proofs.Debts.{Sound, Sound-later, Sound-rest, Sound-bfq, Sound-opening, attached-sound}
 use Rattle.plain_laws.proofs.Counters.{submitted-sound, reaped-sound}
 use Rattle.plain_laws.proofs.Sendings.{IsTaken-first, dispatched-sound, resent-sound, given_back-sound}
+use Rattle.plain.specs.Steps.Finish.{effect_of}
 use Rattle.plain_laws.proofs.Leavings.{left-sound, after_finish-sound}
 use Rattle.plain_laws.proofs.Served.{woken-keeps, sent_by_bfq-keeps}
 use Rattle.plain_laws.proofs.Leads.{Leads}
@@ -41,7 +42,7 @@ sound-leads l = record {
   sends = λ n m tag o bfq is low free h.
       next-sound l n o.0 (sent_by_bfq-keeps (Sound l n) l m n tag (λ k r rest head b taken. dispatched-sound l n m k tag r rest m.served head b taken low free h) o is);
   resends = λ n m tag r rest is low free h. resent-sound l n m tag r rest is low free h;
-  finishes = λ n m tag f outcome low is fit h. after_finish-sound l n m tag outcome f low is h;
+  finishes = λ n m tag f outcome low is fit h. after_finish-sound l n m tag (effect_of outcome f.request.op) f low is h;
   gives_back = λ n m tag f low is h. given_back-sound l n m tag f low is h;
   makes = λ n m group parent weight known weighs few is h. Sound-bfq l n m _ h;
   drops = λ n m group known other unused h. Sound-bfq l n m _ h;

@@ -61,7 +61,7 @@ fn same_op(a: Op, b: Op) -> bool
     ensures { result ≡ same_op a b }
 {
     match (a, b) {
-        (Op::Fetch, Op::Fetch) | (Op::Store, Op::Store) => true,
+        (Op::Fetch, Op::Fetch) | (Op::Store, Op::Store) | (Op::Discard, Op::Discard) => true,
         _ => false,
     }
 }

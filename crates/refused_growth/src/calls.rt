@@ -5,7 +5,7 @@ use crate::seen::{Seen, difference, look_at};
 use crate::told::answer_number;
 use crate::verdict::{Broken, Met, Mode, Verdict, breaks};
 use history::{Keeper, KeeperView};
-use plain::{Answer, Call};
+use plain::{Answer, Call, Step};
 use std::alloc::Global;
 
 // What is seen before a call; what that is answered with ample memory, and what is seen then.
@@ -77,11 +77,31 @@ fn make_call(
     if mode == Mode::Always {
         return Ok(wanted.before);
     }
+    let then = keeper.view().machine().turns();
     let again = keeper.call(alloc, call);
     if is_lacking(&again) {
         return breaks("the same call, made again, is accepted", "");
     }
+    let made = keeper.view().machine().turns().wrapping_sub(then);
+    turned_back(call, then.wrapping_sub(turns), made)?;
     judge(keeper, &again, wanted, *met, mode)
+}
+
+// Whether a call that found no memory has made as many exchanges as it turned back, `turned` in all, where the call made again makes
+// `made`. A Finish and a Redo may find none half way. Any other call finds none before its first exchange, or behind its last.
+fn turned_back(call: &Call, turned: u64, made: u64) -> Result<(), Broken> {
+    let twice = made.wrapping_mul(2);
+    let is_so = match call {
+        Call::Redo { .. } | Call::Do(Step::Finish { .. }) => turned % 2 == 0 && turned <= twice,
+        _ => turned == 0 || turned == twice,
+    };
+    if is_so {
+        return Ok(());
+    }
+    breaks(
+        "a call that finds no memory turns back what it has made",
+        "",
+    )
 }
 
 // Whether an answer and the keeper are what they are with ample memory, or may be once calls were left out; and whether a call that was

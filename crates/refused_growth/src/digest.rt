@@ -57,6 +57,7 @@ impl Digest {
         self.add(match op {
             Op::Fetch => 0,
             Op::Store => 1,
+            Op::Discard => 2,
         });
     }
 
@@ -76,6 +77,7 @@ impl Digest {
                 self.add_bytes(bytes.as_slice());
             }
             BioResult::Written => self.add(2),
+            BioResult::Discarded => self.add(4),
             BioResult::IoError(kind) => {
                 self.add(3);
                 self.add_kind(*kind);

@@ -12,7 +12,8 @@ use plain::DeviceCall;
 use sector_core::{Class, Config, ConfigDraft, Op, Outcome, Range};
 use std::alloc::{AllocError, Global};
 
-const SECTORS: u64 = 1024;
+/// So many sectors a host has.
+pub const SECTORS: u64 = 1024;
 
 /// The usual configuration. This has no clauses, so that nothing carries the limits of its numbers.
 pub fn usual() -> Result<Config, AllocError> {
@@ -52,40 +53,43 @@ fn made(alloc: Global, workers: u8) -> Option<HostFault> {
     }
 }
 
-// A host of two devices; those who play are client 0, device 0 and the operator.
+/// A host of two devices; those who play are client 0, device 0 and the operator.
 #[derive(Drop)]
-struct Host {
-    core: Core,
+pub struct Host {
+    /// Its core.
+    pub core: Core,
     callers: Vec<Caller>,
     devices: Vec<DeviceSeat>,
     operator: OperatorSeat,
 }
 
-// The call of a seat.
+/// The call of a seat.
 #[derive(Drop)]
-enum Act {
+pub enum Act {
     Client(ClientCall),
     Device(DeviceCall),
     Operator(OperatorCall),
 }
 
-// What a turn came to: the reply, whether that call found no memory, whether it was accepted, and whether a request was dispatched.
+/// What a turn came to: the reply, whether that call found no memory, whether it was accepted, and whether a request was dispatched.
 #[derive(Clone, Copy)]
-struct Played {
+pub struct Played {
     reply: Digest,
     is_lacking: bool,
-    is_accepted: bool,
+    /// Whether it was accepted.
+    pub is_accepted: bool,
     dispatched: bool,
 }
 
-// A turn with ample memory, and what is seen behind it.
+/// A turn with ample memory, and what is seen behind it.
 #[derive(Clone, Copy)]
-struct Wanted {
+pub struct Wanted {
     played: Played,
     look: Seen,
 }
 
-fn opened(alloc: Global) -> Result<Host, AllocError> {
+/// A new host.
+pub fn opened(alloc: Global) -> Result<Host, AllocError> {
     let Ok((core, callers, devices, operator)) = host(alloc, usual()?, SECTORS, 2) else {
         return Err(AllocError);
     };
@@ -119,8 +123,8 @@ fn finish(issue: u64, outcome: Outcome) -> Act {
     })
 }
 
-// A store is sent in the turn of its submit, and taken, done and reaped; so is a fetch. Then the operator goes back and forth.
-fn acts(alloc: Global) -> Result<Vec<Act>, AllocError> {
+/// A store is sent in the turn of its submit, and taken, done and reaped; so is a fetch. Then the operator goes back and forth.
+pub fn acts(alloc: Global) -> Result<Vec<Act>, AllocError> {
     let mut acts = Vec::new(alloc);
     acts.push(Act::Client(ClientCall::Attach {
         group: 0,
@@ -172,16 +176,17 @@ pub fn turn_row(alloc: Global, mode: Mode) -> Verdict {
     Verdict::Kept(met)
 }
 
-// A host before its first turn, the calls, these once more from the last to the first, and what the turns come to with ample memory.
+/// A host before its first turn, the calls, these once more from the last to the first, and what the turns come to with ample memory.
 #[derive(Drop)]
-struct Ready {
-    host: Host,
-    acts: Vec<Act>,
-    spares: Vec<Act>,
-    wanted: Vec<Wanted>,
+pub struct Ready {
+    pub host: Host,
+    pub acts: Vec<Act>,
+    pub spares: Vec<Act>,
+    pub wanted: Vec<Wanted>,
 }
 
-fn get_ready(alloc: Global) -> Result<Ready, AllocError> {
+/// A host, and all that stands before its turns.
+pub fn get_ready(alloc: Global) -> Result<Ready, AllocError> {
     let mut first = opened(alloc)?;
     let mut wanted = Vec::new(alloc);
     for act in acts(alloc)? {
@@ -204,8 +209,8 @@ fn get_ready(alloc: Global) -> Result<Ready, AllocError> {
     })
 }
 
-// Stages a call, has the core take a turn, and collects the reply.
-fn play(alloc: Global, host: &mut Host, act: Act) -> Played {
+/// Stages a call, has the core take a turn, and collects the reply.
+pub fn play(alloc: Global, host: &mut Host, act: Act) -> Played {
     stage(host, act);
     let report = host.core.turn(alloc);
     let mut played = Played {
@@ -267,7 +272,8 @@ fn may_undo(host: &Host, act: &Act) -> bool {
     }
 }
 
-fn play_one(
+/// Plays a turn with a call, and compares what comes of it. If it finds no memory the spare is staged, if one request alone is refused.
+pub fn play_one(
     alloc: Global,
     mode: Mode,
     host: &mut Host,

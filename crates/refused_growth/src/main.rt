@@ -14,6 +14,8 @@
 //! | `work MODE` | work of a device: a fetch, and a store |
 //! | `serve MODE` | a session over a keeper, on one thread |
 //! | `feed MODE` | a stream of three pieces |
+//! | `record MODE` | turns of a host, each recorded behind it |
+//! | `look MODE` | looks at a host, and a script of looks |
 //! | `words MODE` | each command of the operator, read from its words |
 //! | `nothing MODE` | nothing |
 //!
@@ -38,9 +40,11 @@ mod calls;
 mod devices;
 mod digest;
 mod hosts;
+mod looks;
 mod options;
 mod prepared;
 mod recorder;
+mod records;
 mod rows;
 mod runs;
 mod seen;

@@ -2,8 +2,10 @@
 use crate::calls::make_calls;
 use crate::devices::work_row;
 use crate::hosts::{host_row, turn_row};
+use crate::looks::look_row;
 use crate::options::{Setting, setting_of};
 use crate::prepared::{Prepared, prepare};
+use crate::records::record_row;
 use crate::runs::run_calls;
 use crate::sessions::{feed_row, serve_row};
 use crate::verdict::{Met, Mode, Verdict};
@@ -109,6 +111,10 @@ fn short_row(alloc: Global, mode: Mode, row: &[u8]) -> Verdict {
         serve_row(alloc, mode)
     } else if row == b"feed".as_slice() {
         feed_row(alloc, mode)
+    } else if row == b"record".as_slice() {
+        record_row(alloc, mode)
+    } else if row == b"look".as_slice() {
+        look_row(alloc, mode)
     } else if row == b"words".as_slice() {
         words_row()
     } else if row == b"nothing".as_slice() {

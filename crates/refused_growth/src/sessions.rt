@@ -9,7 +9,7 @@ use history::Keeper;
 use host_calls::ClientCall;
 use plain::{Answer, Call, Code, Reply, Step};
 use sector_core::{Class, Op, Range};
-use session_proto::{Client, EndCause, Feeder, SessionEnd, serve};
+use session_proto::{Client, ClientFeeder, EndCause, SessionEnd, serve};
 use session_solo::Solo;
 use std::alloc::{AllocError, Global};
 
@@ -106,8 +106,8 @@ fn judge_ended(mode: Mode, written: &[u8], left: &Answer, mut met: Met) -> Resul
     }
 }
 
-// Whether bytes are whole frames.
-fn is_whole(bytes: &[u8]) -> bool {
+/// Whether bytes are whole frames.
+pub fn is_whole(bytes: &[u8]) -> bool {
     let mut rest = bytes;
     for _ in 0..bytes.len() {
         let [_, _, high, low, left @ ..] = rest else {
@@ -122,8 +122,8 @@ fn is_whole(bytes: &[u8]) -> bool {
     rest.is_empty()
 }
 
-// Whether these are the first of those.
-fn is_front(bytes: &[u8], all: &[u8]) -> bool {
+/// Whether these are the first of those.
+pub fn is_front(bytes: &[u8], all: &[u8]) -> bool {
     match all.get(..bytes.len()) {
         Some(front) => front == bytes,
         None => false,
@@ -195,7 +195,7 @@ pub fn feed_row(alloc: Global, mode: Mode) -> Verdict {
 fn feed_all(alloc: Global, mode: Mode, stream: &Stream) -> Result<Met, Broken> {
     let mut met = Met::new();
     let mut values = Digest::new();
-    let mut feeder = Feeder::<Client>::new(alloc);
+    let mut feeder = ClientFeeder::new(alloc);
     let bytes = stream.bytes.as_slice();
     for (from, to) in [(0, 20), (20, 300), (300, bytes.len())] {
         let piece = bytes.get(from..to).unwrap_or(&[]);
@@ -218,7 +218,7 @@ fn feed_all(alloc: Global, mode: Mode, stream: &Stream) -> Result<Met, Broken> {
 }
 
 // Feeds a piece, and adds its values. Gives whether there was memory for it.
-fn feed_one(alloc: Global, feeder: &mut Feeder<Client>, piece: &[u8], values: &mut Digest) -> bool {
+fn feed_one(alloc: Global, feeder: &mut ClientFeeder, piece: &[u8], values: &mut Digest) -> bool {
     match feeder.feed(alloc, piece) {
         Ok(fed) => {
             for Client(call) in fed.values {

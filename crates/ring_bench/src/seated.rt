@@ -150,6 +150,15 @@ fn client_call(alloc: Global, line: Line) -> Result<Option<(u8, ClientCall)>, Al
             let payload = filled(alloc, range.count, byte)?;
             Some((seat, submit(session, Op::Store, range, payload)))
         }
+        Line::Discard {
+            seat,
+            session,
+            start,
+            count,
+        } => Some((
+            seat,
+            submit(session, Op::Discard, range_of(start, count), Bytes::new()),
+        )),
         Line::Reap { seat, session } => Some((seat, ClientCall::Reap { session })),
         Line::Leave { seat } => Some((seat, ClientCall::Leave { why: Why::Ended })),
         _ => None,

@@ -3,8 +3,6 @@ use Rattle.std.specs.Prelude.{◌≡◌, ℕ, ◌+◌, ◌-◌, ◌<◌, ◌≤�
 use Rattle.std.specs.Int.{w8, w64}
 use Rattle.sector_core.specs.declared.bio.Outcome.{Outcome}
 use Rattle.sector_core.specs.declared.bio.Outcome.TheVariants as outcome
-use Rattle.sector_core.specs.declared.class.Class.{Class}
-use Rattle.sector_core.specs.declared.class.Class.TheVariants.{RealTime, BestEffort, Idle}
 use Rattle.plain.specs.declared.step.Why.{Why}
 use Rattle.plain.specs.declared.step.Why.TheVariants.{Ended, ReadFault, WriteFault, BadFrame, FrameLimit}
 use Rattle.host_calls.specs.declared.operator.OperatorCall.{OperatorCall}
@@ -12,24 +10,15 @@ use Rattle.host_calls.specs.declared.operator.OperatorCall.TheVariants.{Stop}
 use Rattle.session_proto.specs.declared.fault.Fault.{Fault}
 use Rattle.session_proto.specs.declared.fault.Fault.TheVariants.{BadKind, BadBody}
 use Rattle.session_proto.specs.Fields.{◌>>=◌, big_endian, number_at, ended, named}
+use Rattle.session_proto.specs.declared.version.Version.TheVariants.{Two}
 use Rattle.session_proto.specs.Kinds.{read_by}
 use Rattle.session_proto.specs.Client.{client_body, ClientFits, client_at}
 use Rattle.session_proto.specs.Operator.{operator_body, OperatorFits, operator_at}
 use Rattle.session_proto.specs.Host.{fail_number, fail_of_number}
 use Rattle.run_record.specs.declared.entry.Entry.{Entry}
-use Rattle.run_record.specs.declared.entry.Entry.TheVariants.{Client, Attach, Leave, Finish, Requeue, Operator, Dispatch}
+use Rattle.run_record.specs.declared.entry.Entry.TheVariants.{Client, Leave, Finish, Requeue, Operator, Dispatch}
 
 -- ---- how an entry is spelled
-
--- the number of a class in an Attach (our format: best effort is spelled by the client's own kind alone)
-abbrev pub class_number : Class → ℕ
-class_number RealTime = 1
-class_number BestEffort = 2
-class_number Idle = 3
-
--- the class whose number it is, but for best effort (our format)
-unfoldable pub class_of_number : ℕ → Option Class
-class_of_number n = if n == 1 then Some RealTime else if n == 3 then Some Idle else None
 
 -- the number of a cause to leave (our format: that its client has ended is spelled by the client's own kind alone)
 abbrev pub why_number : Why → ℕ
@@ -47,7 +36,6 @@ why_of_number n =
 -- whose entry it is: a client by its seat, a device by its number, the operator, or the host's core (our format)
 abbrev pub who_number : Entry → ℕ
 who_number (Client seat call) = seat
-who_number (Attach seat group prio class) = seat
 who_number (Leave seat why) = seat
 who_number (Finish worker tag issue o) = 0x40 + worker
 who_number (Requeue worker tag issue) = 0x40 + worker
@@ -64,10 +52,9 @@ finish_body tag issue outcome.Stored = 0x21 ∷ flight_bytes tag issue
 finish_body tag issue (outcome.Fetched bytes) = 0x22 ∷ flight_bytes tag issue ++ bytes
 finish_body tag issue (outcome.Failed kind) = 0x23 ∷ flight_bytes tag issue ++ big_endian w8 (fail_number kind)
 
--- the call of an entry: a client's and the operator's are spelled as on their sockets (our format)
+-- the call of an entry: a client's and the operator's are spelled as on their sockets, a client's in version 2 (our format)
 abbrev pub call_body : Entry → List ℕ
 call_body (Client seat call) = client_body call.0
-call_body (Attach seat group prio class) = 0x08 ∷ big_endian w8 group ++ (big_endian w8 prio ++ big_endian w8 (class_number class))
 call_body (Leave seat why) = 0x09 ∷ big_endian w8 (why_number why)
 call_body (Finish worker tag issue o) = finish_body tag issue o
 call_body (Requeue worker tag issue) = 0x24 ∷ flight_bytes tag issue
@@ -93,8 +80,7 @@ OutcomeFits (outcome.Failed kind) = Unit {0}
 
 -- the call of an entry fits its fields; what the client's own kinds spell has no other spelling (our format)
 abbrev pub CallFits : Entry → Type 0
-CallFits (Client seat call) = ClientFits call.0
-CallFits (Attach seat group prio class) = (group < 2 ^ 8) × (prio < 2 ^ 8) × (class_of_number (class_number class) ≡ Some class)
+CallFits (Client seat call) = ClientFits Two call.0
 CallFits (Leave seat why) = why_of_number (why_number why) ≡ Some why
 CallFits (Finish worker tag issue o) = (tag < 2 ^ 8) × (issue < 2 ^ 64) × OutcomeFits o
 CallFits (Requeue worker tag issue) = (tag < 2 ^ 8) × (issue < 2 ^ 64)
@@ -104,7 +90,6 @@ CallFits Dispatch = Unit {0}
 -- there are 16 seats of clients and 4 devices (our profile)
 abbrev pub WhoFits : Entry → Type 0
 WhoFits (Client seat call) = seat < 16
-WhoFits (Attach seat group prio class) = seat < 16
 WhoFits (Leave seat why) = seat < 16
 WhoFits (Finish worker tag issue o) = worker < 4
 WhoFits (Requeue worker tag issue) = worker < 4
@@ -117,15 +102,6 @@ EntryFits entry = WhoFits entry × CallFits entry
 
 -- ---- how it is read
 
--- an Attach with a class: a byte of group, one of priority and one of class (our format)
-unfoldable pub class_attach_at : ℕ → List ℕ → Result Entry Fault
-class_attach_at seat fields = do
-  group ← number_at w8 fields
-  prio ← number_at w8 group.1
-  number ← number_at w8 prio.1
-  class ← named (class_of_number number.0)
-  ended (Attach seat group.0 prio.0 class) number.1
-
 -- a Leave: a byte of its cause (our format)
 unfoldable pub leave_at : ℕ → List ℕ → Result Entry Fault
 leave_at seat fields = do
@@ -133,19 +109,16 @@ leave_at seat fields = do
   why ← named (why_of_number number.0)
   ended (Leave seat why) number.1
 
--- a client's call as on its socket (our format)
+-- a client's call as on its socket, in version 2 (our format)
 unfoldable pub client_entry_at : ℕ → List ℕ → Result Entry Fault
 client_entry_at seat body = do
-  call ← client_at body
+  call ← client_at Two body
   Ok (Client seat call)
 
--- a client's entry: the two kinds that its socket does not have, or one of its socket (our format)
+-- a client's entry: the kind that its socket does not have, or one of its socket (our format)
 abbrev pub seat_at : ℕ → List ℕ → Result Entry Fault
 seat_at seat [] = Err BadKind
-seat_at seat (kind ∷ fields) =
-    if kind == 0x08 then class_attach_at seat fields
-    else if kind == 0x09 then leave_at seat fields
-    else client_entry_at seat (kind ∷ fields)
+seat_at seat (kind ∷ fields) = if kind == 0x09 then leave_at seat fields else client_entry_at seat (kind ∷ fields)
 
 -- a tag and an issue, and what follows them (our format)
 unfoldable pub flight_at : List ℕ → Result (ℕ × ℕ × List ℕ) Fault

@@ -8,19 +8,19 @@ use Rattle.sector_core.specs.declared.bio.FailKind.{FailKind}
 use Rattle.sector_core.specs.declared.bio.FailKind.TheVariants as fail
 use Rattle.sector_core.specs.declared.bio.Outcome.{Outcome}
 use Rattle.sector_core.specs.declared.bio.Outcome.TheVariants as outcome
-use Rattle.sector_core.specs.declared.class.Class.{Class}
 use Rattle.sector_core.specs.declared.class.Class.TheVariants.{RealTime, BestEffort, Idle}
 use Rattle.plain.specs.declared.step.Why.{Why}
 use Rattle.plain.specs.declared.step.Why.TheVariants.{Ended, ReadFault, WriteFault, BadFrame, FrameLimit}
 use Rattle.host_calls.specs.declared.client.ClientCall.{ClientCall}
 use Rattle.host_calls.specs.declared.client.ClientCall.TheVariants as Asked
 use Rattle.host_calls.specs.declared.operator.OperatorCall.{OperatorCall}
-use Rattle.sector_core.specs.declared.bio.Op.TheVariants.{Fetch, Store}
+use Rattle.sector_core.specs.declared.bio.Op.TheVariants as op
 use Rattle.session_proto.specs.Frame.{IsBytes}
 use Rattle.session_proto.specs.declared.client.Client.{Client as Call}
 use Rattle.session_proto.specs.declared.operator.Operator.{Operator as Command}
 use Rattle.session_proto.specs.declared.fault.Fault.{Fault}
 use Rattle.session_proto.specs.declared.fault.Fault.TheVariants.{BadKind, BadBody}
+use Rattle.session_proto.specs.declared.version.Version.TheVariants.{Two}
 use Rattle.session_proto.specs.Kinds.{read_by}
 use Rattle.session_proto.specs.Fields.{◌>>=◌, big_endian, number_at, ended, named}
 use Rattle.session_proto.specs.FieldLaws.{done, wide8, wide64, IsBytes-rest, bind_ok, test_ok, guard_ok, ok_value, number_is, number_again, last_again, ended_is, ended_again, named_is, named_of_two}
@@ -31,19 +31,10 @@ use Rattle.session_proto.specs.Operator.{operator_body, OperatorFits, operator_a
 use Rattle.session_proto.specs.OperatorLaws.{operator_is, operator_again, operator_in_limits}
 use Rattle.session_proto.specs.Host.{fail_number, fail_of_number}
 use Rattle.run_record.specs.declared.entry.Entry.{Entry}
-use Rattle.run_record.specs.declared.entry.Entry.TheVariants.{Client, Attach, Leave, Finish, Requeue, Operator, Dispatch}
-use Rattle.run_record.specs.Entry.{class_number, class_of_number, why_number, why_of_number, who_number, flight_bytes, call_body, entry_body, is_stop, OutcomeFits, CallFits, WhoFits, EntryFits, class_attach_at, leave_at, client_entry_at, seat_at, flight_at, stored_at, fetched_at, failed_at, requeue_at, device_kinds, operator_entry_at, core_kinds, entry_of_who, entry_at}
+use Rattle.run_record.specs.declared.entry.Entry.TheVariants.{Client, Leave, Finish, Requeue, Operator, Dispatch}
+use Rattle.run_record.specs.Entry.{why_number, why_of_number, who_number, flight_bytes, call_body, entry_body, is_stop, OutcomeFits, CallFits, WhoFits, EntryFits, leave_at, client_entry_at, seat_at, flight_at, stored_at, fetched_at, failed_at, requeue_at, device_kinds, operator_entry_at, core_kinds, entry_of_who, entry_at}
 
 -- ---- numbers that name
-
-number-class_of_number : (n : ℕ) (class : Class) → class_of_number n ≡ Some class → class_number class ≡ n
-unfolding class_of_number
-number-class_of_number n class e = named_of_two class_number 1 3 RealTime Idle refl refl n class e
-
-class_number-below : (class : Class) → class_number class < 2 ^ 8
-class_number-below RealTime = omega arith
-class_number-below BestEffort = omega arith
-class_number-below Idle = omega arith
 
 found_or : {X : Type 0} (b : Bool) (x : X) (rest : Option X) (v : X) → cond b (Some x) rest ≡ Some v → ((b ≡ true) × (x ≡ v)) ⊎ (rest ≡ Some v)
 found_or true x rest v e = inl (refl, cc)
@@ -176,26 +167,6 @@ device_spells worker few body v are e =
 
 -- ---- kinds of a client
 
-class_attach_spells : (seat : ℕ) → seat < 16 → Spells call_body (IsOf seat) 0x08 (class_attach_at seat)
-unfolding class_attach_at
-class_attach_spells seat few fields v are e =
-    let b = bind_ok (number_at w8 fields) (λ g. number_at w8 g.1 >>= λ p. number_at w8 p.1 >>= λ n. named (class_of_number n.0) >>= λ class. ended (Attach seat g.0 p.0 class) n.1) v e in
-    let g = number_is w8 (2 ^ 8) wide8 fields b.0 are b.1 in
-    let c = bind_ok (number_at w8 b.0.1) (λ p. number_at w8 p.1 >>= λ n. named (class_of_number n.0) >>= λ class. ended (Attach seat b.0.0 p.0 class) n.1) v b.2 in
-    let p = number_is w8 (2 ^ 8) wide8 b.0.1 c.0 g.are c.1 in
-    let d = bind_ok (number_at w8 c.0.1) (λ n. named (class_of_number n.0) >>= λ class. ended (Attach seat b.0.0 c.0.0 class) n.1) v c.2 in
-    let n = number_is w8 (2 ^ 8) wide8 c.0.1 d.0 p.are d.1 in
-    let k = bind_ok (named (class_of_number d.0.0)) (λ class. ended (Attach seat b.0.0 c.0.0 class) d.0.1) v d.2 in
-    let found = named_is (class_of_number d.0.0) k.0 k.1 in
-    let told = number-class_of_number d.0.0 k.0 found in
-    let end = ended_is (Attach seat b.0.0 c.0.0 k.0) v d.0.1 k.2 in
-    let last : c.0.1 ≡ big_endian w8 (class_number k.0) =
-    n.parts ∙ ap (λ (x : List ℕ). big_endian w8 d.0.0 ++ x) end.1 ∙ append-nil (big_endian w8 d.0.0) ∙ ap (big_endian w8) (sym told) in
-    let whole : fields ≡ big_endian w8 b.0.0 ++ (big_endian w8 c.0.0 ++ big_endian w8 (class_number k.0)) =
-    g.parts ∙ ap (λ (x : List ℕ). big_endian w8 b.0.0 ++ x) (p.parts ∙ ap (λ (x : List ℕ). big_endian w8 c.0.0 ++ x) last) in
-    subst (λ x. IsOf seat x × (0x08 ∷ fields ≡ call_body x)) end.0
-    (((few, (g.below, p.below, ap class_of_number told ∙ found)), refl), ap (λ (x : List ℕ). 0x08 ∷ x) whole)
-
 leave_spells : (seat : ℕ) → seat < 16 → Spells call_body (IsOf seat) 0x09 (leave_at seat)
 unfolding leave_at
 leave_spells seat few fields v are e =
@@ -213,8 +184,8 @@ client_entry_spells : (seat : ℕ) → seat < 16 → (body : List ℕ) (v : Entr
     → IsOf seat v × (body ≡ call_body v)
 unfolding client_entry_at
 client_entry_spells seat few body v are e =
-    let b = bind_ok (client_at body) (λ call. Ok (Client seat call)) v e in
-    let found = client_is body b.0 are b.1 in
+    let b = bind_ok (client_at Two body) (λ call. Ok (Client seat call)) v e in
+    let found = client_is Two body b.0 are b.1 in
     subst (λ x. IsOf seat x × (body ≡ call_body x)) (ok_value (Client seat b.0) v b.2) (((few, found.0), refl), found.1)
 
 -- where nothing is read
@@ -232,17 +203,11 @@ one_or false r s v e = inr (refl, e)
 seat_spells : (seat : ℕ) → seat < 16 → (body : List ℕ) (v : Entry) → IsBytes body → seat_at seat body ≡ Ok v → IsOf seat v × (body ≡ call_body v)
 seat_spells seat few [] v are e = absurd cc
 seat_spells seat few (kind ∷ fields) v are e =
-    elim (one_or (eqb kind 0x08) (class_attach_at seat fields) _ v e) [
-      | inl h ↦
-          let found = class_attach_spells seat few fields v (IsBytes-rest kind fields are) h.1 in
-          (found.0, ap (λ (n : ℕ). n ∷ fields) (eqb-true kind 0x08 h.0) ∙ found.1)
-      | inr h ↦
-          elim (one_or (eqb kind 0x09) (leave_at seat fields) (client_entry_at seat (kind ∷ fields)) v h.1) [
-            | inl k ↦
-                let found = leave_spells seat few fields v (IsBytes-rest kind fields are) k.1 in
-                (found.0, ap (λ (n : ℕ). n ∷ fields) (eqb-true kind 0x09 k.0) ∙ found.1)
-            | inr k ↦ client_entry_spells seat few (kind ∷ fields) v are k.1
-          ]
+    elim (one_or (eqb kind 0x09) (leave_at seat fields) (client_entry_at seat (kind ∷ fields)) v e) [
+      | inl k ↦
+          let found = leave_spells seat few fields v (IsBytes-rest kind fields are) k.1 in
+          (found.0, ap (λ (n : ℕ). n ∷ fields) (eqb-true kind 0x09 k.0) ∙ found.1)
+      | inr k ↦ client_entry_spells seat few (kind ∷ fields) v are k.1
     ]
 
 -- ---- the operator's, and the core's
@@ -287,33 +252,24 @@ requeue_again worker tag issue low lt =
     let same = ap flight_at (sym (append-nil (flight_bytes tag issue))) ∙ flight_again tag issue [] low lt in
     rw same (ended_again (Requeue worker tag issue))
 
-class_attach_again : (seat group prio : ℕ) (class : Class) → group < 2 ^ 8 → prio < 2 ^ 8 → class_of_number (class_number class) ≡ Some class
-    → class_attach_at seat (big_endian w8 group ++ (big_endian w8 prio ++ big_endian w8 (class_number class))) ≡ Ok (Attach seat group prio class)
-unfolding class_attach_at
-class_attach_again seat group prio class low lt named =
-    let number = class_number class in
-    rw (
-      number_again w8 (2 ^ 8) wide8 group (big_endian w8 prio ++ big_endian w8 number) low,
-      number_again w8 (2 ^ 8) wide8 prio (big_endian w8 number) lt,
-      last_again w8 (2 ^ 8) wide8 number (class_number-below class),
-      named,
-    ) (ended_again (Attach seat group prio class))
-
 leave_again : (seat : ℕ) (why : Why) → why_of_number (why_number why) ≡ Some why → leave_at seat (big_endian w8 (why_number why)) ≡ Ok (Leave seat why)
 unfolding leave_at
 leave_again seat why named = rw (last_again w8 (2 ^ 8) wide8 (why_number why) (why_number-below why), named) (ended_again (Leave seat why))
 
--- the kinds of a client's socket are none of the two
+-- no kind of a client's socket is the other one
 own_kind : (seat : ℕ) (call : ClientCall) → seat_at seat (client_body call) ≡ client_entry_at seat (client_body call)
-own_kind seat (Asked.Attach group prio class) = refl
-own_kind seat (Asked.Submit session Fetch range payload) = refl
-own_kind seat (Asked.Submit session Store range payload) = refl
+own_kind seat (Asked.Attach group prio RealTime) = refl
+own_kind seat (Asked.Attach group prio BestEffort) = refl
+own_kind seat (Asked.Attach group prio Idle) = refl
+own_kind seat (Asked.Submit session op.Fetch range payload) = refl
+own_kind seat (Asked.Submit session op.Store range payload) = refl
+own_kind seat (Asked.Submit session op.Discard range payload) = refl
 own_kind seat (Asked.Reap session) = refl
 own_kind seat (Asked.Leave why) = refl
 
-client_again_at : (seat : ℕ) (call : Call) → ClientFits call.0 → seat_at seat (client_body call.0) ≡ Ok (Client seat call)
+client_again_at : (seat : ℕ) (call : Call) → ClientFits Two call.0 → seat_at seat (client_body call.0) ≡ Ok (Client seat call)
 unfolding client_entry_at
-client_again_at seat call fits = own_kind seat call.0 ∙ rw (client_again call fits) refl
+client_again_at seat call fits = own_kind seat call.0 ∙ rw (client_again Two call fits) refl
 
 operator_again_at : (call : Command) → OperatorFits call.0 → is_stop call.0 ≡ false → operator_entry_at (operator_body call.0) ≡ Ok (Operator call)
 unfolding operator_entry_at
@@ -332,8 +288,6 @@ seat_who seat body lt = rw (lt-ltb seat 16 lt) refl
 
 pub entry_again : (v : Entry) → EntryFits v → entry_at (entry_body v) ≡ Ok v
 entry_again (Client seat call) fits = seat_who seat (client_body call.0) fits.0 ∙ client_again_at seat call fits.1
-entry_again (Attach seat group prio class) fits =
-    seat_who seat (call_body (Attach seat group prio class)) fits.0 ∙ class_attach_again seat group prio class fits.1.0 fits.1.1 fits.1.2
 entry_again (Leave seat why) fits = seat_who seat (call_body (Leave seat why)) fits.0 ∙ leave_again seat why fits.1
 entry_again (Finish worker tag issue outcome.Stored) fits =
     device_who worker (call_body (Finish worker tag issue outcome.Stored)) fits.0 ∙ stored_again worker tag issue fits.1.0 fits.1.1
@@ -387,11 +341,7 @@ entry_spelled (who ∷ body) v are few e = who_spelled who body v (IsBytes-rest 
 -- ---- lengths
 
 pub entry_in_limits : (v : Entry) → EntryFits v → (0 < length (entry_body v)) × (length (entry_body v) ≤ 131083)
-entry_in_limits (Client seat call) fits = (omega arith, omega (arith, (client_in_limits call fits.1).1))
-entry_in_limits (Attach seat group prio class) fits =
-    let inner = length-append (big_endian w8 prio) (big_endian w8 (class_number class)) in
-    let size = length-append (big_endian w8 group) (big_endian w8 prio ++ big_endian w8 (class_number class)) in
-    (omega arith, omega (arith, size, inner, wide8.len group, wide8.len prio, wide8.len (class_number class)))
+entry_in_limits (Client seat call) fits = (omega arith, omega (arith, (client_in_limits Two call fits.1).1))
 entry_in_limits (Leave seat why) fits = (omega arith, omega (arith, wide8.len (why_number why)))
 entry_in_limits (Finish worker tag issue outcome.Stored) fits = (omega arith, omega (arith, length-flight_bytes tag issue))
 entry_in_limits (Finish worker tag issue (outcome.Fetched bytes)) fits =

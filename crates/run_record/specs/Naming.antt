@@ -9,12 +9,11 @@ use Rattle.host_calls.specs.declared.seat.SeatName.TheVariants as name
 use Rattle.host_calls.specs.Asked.{client_call, operator_call}
 use Rattle.run_record.specs.Entry.{EntryFits}
 use Rattle.run_record.specs.declared.entry.Entry.{Entry}
-use Rattle.run_record.specs.declared.entry.Entry.TheVariants.{Client, Attach, Leave, Finish, Requeue, Operator, Dispatch}
+use Rattle.run_record.specs.declared.entry.Entry.TheVariants.{Client, Leave, Finish, Requeue, Operator, Dispatch}
 
 -- whose entry it is, and the call; Stop is no call of the keeper (our profile)
 abbrev pub parts_of : Entry → Option (SeatName × Call)
 parts_of (Client seat call) = Some (name.Client seat, client_call seat call.0)
-parts_of (Attach seat group prio class) = Some (name.Client seat, Do (step.Attach seat group prio class))
 parts_of (Leave seat why) = Some (name.Client seat, Do (step.Leave seat why))
 parts_of (Finish worker tag issue outcome) = Some (name.Device worker, Do (step.Finish tag issue outcome))
 parts_of (Requeue worker tag issue) = Some (name.Device worker, Do (step.Requeue tag issue))

@@ -7,34 +7,23 @@ ghost use Rattle.session_proto.specs.Kinds.{read_by};
 ghost use Rattle.run_record.specs.EntryLaws.{entry_in_limits, entry_again, entry_spelled};
 
 use crate::devices::{device_entry, put_finish, put_flight};
-use crate::seats::{put_class_attach, put_leave, seat_entry};
+use crate::seats::{put_leave, seat_entry};
 use host_calls::OperatorCall;
 use plain::Why;
-use sector_core::{Class, Outcome};
+use sector_core::Outcome;
 use session_proto::fields::{BAD_BODY, ended};
-use session_proto::{Client, Fault, Operator, ReadError, Side};
+use session_proto::{Client, Fault, Operator, ReadError, Side, Version};
 use std::alloc::{AllocError, Global};
 
 /// An entry of a record: an accepted call, and whose it is. Of the host's journal each entry has one spelling, and so one of these.
 #[derive(Drop)]
 pub enum Entry {
-    /// A client's call that has a frame on its socket, in version 1.
+    /// A client's call that has a frame on its socket, in version 2.
     Client {
         /// Its seat, 0 to 15.
         seat: u8,
         /// The call.
         call: Client,
-    },
-    /// A client's Attach of another class than best effort.
-    Attach {
-        /// Its seat, 0 to 15.
-        seat: u8,
-        /// The group.
-        group: u8,
-        /// The priority, 0 to 7.
-        prio: u8,
-        /// The class, real time or idle.
-        class: Class,
     },
     /// A Leave for another cause than that the client has ended.
     Leave {
@@ -74,27 +63,27 @@ impl Side for Entry {
 
     ghost body = { entry_body };
 
-    ghost fits = { EntryFits };
+    ghost fits = { λ _. EntryFits };
 
-    ghost body_at = { entry_at };
+    ghost body_at = { λ _. entry_at };
 
     ghost few = { Prim.search rules };
 
-    ghost in_limits = { entry_in_limits };
+    ghost in_limits = { λ _. entry_in_limits };
 
-    ghost again = { entry_again };
+    ghost again = { λ _. entry_again };
 
-    ghost spelled = { entry_spelled };
+    ghost spelled = { λ _. entry_spelled };
 
     // That of a Finish with the bytes of 256 sectors.
     const MOST: u32 = 131_083;
 
-    fn put_body(&self, out: &mut Vec<u8>) -> Result<(), AllocError> {
+    fn put_body(&self, _version: Version, out: &mut Vec<u8>) -> Result<(), AllocError> {
         out.push(who_of(self))?;
         put_call(out, self)
     }
 
-    fn read_body(alloc: Global, bytes: &[u8]) -> Result<Entry, ReadError> {
+    fn read_body(alloc: Global, _version: Version, bytes: &[u8]) -> Result<Entry, ReadError> {
         let Some((who, body)) = bytes.split_first() else {
             return Err(ReadError::Fault(Fault::BadKind));
         };
@@ -109,7 +98,6 @@ fn who_of(entry: &Entry) -> u8
 {
     match entry {
         Entry::Client { seat, .. } => *seat,
-        Entry::Attach { seat, .. } => *seat,
         Entry::Leave { seat, .. } => *seat,
         Entry::Finish { worker, .. } => 0x40 + *worker,
         Entry::Requeue { worker, .. } => 0x40 + *worker,
@@ -124,13 +112,7 @@ fn put_call(out: &mut Vec<u8>, entry: &Entry) -> Result<(), AllocError>
     ensures { OnOk result (out.new.items ≡ out.old.items ++ call_body entry.now) }
 {
     match entry {
-        Entry::Client { call, .. } => call.put_body(out),
-        Entry::Attach {
-            group,
-            prio,
-            class,
-            ..
-        } => put_class_attach(out, *group, *prio, *class),
+        Entry::Client { call, .. } => call.put_body(Version::Two, out),
         Entry::Leave { why, .. } => put_leave(out, *why),
         Entry::Finish {
             tag,
@@ -142,7 +124,7 @@ fn put_call(out: &mut Vec<u8>, entry: &Entry) -> Result<(), AllocError>
             out.push(0x24)?;
             put_flight(out, *tag, *issue)
         }
-        Entry::Operator(call) => call.put_body(out),
+        Entry::Operator(call) => call.put_body(Version::One, out),
         Entry::Dispatch => {
             out.push(0x31)?;
             Ok(())
@@ -174,7 +156,7 @@ fn entry_of(alloc: Global, who: u8, body: &[u8]) -> Result<Entry, ReadError>
 fn operator_entry(alloc: Global, body: &[u8]) -> Result<Entry, ReadError>
     ensures { Gives result (operator_entry_at body.now) }
 {
-    let call = Operator::read_body(alloc, body)?;
+    let call = Operator::read_body(alloc, Version::One, body)?;
     if is_stop(call.0) {
         return Err(ReadError::Fault(Fault::BadKind));
     }

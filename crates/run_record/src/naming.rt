@@ -11,7 +11,7 @@ use crate::entry::Entry;
 use bytes::Bytes;
 use host_calls::{ClientCall, OperatorCall, SeatName};
 use plain::{Call, Step, Why};
-use sector_core::{Class, Op, Outcome, Range};
+use sector_core::{Op, Outcome, Range};
 use session_proto::{Client, Operator};
 use std::alloc::AllocError;
 
@@ -53,20 +53,6 @@ impl Entry {
     {
         match self {
             Entry::Client { seat, call } => Some((SeatName::Client(seat), call.0.of_seat(seat))),
-            Entry::Attach {
-                seat,
-                group,
-                prio,
-                class,
-            } => Some((
-                SeatName::Client(seat),
-                Call::Do(Step::Attach {
-                    seat,
-                    group,
-                    prio,
-                    class,
-                }),
-            )),
             Entry::Leave { seat, why } => {
                 Some((SeatName::Client(seat), Call::Do(Step::Leave { seat, why })))
             }
@@ -124,7 +110,14 @@ fn of_client(seat: u8, step: &Step) -> Result<Option<Entry>, AllocError>
             group,
             prio,
             class,
-        } if *own == seat => Ok(Some(attach(seat, *group, *prio, *class))),
+        } if *own == seat => {
+            let call = Client(ClientCall::Attach {
+                group: *group,
+                prio: *prio,
+                class: *class,
+            });
+            Ok(Some(Entry::Client { seat, call }))
+        }
         Step::Submit {
             seat: own,
             session,
@@ -138,26 +131,6 @@ fn of_client(seat: u8, step: &Step) -> Result<Option<Entry>, AllocError>
         }
         Step::Leave { seat: own, why } if *own == seat => Ok(Some(leave(seat, *why))),
         _ => Ok(None),
-    }
-}
-
-// An Attach: of best effort as the client's socket has it.
-#[tactic(auto, unfolding(crate::specs::Entry::class_of_number))]
-fn attach(seat: u8, group: u8, prio: u8, class: Class) -> Entry
-    requires { seat < 16 }
-    ensures { IsEntryOf (seat_name.Client seat) (Do (step.Attach seat group prio class)) result }
-{
-    match class {
-        Class::BestEffort => Entry::Client {
-            seat,
-            call: Client(ClientCall::Attach { group, prio, class }),
-        },
-        Class::RealTime | Class::Idle => Entry::Attach {
-            seat,
-            group,
-            prio,
-            class,
-        },
     }
 }
 
@@ -178,7 +151,7 @@ fn leave(seat: u8, why: Why) -> Entry
     }
 }
 
-// A Submit whose count fits two bytes; a fetch has no payload, and a store that of 64 sectors at most.
+// A Submit whose count fits two bytes; a fetch or a discard has no payload, and a store that of 64 sectors at most.
 fn submit(
     seat: u8,
     session: u64,
@@ -190,7 +163,7 @@ fn submit(
     ensures { IfOk result (λ found. IfSome found (IsEntryOf (seat_name.Client seat) (Do (step.Submit seat session op range payload.now)))) }
 {
     let most = match op {
-        Op::Fetch => 0,
+        Op::Fetch | Op::Discard => 0,
         Op::Store => MOST_PAYLOAD,
     };
     if range.count > MOST_COUNT || payload.len() > most {

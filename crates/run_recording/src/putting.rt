@@ -7,7 +7,7 @@ use host_calls::SeatName;
 use host_core::Judges;
 use plain::Call;
 use run_record::Entry;
-use session_proto::encode;
+use session_proto::{Version, encode};
 use std::alloc::Global;
 use std::io::Write;
 
@@ -19,7 +19,7 @@ pub fn put_entry<W: Write>(alloc: Global, writer: &mut W, name: SeatName, call: 
     let Ok(Some(entry)) = Entry::of(name, call) else {
         return false;
     };
-    match encode(alloc, &entry) {
+    match encode(alloc, Version::One, &entry) {
         Ok(frame) => write_whole(writer, frame.as_slice()),
         Err(_) => false,
     }

@@ -143,6 +143,7 @@ fn op_word(op: Op) -> &'static str
     match op {
         Op::Fetch => "fetch",
         Op::Store => "store",
+        Op::Discard => "discard",
     }
 }
 

@@ -97,6 +97,7 @@ fn result_word(bio: &Bio) -> &'static str
         None => "open",
         Some(BioResult::Read(_)) => "read",
         Some(BioResult::Written) => "written",
+        Some(BioResult::Discarded) => "discarded",
         Some(BioResult::IoError(FailKind::Short)) => "short",
         Some(BioResult::IoError(FailKind::Fault)) => "fault",
     }

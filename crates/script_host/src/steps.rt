@@ -86,7 +86,7 @@ fn put_setting(step: &Step, out: &mut Vec<u8>) -> io::Result<()>
     }
 }
 
-// Appends a read or a write.
+// Appends a read, a write or a discard.
 fn put_submit(
     seat: u8,
     session: u64,
@@ -104,6 +104,7 @@ fn put_submit(
             write!(out, "write {seat} {session} {start} {count} ")?;
             put_fill(payload, out)
         }
+        Op::Discard => write!(out, "discard {seat} {session} {start} {count}"),
     }
 }
 

@@ -16,6 +16,10 @@ is_next prints r0 r1 w0 w1 c0 c1 count line after s room whole =
     let counted = s.counted in
     record { after = after; begins = refl; whole = whole; is_line = s.is_line; room = omega arith }
 
+-- the next line's bytes, and what is left of the piece that was read
+near_rest : (begun waiting : List ℕ) → IsLine begun → length waiting ≤ 4096 → length (begun ++ waiting) ≤ 256 + 4096
+near_rest begun waiting line few = let short = line.1 in omega (arith, short, few, length-append begun waiting)
+
 -- only a front of what the line prints is written
 pub stops_write : {C : Type 0} (prints : C → Line → List ℕ → C → Type 0) (r0 r1 w0 w1 w2 : Known) (c0 c1 c2 : C) (count : ℕ) (line after text : List ℕ)
     → SoFar prints r0 r1 w0 w1 c0 c1 count line after → count < 1048576 → IsWhole r1 line after
@@ -29,6 +33,7 @@ stops_write {C} prints r0 r1 w0 w1 w2 c0 c1 c2 count line after text s room whol
       rest = line ++ after;
       last = c1;
       read = s.read;
+      near = near_rest line after s.is_line s.near;
       each = s.each;
       few = omega arith;
       runs = s.runs;
@@ -70,6 +75,7 @@ stops_bad prints r0 r1 w0 w1 w2 c0 c1 c2 count begun waiting s bad same (BadLine
       rest = begun ++ waiting;
       last = c1;
       read = s.read;
+      near = near_rest begun waiting s.is_line s.near;
       each = s.each;
       few = omega arith;
       runs = s.runs;
@@ -86,6 +92,7 @@ stops_bad prints r0 r1 w0 w1 w2 c0 c1 c2 count begun waiting s bad same WriteFau
       rest = begun ++ waiting;
       last = c1;
       read = s.read;
+      near = near_rest begun waiting s.is_line s.near;
       each = s.each;
       few = omega arith;
       runs = s.runs;
@@ -101,6 +108,7 @@ stops_bad prints r0 r1 w0 w1 w2 c0 c1 c2 count begun waiting s bad same OutOfMem
       rest = begun ++ waiting;
       last = c1;
       read = s.read;
+      near = near_rest begun waiting s.is_line s.near;
       each = s.each;
       few = omega arith;
       runs = s.runs;
@@ -143,6 +151,7 @@ one_more prints r0 r1 w0 w1 w2 c0 c1 c2 count line after text s room step wrote 
   printed = text;
   last = c1;
   read = s.read;
+  near = s.near;
   each = s.each;
   counted = ap (λ n. n + 1) s.counted;
   few = omega arith;
@@ -178,6 +187,7 @@ next_line prints r0 r1 w0 w1 c0 c1 count line begun waiting empty o =
       lines = o.lines ++ (line ∷ []);
       text = o.text ++ o.printed;
       read = subst R (sym (ended-push o.lines line waiting)) o.read;
+      near = (let near = o.near in omega (arith, near));
       each = All-push IsLine o.lines line o.each o.is_line;
       counted = o.counted ∙ sym (length-append o.lines (line ∷ []));
       few = o.few;
@@ -200,6 +210,7 @@ done_last prints r0 r1 w0 w1 c0 c1 count line o at_end some =
       rest = line;
       last = o.last;
       read = subst R (append-nil line) o.read;
+      near = (let short = o.is_line.1 in omega (arith, short));
       each = o.each;
       few = omega arith;
       runs = o.runs;
@@ -226,6 +237,7 @@ done_none prints r0 r1 w0 w1 c0 c1 count begun empty s at_end =
       rest = [];
       last = c1;
       read = subst R empty s.read;
+      near = omega arith;
       each = s.each;
       few = omega arith;
       runs = s.runs;
@@ -245,6 +257,7 @@ stops_memory prints r0 r1 w0 w1 c0 c1 c2 count line after s room whole some may 
       rest = line ++ after;
       last = c1;
       read = s.read;
+      near = near_rest line after s.is_line s.near;
       each = s.each;
       few = omega arith;
       runs = s.runs;
@@ -274,6 +287,7 @@ stops_read {C} prints r0 r1 r2 w0 w1 w2 c0 c1 count begun s kept wrote why is =
       rest = begun;
       last = c1;
       read = Consumes-kept r0 r1 r2 (ended s.lines ++ begun) (subst R (append-nil begun) s.read) kept;
+      near = (let short = s.is_line.1 in omega (arith, short));
       each = s.each;
       few = omega arith;
       runs = s.runs;
@@ -340,6 +354,7 @@ flushed prints r0 r1 w0 w1 w2 c0 c1 why end kept = record {
   rest = end.rest;
   last = end.last;
   read = end.read;
+  near = end.near;
   each = end.each;
   few = end.few;
   runs = end.runs;
@@ -354,6 +369,7 @@ unflushed prints r0 r1 w0 w1 w2 c0 c1 why end kept = record {
   rest = end.rest;
   last = end.last;
   read = end.read;
+  near = end.near;
   each = end.each;
   few = end.few;
   runs = end.runs;
@@ -362,8 +378,8 @@ unflushed prints r0 r1 w0 w1 w2 c0 c1 why end kept = record {
 
 -- a piece was read, after a flush
 pub fed : {C : Type 0} (prints : C → Line → List ℕ → C → Type 0) (r0 r1 r2 w0 w1 w2 : Known) (c0 c1 : C) (count : ℕ) (begun piece : List ℕ)
-    → SoFar prints r0 r1 w0 w1 c0 c1 count begun [] → Keeps w1 w2 → Consumes r1 r2 piece → SoFar prints r0 r2 w0 w2 c0 c1 count begun piece
-fed prints r0 r1 r2 w0 w1 w2 c0 c1 count begun piece s kept more =
+    → SoFar prints r0 r1 w0 w1 c0 c1 count begun [] → Keeps w1 w2 → Consumes r1 r2 piece → length piece ≤ 4096 → SoFar prints r0 r2 w0 w2 c0 c1 count begun piece
+fed prints r0 r1 r2 w0 w1 w2 c0 c1 count begun piece s kept more few =
     let R : List ℕ → Type 0 = λ bytes. Consumes r0 r1 (ended s.lines ++ bytes) in
     let Q : List ℕ → Type 0 = λ bytes. Consumes r0 r2 bytes in
     record {
@@ -371,6 +387,7 @@ fed prints r0 r1 r2 w0 w1 w2 c0 c1 count begun piece s kept more =
       text = s.text;
       read = subst Q (append_assoc (ended s.lines) begun piece)
           (Consumes-more r0 r1 r2 (ended s.lines ++ begun) piece (subst R (append-nil begun) s.read) more);
+      near = few;
       each = s.each;
       counted = s.counted;
       few = s.few;
@@ -389,6 +406,7 @@ begun_none prints r w c begun empty =
       lines = [];
       text = [];
       read = Consumes-none r;
+      near = omega arith;
       each = tt;
       counted = refl;
       few = omega arith;

@@ -10,7 +10,7 @@ use Rattle.script_line.specs.declared.look.Look.{Look}
 use Rattle.script_line.specs.declared.line.Ending.{Ending}
 use Rattle.sector_core.specs.declared.config.Scheduler.{Scheduler}
 use Rattle.sector_core.specs.declared.config.Scheduler.TheVariants.{Plain, Bfq}
-use Rattle.script_line.specs.declared.line.Line.TheVariants.{Attach, ClassAttach, Read, Write, Reap, Leave, Dispatch, Finish, Work, Requeue, Hold, Release, Undo, Redo, Group, Drop, Weight, Freeze, Thaw, Switch, Tick, Sector, Queue, Cursor, Vtime, ClassVtime, Entity, Class, Show}
+use Rattle.script_line.specs.declared.line.Line.TheVariants.{Attach, ClassAttach, Read, Write, Discard, Reap, Leave, Dispatch, Finish, Work, Requeue, Hold, Release, Undo, Redo, Group, Drop, Weight, Freeze, Thaw, Switch, Tick, Sector, Queue, Cursor, Vtime, ClassVtime, Entity, Class, Show}
 use Rattle.script_line.proofs.Cuts.{one_cut, one_numbers, IsTail-numbers}
 use Rattle.script_line.proofs.Looks.{IsTail-shown}
 use Rattle.script_line.proofs.Named.{ended_by, no_class_after}
@@ -66,6 +66,7 @@ pub parts : (l : Line) → Fits l → Parts l
 parts (Attach s g p) f = inl (codes "attach", s ∷ g ∷ p ∷ [], record { spelling = refl; space = search rules; fits = (omega arith, (omega arith, (omega arith, tt))); few = lit≤ tt; is = λ w ns e d. (e, d) })
 parts (ClassAttach s g p c) f = inr (inr (codes "attach", numbers (s ∷ g ∷ p ∷ []) ++ class_named c, record { spelling = refl; space = search rules; tail = refl; is = λ w t e d. (e, d) }))
 parts (Read s n a c) f = inl (codes "read", s ∷ n ∷ a ∷ c ∷ [], record { spelling = refl; space = search rules; fits = (omega arith, (f.1, (f.2, (omega arith, tt)))); few = lit≤ tt; is = λ w ns e d. (e, d) })
+parts (Discard s n a c) f = inl (codes "discard", s ∷ n ∷ a ∷ c ∷ [], record { spelling = refl; space = search rules; fits = (omega arith, (f.1, (f.2, (omega arith, tt)))); few = lit≤ tt; is = λ w ns e d. (e, d) })
 parts (Write s n a c b) f = inl (codes "write", s ∷ n ∷ a ∷ c ∷ b ∷ [], record { spelling = refl; space = search rules; fits = (omega arith, (f.1, (f.2, (omega arith, (omega arith, tt))))); few = lit≤ tt; is = λ w ns e d. (e, d) })
 parts (Reap s n) f = inl (codes "reap", s ∷ n ∷ [], record { spelling = refl; space = search rules; fits = (omega arith, (f.1, tt)); few = lit≤ tt; is = λ w ns e d. (e, d) })
 parts (Leave s) f = inl (codes "leave", s ∷ [], record { spelling = refl; space = search rules; fits = (omega arith, tt); few = lit≤ tt; is = λ w ns e d. (e, d) })

@@ -6,7 +6,7 @@ use Rattle.script_line.specs.Look.{shown, LookFits}
 use Rattle.std.specs.Prelude.{Option, None, Some}
 use Rattle.script_line.specs.Plain.{IsWordAndNumbers, IsClassed, Reads, FitsOrNone}
 use Rattle.script_line.specs.declared.line.Line.{Line}
-use Rattle.script_line.specs.declared.line.Line.TheVariants.{Attach, ClassAttach, Read, Write, Reap, Leave, Dispatch, Finish, Work, Requeue, Hold, Release, Undo, Redo, Group, Drop, Weight, Freeze, Thaw, Switch, Tick, Sector, Queue, Cursor, Vtime, ClassVtime, Entity, Class, Show}
+use Rattle.script_line.specs.declared.line.Line.TheVariants.{Attach, ClassAttach, Read, Write, Discard, Reap, Leave, Dispatch, Finish, Work, Requeue, Hold, Release, Undo, Redo, Group, Drop, Weight, Freeze, Thaw, Switch, Tick, Sector, Queue, Cursor, Vtime, ClassVtime, Entity, Class, Show}
 use Rattle.script_line.specs.declared.look.Look.{Look}
 use Rattle.script_line.specs.declared.line.Ending.{Ending}
 use Rattle.script_line.specs.declared.line.Ending.TheVariants.{Stored, Fill, Short, Fault}
@@ -23,6 +23,7 @@ abbrev word_of : Line → List ℕ
 word_of (Attach s g p) = codes "attach"
 word_of (ClassAttach s g p c) = codes "attach"
 word_of (Read s n a c) = codes "read"
+word_of (Discard s n a c) = codes "discard"
 word_of (Write s n a c b) = codes "write"
 word_of (Reap s n) = codes "reap"
 word_of (Leave s) = codes "leave"
@@ -74,6 +75,8 @@ one_plain w ns (Attach s g p) (Attach s' g' p') one two = let same : s ∷ g ∷
 one_plain w ns (Attach s g p) m one two = absurd (omega (arith, ap mark (sym one.0 ∙ word_is w ns m two)))
 one_plain w ns (Read s n a c) (Read s' n' a' c') one two = let same : s ∷ n ∷ a ∷ c ∷ [] ≡ s' ∷ n' ∷ a' ∷ c' ∷ [] = sym one.1 ∙ two.1 in cc
 one_plain w ns (Read s n a c) m one two = absurd (omega (arith, ap mark (sym one.0 ∙ word_is w ns m two)))
+one_plain w ns (Discard s n a c) (Discard s' n' a' c') one two = let same : s ∷ n ∷ a ∷ c ∷ [] ≡ s' ∷ n' ∷ a' ∷ c' ∷ [] = sym one.1 ∙ two.1 in cc
+one_plain w ns (Discard s n a c) m one two = absurd (omega (arith, ap mark (sym one.0 ∙ word_is w ns m two)))
 one_plain w ns (Write s n a c b) (Write s' n' a' c' b') one two = let same : s ∷ n ∷ a ∷ c ∷ b ∷ [] ≡ s' ∷ n' ∷ a' ∷ c' ∷ b' ∷ [] = sym one.1 ∙ two.1 in cc
 one_plain w ns (Write s n a c b) m one two = absurd (omega (arith, ap mark (sym one.0 ∙ word_is w ns m two)))
 one_plain w ns (Reap s n) (Reap s' n') one two = let same : s ∷ n ∷ [] ≡ s' ∷ n' ∷ [] = sym one.1 ∙ two.1 in cc

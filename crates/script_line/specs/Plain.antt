@@ -4,7 +4,7 @@ use Rattle.script_line.specs.Words.{numbers, class_named}
 use Rattle.sector_core.specs.declared.class.Class.{Class as ClassOf}
 use Rattle.script_line.specs.Line.{Fits}
 use Rattle.script_line.specs.declared.line.Line.{Line}
-use Rattle.script_line.specs.declared.line.Line.TheVariants.{Attach, ClassAttach, Read, Write, Reap, Leave, Dispatch, Finish, Work, Requeue, Hold, Release, Undo, Redo, Group, Drop, Weight, Freeze, Thaw, Switch, Tick, Sector, Queue, Cursor, Vtime, ClassVtime, Entity, Class, Show}
+use Rattle.script_line.specs.declared.line.Line.TheVariants.{Attach, ClassAttach, Read, Write, Discard, Reap, Leave, Dispatch, Finish, Work, Requeue, Hold, Release, Undo, Redo, Group, Drop, Weight, Freeze, Thaw, Switch, Tick, Sector, Queue, Cursor, Vtime, ClassVtime, Entity, Class, Show}
 
 -- the line is this word and then these numbers
 abbrev pub IsWordAndNumbers : List ℕ → List ℕ → Line → Type 0
@@ -12,6 +12,7 @@ IsWordAndNumbers word given (Attach seat group prio) = (word ≡ codes "attach")
 IsWordAndNumbers word given (ClassAttach seat group prio class) = ⊥
 IsWordAndNumbers word given (Read seat session start count) = (word ≡ codes "read") × (given ≡ seat ∷ session ∷ start ∷ count ∷ [])
 IsWordAndNumbers word given (Write seat session start count byte) = (word ≡ codes "write") × (given ≡ seat ∷ session ∷ start ∷ count ∷ byte ∷ [])
+IsWordAndNumbers word given (Discard seat session start count) = (word ≡ codes "discard") × (given ≡ seat ∷ session ∷ start ∷ count ∷ [])
 IsWordAndNumbers word given (Reap seat session) = (word ≡ codes "reap") × (given ≡ seat ∷ session ∷ [])
 IsWordAndNumbers word given (Leave seat) = (word ≡ codes "leave") × (given ≡ seat ∷ [])
 IsWordAndNumbers word given Dispatch = (word ≡ codes "dispatch") × (given ≡ [])

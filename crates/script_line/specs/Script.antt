@@ -12,6 +12,10 @@ use Rattle.script_line.specs.declared.ending.ScriptEnd.TheVariants.{Done, BadLin
 abbrev pub most_bytes : ℕ
 most_bytes = 256
 
+-- so many bytes are asked for at once
+abbrev pub piece_bytes : ℕ
+piece_bytes = 4096
+
 -- a script has at most this many lines
 abbrev pub most_lines : ℕ
 most_lines = 1048576
@@ -113,13 +117,14 @@ EndsBy prints left w0 w1 lines text rest last now OutOfMemory =
 
 -- A run from a reader that had r0 to read and has r1 left, to a writer that held w0 and holds w1,
 -- of a console that was c0 and is c1: the lines are the first of the bytes read, they all ran in their order,
--- and the run ended as it says.
+-- and the run ended as it says. Behind the lines there is no more than the next line's bytes and one piece that was asked for.
 pub record IsEnd {C : Type 0} (prints : C → Line → List ℕ → C → Type 0) (r0 r1 w0 w1 : Known) (c0 c1 : C) (why : ScriptEnd) : Type 0 where
   pub lines : List (List ℕ)
   pub text : List ℕ
   pub rest : List ℕ
   pub last : C
   pub read : Consumes r0 r1 (ended lines ++ rest)
+  pub near : length rest ≤ most_bytes + piece_bytes
   pub each : AllByRecursion IsLine lines
   pub few : length lines ≤ most_lines
   pub runs : Runs prints c0 lines text last

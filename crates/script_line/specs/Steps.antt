@@ -4,7 +4,7 @@ use Rattle.std.specs.List.{AllByRecursion}
 use Rattle.std.specs.Io.KnownBytes.{Appends, Consumes}
 use Rattle.byte_writing.specs.Written.{IsCut}
 use Rattle.script_line.specs.declared.line.Line.{Line}
-use Rattle.script_line.specs.Script.{Known, IsLine, IsBad, Step, MayHaveRun, Runs, ended, bad_text, most_lines}
+use Rattle.script_line.specs.Script.{Known, IsLine, IsBad, Step, MayHaveRun, Runs, ended, bad_text, piece_bytes, most_lines}
 use Rattle.script_line.specs.declared.ending.ScriptEnd.{ScriptEnd}
 use Rattle.script_line.specs.declared.ending.ScriptEnd.TheVariants.{Done, BadLine, ReadFault, WriteFault, OutOfMemory}
 use Rattle.script_line.specs.declared.run_line.Ran.{Ran}
@@ -50,6 +50,7 @@ pub record SoFar {C : Type 0} (prints : C → Line → List ℕ → C → Type 0
   pub lines : List (List ℕ)
   pub text : List ℕ
   pub read : Consumes r0 r1 (ended lines ++ (begun ++ waiting))
+  pub near : length waiting ≤ piece_bytes
   pub each : AllByRecursion IsLine lines
   pub counted : count ≡ length lines
   pub few : count ≤ most_lines
@@ -66,6 +67,7 @@ pub record OneMore {C : Type 0} (prints : C → Line → List ℕ → C → Type
   pub printed : List ℕ
   pub last : C
   pub read : Consumes r0 r1 (ended lines ++ (line ++ after))
+  pub near : length after ≤ piece_bytes
   pub each : AllByRecursion IsLine lines
   pub counted : count ≡ length lines + 1
   pub few : count ≤ most_lines

@@ -60,6 +60,21 @@ pub fn write(seat: u64, session: u64, start: u64, count: u64, byte: u64) -> Opti
     }
 }
 
+/// `discard SEAT SESSION START COUNT`
+pub fn discard(seat: u64, session: u64, start: u64, count: u64) -> Option<Line>
+    ensures { FitsOrNone (Line.Discard seat session start count) result }
+{
+    match (u8::try_from(seat), u16::try_from(count)) {
+        (Ok(seat), Ok(count)) => Some(Line::Discard {
+            seat,
+            session,
+            start,
+            count,
+        }),
+        _ => None,
+    }
+}
+
 /// `reap SEAT SESSION`
 pub fn reap(seat: u64, session: u64) -> Option<Line>
     ensures { FitsOrNone (Line.Reap seat session) result }

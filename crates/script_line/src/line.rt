@@ -33,6 +33,13 @@ pub enum Line {
         count: u16,
         byte: u8,
     },
+    /// `discard SEAT SESSION START COUNT`
+    Discard {
+        seat: u8,
+        session: u64,
+        start: u64,
+        count: u16,
+    },
     /// `reap SEAT SESSION`
     Reap {
         seat: u8,

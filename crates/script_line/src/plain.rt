@@ -4,8 +4,8 @@ ghost use Rattle.script_line.specs.Words.{AreNumbers};
 ghost use Rattle.script_line.specs.Plain.{Reads};
 
 use super::fitted::{
-    attach, class_of, drop_group, entity, group, leave, queue, read, reap, redo, requeue, undo,
-    vtime, weight, work, write,
+    attach, class_of, discard, drop_group, entity, group, leave, queue, read, reap, redo, requeue,
+    undo, vtime, weight, work, write,
 };
 use super::line::Line;
 
@@ -106,6 +106,8 @@ fn with_four(word: &[u8], a: u64, b: u64, c: u64, d: u64) -> Option<Line>
 {
     if word == b"read".as_slice() {
         read(a, b, c, d)
+    } else if word == b"discard".as_slice() {
+        discard(a, b, c, d)
     } else {
         None
     }

@@ -15,6 +15,8 @@ pub enum Op {
     Fetch,
     /// Write sectors.
     Store,
+    /// Forget what sectors have: they read as zeros then.
+    Discard,
 }
 
 /// How a device can fail a read.
@@ -33,6 +35,8 @@ pub enum BioResult {
     Read(Bytes),
     /// The sectors are written.
     Written,
+    /// The sectors are discarded, and read as zeros.
+    Discarded,
     /// The device failed.
     IoError(FailKind),
 }
@@ -42,10 +46,23 @@ pub enum BioResult {
 pub enum Outcome {
     /// The image's bytes of the request's range.
     Fetched(Bytes),
-    /// A store is done.
+    /// A store or a discard is done.
     Stored,
     /// A fetch failed.
     Failed(FailKind),
+}
+
+/// What an outcome does to the sectors and the bios of its request, by the request's operation.
+#[derive(Debug, Drop)]
+pub enum Effect {
+    /// The bios get the bytes that were read: the image's, from the first sector of the request on.
+    Reads(Bytes),
+    /// The sectors get the payloads of the bios.
+    Writes,
+    /// The sectors get zeros.
+    Clears,
+    /// The bios fail.
+    Fails(FailKind),
 }
 
 /// One request of a client: a serial, a range, the bytes of a store, and its result once it is completed.
@@ -55,7 +72,7 @@ pub struct Bio {
     pub serial: u64,
     /// Its sectors, 1 to 64 of them.
     pub range: Range,
-    /// The bytes to store, 512 for each sector; none for a fetch.
+    /// The bytes to store, 512 for each sector; none for a fetch or a discard.
     pub payload: Bytes,
     /// What became of it, once it is completed.
     pub result: Option<BioResult>,

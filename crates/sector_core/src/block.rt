@@ -1,5 +1,5 @@
 // The bytes of one sector.
-ghost use Rattle.std.specs.Prelude.{◌≡◌, length, List, ℕ};
+ghost use Rattle.std.specs.Prelude.{◌≡◌, length, replicate, List, ℕ};
 
 use bytes::Bytes;
 use std::marker::Model;
@@ -28,6 +28,15 @@ impl Block {
         ensures { result ≡ bytes }
     {
         Block { bytes }
+    }
+
+    /// The block of zeros. All such blocks share their bytes, so it takes no memory.
+    pub fn zeros() -> Block
+        ensures { result ≡ replicate 512 0 }
+    {
+        Block {
+            bytes: Bytes::from_static(&[0; SECTOR_BYTES]),
+        }
     }
 
     /// Its bytes, all 512.

@@ -6,11 +6,12 @@
 //! |---|---|
 //! | `FRAMES ROUNDS` | a session of so many Reap frames is served so many times: how many calls were asked in all, and how many bytes were written |
 //! | `feed SIZE ROUNDS` | a stream is fed so many times in pieces of so many bytes, 1 or more: how many values came in all |
-//! | `frames` | for each line of standard input what is read: `SIDE DIGITS`, where the side is `client`, `operator` or `host` |
+//! | `frames` | for each line of standard input what is read: `SIDE DIGITS`, where the side is `client`, `client2`, `operator` or `host` |
 //!
-//! Of a frame the value is printed, with ` of another frame` behind it if it has another, or the fault. Digits with a `/` between are a
-//! stream in pieces: of each are printed the values that it brings, the fault, a point if the feeder stands between two frames then, and
-//! a `/`. Of any other line `no side` is printed.
+//! Of a frame the value is printed, with ` of another frame` behind it if it has another, or the fault. It is read by version 2 if the
+//! side is `client2`, and else by version 1. Digits with a `/` between are a stream in pieces, where that of a `client` says its version
+//! itself. Of each piece are printed the values that it brings, the fault, a point if the feeder stands between two frames then, and a
+//! `/`. A stream is of another side than `client2`. Of any other line `no side` is printed.
 //!
 //! Each Reap is of a session that does not sit there, so it is refused (4) and leaves nothing in the history. The stream is 32 KiB of the
 //! operator's shortest frames, which have five bytes, so a piece of 32,768 bytes is all of it. Words that are no numbers are passed over;

@@ -3,7 +3,7 @@
 //!
 //! | tests | what they compare |
 //! |---|---|
-//! | `rows` | what comes of a session's bytes over a keeper: what is written, how it ends, and its Leave |
+//! | `rows` | what comes of a session's bytes over a keeper, in both versions: what is written, how it ends, and its Leave |
 //! | `cut` | one session in pieces of each length; with a read that fails before each byte, a write that fails after each, one write that fails, an end after each byte, and each limit |
 //! | `long` | the keeper asked by itself, and the longest call and the longest answer |
 //!

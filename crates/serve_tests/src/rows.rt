@@ -1,5 +1,5 @@
 // Sessions of a few bytes, and what comes of each.
-use crate::run::{LIMIT, Setup, plain, session};
+use crate::run::{LIMIT, Setup, front, plain, session};
 use plain::Why;
 use session_proto::EndCause;
 use std::test::Fail;
@@ -12,6 +12,25 @@ const ATTACH_AND_FAULT: &[u8] = &[0, 0, 0, 3, 1, 0, 4, 0, 0, 0, 0];
 
 // The frame of Attached 1.
 const ATTACHED: &[u8] = &[0, 0, 0, 9, 0x81, 0, 0, 0, 0, 0, 0, 0, 1];
+
+// The Attach, and a discard of sectors 4 and 5 by session 1.
+const OF_ONE: &[u8] = &[
+    0, 0, 0, 3, 1, 0, 4, //
+    0, 0, 0, 19, 6, 0, 0, 0, 0, 0, 0, 0, 1, 0, 0, 0, 0, 0, 0, 0, 4, 0, 2,
+];
+
+// The same behind the frame that says version 2.
+const OF_TWO: &[u8] = &[
+    0, 0, 0, 2, 7, 2, //
+    0, 0, 0, 3, 1, 0, 4, //
+    0, 0, 0, 19, 6, 0, 0, 0, 0, 0, 0, 0, 1, 0, 0, 0, 0, 0, 0, 0, 4, 0, 2,
+];
+
+// Attached 1, and Queued 2.
+const ANSWERS: &[u8] = &[
+    0, 0, 0, 9, 0x81, 0, 0, 0, 0, 0, 0, 0, 1, //
+    0, 0, 0, 9, 0x82, 0, 0, 0, 0, 0, 0, 0, 2,
+];
 
 // Each row: what comes, and how many frames may be answered; why it ends, and what its Leave tells; how many calls were asked, what
 // is written, the answer of the Leave, and how many calls the keeper accepted. The bytes come one by one, and in greater pieces.
@@ -114,6 +133,102 @@ fn what_comes_of_bytes(rt: HostRuntime) -> Result<(), Fail> {
             assert_eq!(rt;
                 (came.leaves, came.cause, came.asked),
                 (1, Some(tells), calls + 1)
+            );
+        }
+    }
+    Ok(())
+}
+
+// Each row: what comes, and how many frames may be answered; why it ends, and what its Leave tells; how many calls were asked, how
+// much is written, the answer of the Leave, and how many calls the keeper accepted. The frame that says the version is no call, and
+// the limit does not count it.
+#[test]
+fn what_comes_of_two_versions(rt: HostRuntime) -> Result<(), Fail> {
+    let (ended, bad, limited) = (EndCause::Ended, EndCause::BadFrame, EndCause::FrameLimit);
+    for (bytes, limit, (why, tells), calls, written, left, accepted) in [
+        (OF_TWO, LIMIT, (ended, Why::Ended), 2, 26, 0, 3),
+        (OF_ONE, LIMIT, (bad, Why::BadFrame), 1, 13, 0, 2),
+        (OF_TWO, 2, (limited, Why::FrameLimit), 2, 26, 0, 3),
+        (OF_TWO, 1, (limited, Why::FrameLimit), 1, 13, 0, 2),
+        (OF_TWO, 0, (limited, Why::FrameLimit), 0, 0, 3, 0),
+        (front(OF_TWO, 6), LIMIT, (ended, Why::Ended), 0, 0, 3, 0),
+        (front(OF_TWO, 5), LIMIT, (bad, Why::BadFrame), 0, 0, 3, 0),
+        (front(OF_TWO, 9), LIMIT, (bad, Why::BadFrame), 0, 0, 3, 0),
+    ] {
+        for step in [1, 4, 6, 7, 4096] {
+            let setup = Setup {
+                step,
+                limit,
+                ..plain()
+            };
+            let (came, out) = session(rt.alloc(), bytes, &setup)?;
+            assert_eq!(rt; out.as_slice(), front(ANSWERS, written));
+            assert_eq!(rt;
+                (came.why, came.calls, came.left, came.accepted),
+                (why, calls, left, accepted)
+            );
+            assert_eq!(rt;
+                (came.leaves, came.cause, came.asked),
+                (1, Some(tells), calls + 1)
+            );
+        }
+    }
+    Ok(())
+}
+
+// Each row: what comes, and how much is written, the answer of the Leave, and how many calls the keeper accepted. All end with a bad
+// frame but the last two, which attach by a class in version 2.
+#[test]
+fn what_says_a_version(rt: HostRuntime) -> Result<(), Fail> {
+    let (ended, bad) = (EndCause::Ended, EndCause::BadFrame);
+    for (bytes, why, written, left, accepted) in [
+        ([0, 0, 0, 1, 7].as_slice(), bad, 0, 3, 0),
+        ([0, 0, 0, 2, 7, 1].as_slice(), bad, 0, 3, 0),
+        ([0, 0, 0, 3, 7, 2, 0].as_slice(), bad, 0, 3, 0),
+        ([0, 0, 0, 4, 8, 0, 7, 1].as_slice(), bad, 0, 3, 0),
+        (
+            [0, 0, 0, 3, 1, 0, 4, 0, 0, 0, 2, 7, 2].as_slice(),
+            bad,
+            13,
+            0,
+            2,
+        ),
+        (
+            [0, 0, 0, 2, 7, 2, 0, 0, 0, 2, 7, 2].as_slice(),
+            bad,
+            0,
+            3,
+            0,
+        ),
+        (
+            [0, 0, 0, 2, 7, 2, 0, 0, 0, 4, 8, 0, 4, 2].as_slice(),
+            bad,
+            0,
+            3,
+            0,
+        ),
+        (
+            [0, 0, 0, 2, 7, 2, 0, 0, 0, 4, 8, 0, 7, 1].as_slice(),
+            ended,
+            13,
+            0,
+            2,
+        ),
+        (
+            [0, 0, 0, 2, 7, 2, 0, 0, 0, 4, 8, 0, 4, 3].as_slice(),
+            ended,
+            13,
+            0,
+            2,
+        ),
+    ] {
+        for step in [1, 4, 6, 4096] {
+            let setup = Setup { step, ..plain() };
+            let (came, out) = session(rt.alloc(), bytes, &setup)?;
+            assert_eq!(rt; out.as_slice(), front(ATTACHED, written));
+            assert_eq!(rt;
+                (came.why, came.left, came.accepted, came.leaves),
+                (why, left, accepted, 1)
             );
         }
     }

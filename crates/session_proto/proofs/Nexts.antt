@@ -167,6 +167,38 @@ bad_more body_at most bytes more f e =
           ∙ rw (the_body, field) (sym is ∙ e)
     ]
 
+-- and so does a frame that is whole
+pub whole_more : {T : Type 0} (body_at : List ℕ → Result T Fault) (most : ℕ) (bytes more : List ℕ) (v : T) (n : ℕ)
+    → next_of body_at most bytes ≡ Whole v n → next_of body_at most (bytes ++ more) ≡ Whole v n
+whole_more body_at most bytes more v n e =
+    let len = length-append bytes more in
+    elim (next_case body_at most bytes) [
+      | is_short _ more_ ↦ absurd (cc (more_, e))
+      | is_bad _ _ bad ↦ absurd (cc (bad, e))
+      | is_cut _ _ _ _ more_ ↦ absurd (cc (more_, e))
+      | is_whole four low high whole is ↦
+          let field : length_field (bytes ++ more) ≡ length_field bytes = length_field-more bytes more four in
+          let behind : drop 4 (bytes ++ more) ≡ drop 4 bytes ++ more = drop-append-le 4 bytes more four in
+          let inside : take (length_field bytes) (drop 4 bytes ++ more) ≡ take (length_field bytes) (drop 4 bytes) =
+          take-append-le (length_field bytes) (drop 4 bytes) more (omega (arith, length-drop 4 bytes)) in
+          let the_body : body_field (bytes ++ more) ≡ body_field bytes = ap (λ (n : ℕ). take n (drop 4 (bytes ++ more))) field ∙ ap (take (length_field bytes)) behind ∙ inside in
+          next_said body_at most (bytes ++ more) (omega (arith, len)) (omega (arith, field)) (omega (arith, field)) (omega (arith, field, len))
+          ∙ rw (the_body, field) (sym is ∙ e)
+    ]
+
+-- a frame that is whole is within the bytes
+pub whole_within : {T : Type 0} (body_at : List ℕ → Result T Fault) (most : ℕ) (bytes : List ℕ) (v : T) (n : ℕ)
+    → next_of body_at most bytes ≡ Whole v n → n ≤ length bytes
+whole_within body_at most bytes v n e =
+    elim (next_case body_at most bytes) [
+      | is_short _ more_ ↦ absurd (cc (more_, e))
+      | is_bad _ _ bad ↦ absurd (cc (bad, e))
+      | is_cut _ _ _ _ more_ ↦ absurd (cc (more_, e))
+      | is_whole four low high whole is ↦
+          let size = (said_whole (4 + length_field bytes) (body_at (body_field bytes)) v n (sym is ∙ e)).1 in
+          omega (arith, size, whole)
+    ]
+
 said_more : {T : Type 0} (size : ℕ) (r : Result T Fault) → said size r ≡ More → ⊥
 said_more size (Ok w) e = cc
 said_more size (Err f) e = cc

@@ -117,6 +117,31 @@ cut_ends body fits body_at most bytes values size fault cut e = record { whole =
 
 -- ---- a piece more
 
+-- a piece is cut where the rest before it was
+pub stream_more : {T : Type 0} (body : T → List ℕ) (fits : T → Type 0) (body_at : List ℕ → Result T Fault) (most : ℕ)
+    → (stream held piece : List ℕ) (before values : List T) (rest : List ℕ) (fault : Option Fault)
+    → IsStream body fits body_at most stream before held None → IsStream body fits body_at most (held ++ piece) values rest fault
+    → IsStream body fits body_at most (stream ++ piece) (before ++ values) rest fault
+stream_more body fits body_at most stream held piece before values rest fault first second =
+    record {
+      whole = ap (λ (x : List ℕ). x ++ piece) first.whole ∙ append_assoc (frames body before) held piece
+          ∙ ap (λ (x : List ℕ). frames body before ++ x) second.whole ∙ sym (append_assoc (frames body before) (frames body values) rest)
+          ∙ ap (λ (x : List ℕ). x ++ rest) (sym (flat_map-append (λ v. framed (body v)) before values));
+      each = each-append fits before values first.each second.each;
+      ends = second.ends;
+    }
+
+-- and behind a fault all is rest
+pub bad_stays : {T : Type 0} (body : T → List ℕ) (fits : T → Type 0) (body_at : List ℕ → Result T Fault) (most : ℕ)
+    → (stream held piece : List ℕ) (values : List T) (f : Fault)
+    → IsStream body fits body_at most stream values held (Some f) → IsStream body fits body_at most (stream ++ piece) values (held ++ piece) (Some f)
+bad_stays body fits body_at most stream held piece values f bad =
+    record {
+      whole = ap (λ (x : List ℕ). x ++ piece) bad.whole ∙ append_assoc (frames body values) held piece;
+      each = bad.each;
+      ends = bad_more body_at most held piece f bad.ends;
+    }
+
 pub comes_unheld : {T : Type 0} (body : T → List ℕ) (fits : T → Type 0) (body_at : List ℕ → Result T Fault) (most : ℕ)
     → (held : Held) (stream piece : List ℕ) (before : List T) (f : Fault)
     → held.fault ≡ Some f → HasCome body fits body_at most held stream before
@@ -143,7 +168,7 @@ pub reads_piece : {T : Type 0} {body : T → List ℕ} {fits : T → Type 0} {bo
     → IsStream body fits body_at most bytes values (drop size bytes) fault → IsStream body fits body_at most (held ++ piece) values rest fault
 reads_piece held piece size a b d reads = rw (d, ← a, ← b) reads
 
-none_of : (fault : Option Fault) → ((f : Fault) → fault ≡ Some f → ⊥) → fault ≡ None
+pub none_of : (fault : Option Fault) → ((f : Fault) → fault ≡ Some f → ⊥) → fault ≡ None
 none_of None none = refl
 none_of (Some f) none = absurd (none f refl)
 

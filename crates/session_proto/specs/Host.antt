@@ -1,8 +1,8 @@
--- What the host sends in version 1, and how it is spelled.
+-- What the host sends, and how it is spelled, the same in each version.
 use Rattle.std.specs.Prelude.{ℕ, ◌<◌, ◌^◌, ◌%◌, ◌&&◌, List, [], ◌∷◌, ◌++◌, length, Bool, Option, None, Some, Result, Ok, Err, nat_lt, nat_le, ◌==◌, if◌then◌else◌}
 use Rattle.std.specs.Int.{w8, w32, w64}
 use Rattle.sector_core.specs.declared.bio.BioResult.{BioResult}
-use Rattle.sector_core.specs.declared.bio.BioResult.TheVariants.{Read, Written, IoError}
+use Rattle.sector_core.specs.declared.bio.BioResult.TheVariants.{Read, Written, Discarded, IoError}
 use Rattle.sector_core.specs.declared.bio.FailKind.{FailKind}
 use Rattle.sector_core.specs.declared.bio.FailKind.TheVariants.{Short, Fault as Faulty}
 use Rattle.plain.specs.Numbers.{code_number, code_of_number, cause_number, cause_of_number}
@@ -32,6 +32,7 @@ abbrev pub result_body : ℕ → BioResult → List ℕ
 result_body bio (Read bytes) = 0x83 ∷ big_endian w64 bio ++ bytes
 result_body bio Written = 0x84 ∷ big_endian w64 bio
 result_body bio (IoError kind) = 0x85 ∷ big_endian w64 bio ++ big_endian w8 (fail_number kind)
+result_body bio Discarded = 0x87 ∷ big_endian w64 bio
 
 -- the replies to clients and to the operator, by their kinds; the others have no frame, and so no body (our format)
 abbrev pub reply_body : Reply → List ℕ
@@ -117,6 +118,12 @@ error_at fields = do
   kind ← named (fail_of_number number.0)
   ended (accepted (Completed bio.0 (IoError kind))) number.1
 
+-- a Completed, discarded: the bio's name (our format)
+unfoldable pub discarded_at : List ℕ → Result RingReply Fault
+discarded_at fields = do
+  bio ← number_at w64 fields
+  ended (accepted (Completed bio.0 Discarded)) bio.1
+
 -- a Group: its number in a byte (our format)
 unfoldable pub group_at : List ℕ → Result RingReply Fault
 group_at fields = do
@@ -147,7 +154,7 @@ not_yet_at fields = do
 -- the host's kinds (our format)
 abbrev pub host_kinds : List (ℕ × (List ℕ → Result RingReply Fault))
 host_kinds =
-    (0x81, attached_at) ∷ (0x82, queued_at) ∷ (0x83, read_at) ∷ (0x84, written_at) ∷ (0x85, error_at) ∷ (0x86, ended (accepted Left)) ∷
+    (0x81, attached_at) ∷ (0x82, queued_at) ∷ (0x83, read_at) ∷ (0x84, written_at) ∷ (0x85, error_at) ∷ (0x86, ended (accepted Left)) ∷ (0x87, discarded_at) ∷
     (0x91, group_at) ∷ (0x92, ended (accepted Done)) ∷ (0x93, moved_at) ∷ (0x9f, ended Closed) ∷ (0xe0, refused_at) ∷ (0xe1, not_yet_at) ∷ []
 
 -- what a body says that the host sent (our format)

@@ -4,7 +4,7 @@ use Rattle.std.specs.Prelude.{◌&&◌}
 use Rattle.std.specs.Int.{w8, w32, w64}
 use Rattle.std.proofs.lemmas.Bool.{eqb-true, eq-eqb, ltb-true, lt-ltb, leb-true, le-leb}
 use Rattle.std.proofs.lemmas.List.{append-nil, length-append}
-use Rattle.sector_core.specs.declared.bio.BioResult.TheVariants.{Read, Written, IoError}
+use Rattle.sector_core.specs.declared.bio.BioResult.TheVariants.{Read, Written, Discarded, IoError}
 use Rattle.sector_core.specs.declared.bio.FailKind.{FailKind}
 use Rattle.sector_core.specs.declared.bio.FailKind.TheVariants.{Short, Fault as Faulty}
 use Rattle.plain.specs.Numbers.{code_number, code_of_number, cause_number, cause_of_number}
@@ -25,7 +25,7 @@ use Rattle.session_proto.specs.Kinds.{read_by}
 use Rattle.session_proto.specs.Fields.{◌>>=◌, big_endian, number_at, ended, named}
 use Rattle.session_proto.specs.FieldLaws.{wide8, wide32, wide64, bind_ok, test_ok, number_is, number_again, last_again, ended_is, ended_again, named_is, named_of_two}
 use Rattle.session_proto.specs.KindLaws.{Spells, ◌&◌, side_spells, none_spells, one_spells, one_again, two_spells, two_again, named_spells, named_again}
-use Rattle.session_proto.specs.Host.{host_body, HostFits, host_kinds, host_at, accepted, is_sectors, fail_number, fail_of_number, attached_at, queued_at, read_at, written_at, error_at, group_at, moved_at, refused_at, not_yet_at}
+use Rattle.session_proto.specs.Host.{host_body, HostFits, host_kinds, host_at, accepted, is_sectors, fail_number, fail_of_number, attached_at, queued_at, read_at, written_at, error_at, discarded_at, group_at, moved_at, refused_at, not_yet_at}
 
 -- ---- numbers that name
 
@@ -119,6 +119,10 @@ error_spells fields v are e =
     let whole : fields ≡ big_endian w64 b.0.0 ++ big_endian w8 (fail_number d.0) = bio.parts ∙ ap (λ (x : List ℕ). big_endian w64 b.0.0 ++ x) last in
     subst (λ x. HostFits x × (0x85 ∷ fields ≡ host_body x)) end.0 ((tt, bio.below), ap (λ (x : List ℕ). 0x85 ∷ x) whole)
 
+discarded_spells : Spells host_body HostFits 0x87 discarded_at
+unfolding discarded_at
+discarded_spells = one_spells host_body HostFits 0x87 w64 (2 ^ 64) wide64 (λ n. accepted (Completed n Discarded)) (λ n lt. (tt, lt)) (λ n. refl)
+
 group_spells : Spells host_body HostFits 0x91 group_at
 unfolding group_at
 group_spells = one_spells host_body HostFits 0x91 w8 (2 ^ 8) wide8 (λ n. accepted (Group n)) (λ n lt. (tt, lt)) (λ n. refl)
@@ -147,6 +151,7 @@ unfolding host_at
 host_spelled bytes v are few e =
     side_spells host_body HostFits host_kinds
     (attached_spells & queued_spells & read_kind_spells & written_spells & error_spells & bare 0x86 (accepted Left) (tt, tt) refl
+    & discarded_spells
     & group_spells & bare 0x92 (accepted Done) (tt, tt) refl & moved_spells & bare 0x9f Closed (tt, tt) refl & refused_spells & not_yet_spells & tt)
     (λ reply. record { 0 = reply }) (λ v. v.0) (λ reply. refl) bytes v are e
 
@@ -175,6 +180,10 @@ error_again bio kind lt =
     rw (number_again w64 (2 ^ 64) wide64 bio (big_endian w8 k) lt, last_again w8 (2 ^ 8) wide8 k (fail_number-below kind), fail_of_number-number kind)
     (ended_again (an_error bio kind))
 
+discarded_again : (bio : ℕ) → bio < 2 ^ 64 → discarded_at (big_endian w64 bio) ≡ Ok (accepted (Completed bio Discarded))
+unfolding discarded_at
+discarded_again bio lt = one_again w64 (2 ^ 64) wide64 (λ n. accepted (Completed n Discarded)) bio lt
+
 group_again : (number : ℕ) → number < 2 ^ 8 → group_at (big_endian w8 number) ≡ Ok (accepted (Group number))
 unfolding group_at
 group_again number lt = one_again w8 (2 ^ 8) wide8 (λ n. accepted (Group n)) number lt
@@ -197,6 +206,7 @@ reply_again (Answer (Accepted (Queued bio))) fits = queued_again bio fits.1
 reply_again (Answer (Accepted (Completed bio (Read bytes)))) fits = read_kind_again bio bytes fits.1 fits.0
 reply_again (Answer (Accepted (Completed bio Written))) fits = written_again bio fits.1
 reply_again (Answer (Accepted (Completed bio (IoError kind)))) fits = error_again bio kind fits.1
+reply_again (Answer (Accepted (Completed bio Discarded))) fits = discarded_again bio fits.1
 reply_again (Answer (Accepted Left)) fits = ended_again (accepted Left)
 reply_again (Answer (Accepted (Issued tag issue op range))) fits = absurd fits.0
 reply_again (Answer (Accepted (Finished bios))) fits = absurd fits.0
@@ -224,6 +234,7 @@ reply_in_limits (Answer (Accepted (Completed bio Written))) fits = (omega arith,
 reply_in_limits (Answer (Accepted (Completed bio (IoError kind)))) fits =
     let k = fail_number kind in
     (omega arith, omega (arith, wide64.len bio, wide8.len k, length-append (big_endian w64 bio) (big_endian w8 k)))
+reply_in_limits (Answer (Accepted (Completed bio Discarded))) fits = (omega arith, omega (arith, wide64.len bio))
 reply_in_limits (Answer (Accepted Left)) fits = (omega arith, omega arith)
 reply_in_limits (Answer (Accepted (Issued tag issue op range))) fits = absurd fits.0
 reply_in_limits (Answer (Accepted (Finished bios))) fits = absurd fits.0

@@ -7,6 +7,7 @@ pub mod FieldLaws
 pub mod KindLaws
 pub mod Client
 pub mod ClientLaws
+pub mod Opened
 pub mod Operator
 pub mod OperatorLaws
 pub mod Host

@@ -1,4 +1,4 @@
--- What the operator sends in version 1, and how it is spelled.
+-- What the operator sends, and how it is spelled.
 use Rattle.std.specs.Prelude.{ℕ, ◌<◌, ◌^◌, List, [], ◌∷◌, ◌++◌, Option, None, Some, Result, Ok, ◌==◌, if◌then◌else◌}
 use Rattle.std.specs.Int.{w8, w16, w32}
 use Rattle.sector_core.specs.declared.config.Scheduler.{Scheduler}

@@ -7,9 +7,8 @@ use Rattle.plain.specs.declared.step.Why.TheVariants as why
 use Rattle.host_calls.specs.declared.client.ClientCall.{ClientCall}
 use Rattle.host_calls.specs.declared.client.ClientCall.TheVariants.{Leave}
 use Rattle.host_calls.specs.declared.ring.Closed.{Closed as HasClosed}
-use Rattle.session_proto.specs.Stream.{IsStream}
 use Rattle.session_proto.specs.declared.fault.Fault.{Fault}
-use Rattle.session_proto.specs.Client.{client_body, ClientFits, client_at}
+use Rattle.session_proto.specs.Opened.{IsCalls}
 use Rattle.session_proto.specs.declared.client.Client.{Client}
 use Rattle.session_proto.specs.Asked.{Known, AreAsked, AreAskedTillClosed, frame_of, frames_of}
 use Rattle.session_proto.specs.declared.end.EndCause.{EndCause}
@@ -25,10 +24,6 @@ leave_of BadFrame = Some why.BadFrame
 leave_of FrameLimit = Some why.FrameLimit
 leave_of Closed = None
 leave_of OutOfMemory = None
-
--- a client's stream: the frames of these calls, and this rest, with its fault if it begins with one (our format)
-abbrev pub IsCalls : List ℕ → List Client → List ℕ → Option Fault → Type 0
-IsCalls bytes calls rest fault = IsStream (λ (c : Client). client_body c.0) (λ (c : Client). ClientFits c.0) client_at 32787 bytes calls rest fault
 
 -- a read takes at most this many bytes (our profile)
 abbrev pub most_piece : ℕ

@@ -4,22 +4,17 @@ use Rattle.std.specs.Io.KnownBytes.{Appends, Consumes, IsAtEnd}
 use Rattle.plain.specs.declared.answer.Answer.{Answer}
 use Rattle.host_calls.specs.declared.client.ClientCall.{ClientCall}
 use Rattle.host_calls.specs.declared.ring.Closed.{Closed as HasClosed}
-use Rattle.session_proto.specs.Stream.{Held, HasCome}
 use Rattle.session_proto.specs.declared.fault.Fault.{Fault}
 use Rattle.session_proto.specs.declared.feeder.Fed.{Fed}
-use Rattle.session_proto.specs.Client.{client_body, ClientFits, client_at}
+use Rattle.session_proto.specs.Opened.{HeldCalls, HaveCome}
 use Rattle.session_proto.specs.declared.client.Client.{Client}
 use Rattle.session_proto.specs.Asked.{Known, AreAsked, frames_of}
 use Rattle.session_proto.specs.Served.{most_piece, ReadsUnder, HasRead, HasServed}
 use Rattle.session_proto.specs.declared.end.EndCause.{EndCause}
 use Rattle.session_proto.specs.declared.end.EndCause.TheVariants.{Ended, ReadFault, WriteFault, BadFrame, FrameLimit, Closed, OutOfMemory}
 
--- these bytes of a client's stream have come, and these calls with them
-abbrev pub HaveCome : Held → List ℕ → List Client → Type 0
-HaveCome held bytes calls = HasCome (λ (c : Client). client_body c.0) (λ (c : Client). ClientFits c.0) client_at 32787 held bytes calls
-
 -- what was read so far is what has come; so many calls are asked by now
-pub record ReadSoFar (limit asked : ℕ) (r0 r1 : Known) (held : Held) (calls : List Client) : Type 0 where
+pub record ReadSoFar (limit asked : ℕ) (r0 r1 : Known) (held : HeldCalls) (calls : List Client) : Type 0 where
   pub bytes : List ℕ
   pub come : HaveCome held bytes calls
   pub read : Consumes r0 r1 bytes
@@ -37,7 +32,7 @@ EndsReading Closed rest fault left unfed = ⊥
 EndsReading OutOfMemory rest fault left unfed = (0 < length unfed) × (length unfed ≤ most_piece)
 
 -- after a read, before which all of these calls were asked: more have come, or the session ends
-abbrev pub Reads : ℕ → Known → Known → Held → List Client → Result (Fed Client) EndCause → Type 0
+abbrev pub Reads : ℕ → Known → Known → HeldCalls → List Client → Result (Fed Client) EndCause → Type 0
 Reads limit r0 r1 held calls (Ok fed) = ReadSoFar limit (length calls) r0 r1 held (calls ++ fed.values.items)
 Reads limit r0 r1 held calls (Err cause) =
     (rest : List ℕ) × (fault : Option Fault) × (unfed : List ℕ) × HasRead limit (length calls) r0 r1 calls rest fault unfed
@@ -51,7 +46,7 @@ pub record Standing (A : Type 0) : Type 0 where
 
 -- so far: of the calls that have come these wait, and all before them were asked, and answered
 pub record SoFar {A : Type 0} (asks : A → ClientCall → Result Answer HasClosed → A → Type 0) (limit : ℕ) (start now : Standing A)
-    (held : Held) (waiting : List Client) (calls written : ℕ) : Type 0 where
+    (held : HeldCalls) (waiting : List Client) (calls written : ℕ) : Type 0 where
   pub asked : List Client
   pub comes : ReadSoFar limit (length asked) start.input now.input held (asked ++ waiting)
   pub answers : List Answer
@@ -62,7 +57,7 @@ pub record SoFar {A : Type 0} (asks : A → ClientCall → Result Answer HasClos
 
 -- after some calls: the session goes on, or it ends for a cause
 abbrev pub Serves : {A : Type 0} → (A → ClientCall → Result Answer HasClosed → A → Type 0) → ℕ → Standing A → Standing A
-    → Held → List Client → ℕ → ℕ → Option EndCause → Type 0
+    → HeldCalls → List Client → ℕ → ℕ → Option EndCause → Type 0
 Serves asks limit start now held waiting calls written None = SoFar asks limit start now held waiting calls written
 Serves asks limit start now held waiting calls written (Some cause) =
     HasServed asks limit start.input now.input start.output now.output start.asker now.asker cause calls written

@@ -5,6 +5,7 @@ ghost use Rattle.session_proto.specs.Asked.{frame_of};
 
 use crate::encoding::encode;
 use crate::host::Host;
+use crate::version::Version;
 use host_calls::RingReply;
 use plain::Answer;
 use std::alloc::{AllocError, Global};
@@ -20,6 +21,6 @@ pub fn answer_frame(alloc: Global, answer: Answer) -> Result<Vec<u8>, AllocError
     ensures frame { IfOk result (λ frame. frame.items ≡ frame_of answer) }
     ensures few { IfOk result (λ frame. length frame.items ≤ 32791) }
 {
-    let frame = encode(alloc, &Host(RingReply::Answer(answer)))?;
+    let frame = encode(alloc, Version::One, &Host(RingReply::Answer(answer)))?;
     Ok(frame)
 }

@@ -1,6 +1,6 @@
 // The calls of whole frames, asked and answered.
 ghost use Rattle.std.specs.Prelude.{◌≡◌, ℕ, ◌+◌, ◌-◌, ◌*◌, ◌<◌, ◌≤◌, ◌^◌, List, ◌∷◌, [], length, IfNone};
-ghost use Rattle.session_proto.specs.Stream.{Held};
+ghost use Rattle.session_proto.specs.Opened.{HeldCalls};
 ghost use Rattle.session_proto.specs.declared.client.Client.{Client};
 ghost use Rattle.session_proto.specs.Asked.{Known};
 ghost use Rattle.session_proto.specs.SoFar.{SoFar, Serves, Standing};
@@ -32,7 +32,7 @@ pub fn answer_one<W: Write, A: Asks>(
 ) -> Option<EndCause>
     requires few { counts.old.calls < 2 ^ 32 - 1 }
     requires small { counts.old.written ≤ counts.old.calls * 32791 }
-    ensures served { (start : Standing A) (input : Known) (limit : ℕ) (held : Held) (waiting : List Client)
+    ensures served { (start : Standing A) (input : Known) (limit : ℕ) (held : HeldCalls) (waiting : List Client)
         → SoFar A.asks limit start (record { input = input; output = W.contents writer.old; asker = asker.old }) held (call ∷ waiting)
         counts.old.calls counts.old.written
         → Serves A.asks limit start (record { input = input; output = W.contents writer.new; asker = asker.new }) held waiting
@@ -68,7 +68,7 @@ pub fn answer_all<W: Write, A: Asks>(
 ) -> Option<EndCause>
     requires within { counts.old.calls ≤ frame_limit }
     requires small { counts.old.written ≤ counts.old.calls * 32791 }
-    ensures served { (start : Standing A) (input : Known) (held : Held)
+    ensures served { (start : Standing A) (input : Known) (held : HeldCalls)
         → SoFar A.asks frame_limit start (record { input = input; output = W.contents writer.old; asker = asker.old }) held calls.items
         counts.old.calls counts.old.written
         → Serves A.asks frame_limit start (record { input = input; output = W.contents writer.new; asker = asker.new }) held []

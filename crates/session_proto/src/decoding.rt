@@ -6,13 +6,14 @@ ghost use Rattle.session_proto.specs.Reading.{Gives, next_of, whole_of};
 use super::fault::{Fault, ReadError};
 use super::next::{Next, next_in};
 use super::side::Side;
+use super::version::Version;
 use std::alloc::Global;
 
 // The value of one whole frame, by what the bytes begin with.
-fn value_of<S: Side>(alloc: Global, bytes: &[u8]) -> Result<S, ReadError>
-    ensures { Gives result (whole_of (length bytes.now) (next_of S.body_at S.MOST bytes.now)) }
+fn value_of<S: Side>(alloc: Global, version: Version, bytes: &[u8]) -> Result<S, ReadError>
+    ensures { Gives result (whole_of (length bytes.now) (next_of (S.body_at version) S.MOST bytes.now)) }
 {
-    match next_in(alloc, bytes)? {
+    match next_in(alloc, version, bytes)? {
         Next::More => Err(ReadError::Fault(Fault::BadLengthField)),
         Next::Bad(fault) => Err(ReadError::Fault(fault)),
         Next::Whole(value, size) => {
@@ -25,16 +26,16 @@ fn value_of<S: Side>(alloc: Global, bytes: &[u8]) -> Result<S, ReadError>
     }
 }
 
-/// The value whose frame the bytes are, all of them.
+/// The value whose frame in a version the bytes are, all of them.
 ///
 /// # Errors
 ///
 /// The fault that the bytes begin with. If they begin with none, but are not one whole frame, it is `BadLengthField`.
 /// Or a growth was refused.
-pub fn decode<S: Side>(alloc: Global, bytes: &[u8]) -> Result<S, ReadError>
-    ensures found { IfOk result (λ v. IsFrame S.body S.fits v bytes.now) }
-    ensures only { (v : S) → IsFrame S.body S.fits v bytes.now → Gives result (Ok v) }
-    ensures fault { Gives result (whole_of (length bytes.now) (next_of S.body_at S.MOST bytes.now)) }
+pub fn decode<S: Side>(alloc: Global, version: Version, bytes: &[u8]) -> Result<S, ReadError>
+    ensures found { IfOk result (λ v. IsFrame S.body (S.fits version) v bytes.now) }
+    ensures only { (v : S) → IsFrame S.body (S.fits version) v bytes.now → Gives result (Ok v) }
+    ensures fault { Gives result (whole_of (length bytes.now) (next_of (S.body_at version) S.MOST bytes.now)) }
 {
-    value_of(alloc, bytes)
+    value_of(alloc, version, bytes)
 }

@@ -3,22 +3,23 @@ ghost use Rattle.std.specs.Prelude.{◌≡◌, ◌+◌, ◌<◌, ◌≤◌, ◌^
 ghost use Rattle.session_proto.specs.Frame.{IsFrame, framed};
 
 use super::side::Side;
+use super::version::Version;
 use std::alloc::{AllocError, Global};
 
-/// The frame of a value: four bytes of length, the most significant first, and its body.
+/// The frame of a value in a version: four bytes of length, the most significant first, and its body.
 ///
 /// # Errors
 ///
 /// A growth was refused.
 #[tactic(auto, using(crate::proofs::Frames::frame_put))]
-pub fn encode<S: Side>(alloc: Global, value: &S) -> Result<Vec<u8>, AllocError>
-    requires { S.fits value.now }
-    ensures { IfOk result (λ frame. IsFrame S.body S.fits value.now frame.items) }
+pub fn encode<S: Side>(alloc: Global, version: Version, value: &S) -> Result<Vec<u8>, AllocError>
+    requires { S.fits version value.now }
+    ensures { IfOk result (λ frame. IsFrame S.body (S.fits version) value.now frame.items) }
 {
     let mut frame = Vec::new(alloc);
     // The length is known once the body is there, which so is written in its place and not copied.
     frame.extend_from_slice(&[0; 4])?;
-    value.put_body(&mut frame)?;
+    value.put_body(version, &mut frame)?;
     put_length(&mut frame);
     Ok(frame)
 }

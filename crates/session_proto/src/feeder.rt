@@ -2,14 +2,17 @@
 ghost use Rattle.std.specs.Prelude.{◌≡◌, ℕ, ◌+◌, ◌<◌, ◌≤◌, ◌↔◌, List, [], ◌++◌, length, drop, Some, None, IfOk, OnErr, IsTrue, IsOkAnd};
 ghost use Rattle.session_proto.specs.Stream.{IsStream, HasCome};
 ghost use Rattle.session_proto.specs.declared.fault.Fault.{Fault};
+ghost use Rattle.session_proto.specs.declared.version.Version.TheVariants.{One};
 
 use super::fault::Fault;
 use super::side::Side;
 use super::split::split_frames;
+use super::version::Version;
 use std::alloc::{AllocError, Global};
 use std::marker::{Model, PhantomData};
 
-/// Takes a stream in pieces, and gives the values of its frames.
+/// Takes a stream of version 1 in pieces, and gives the values of its frames. A client's stream, which may say version 2, has a
+/// [`ClientFeeder`](crate::ClientFeeder).
 #[derive(Drop)]
 pub struct Feeder<S: Side> {
     // The bytes after the last whole frame. Once they begin with a fault no more are held.
@@ -35,8 +38,8 @@ pub struct Fed<S> {
     pub fault: Option<Fault>,
 }
 
-// Lets go of so many bytes at the front.
-fn let_go(held: &mut Vec<u8>, size: usize)
+/// Lets go of so many bytes at the front.
+pub fn let_go(held: &mut Vec<u8>, size: usize)
     requires { size ≤ length held.old.items }
     ensures { held.new.items ≡ drop size held.old.items }
 {
@@ -50,7 +53,7 @@ impl<S: Side> Feeder<S> {
     /// A feeder to which no byte has come.
     pub fn new(alloc: Global) -> Feeder<S>
         ensures new { result ≡ record { bytes = []; fault = None } }
-        ensures none_came { HasCome S.body S.fits S.body_at S.MOST result [] [] }
+        ensures none_came { HasCome S.body (S.fits One) (S.body_at One) S.MOST result [] [] }
     {
         Feeder {
             held: Vec::new(alloc),
@@ -69,10 +72,10 @@ impl<S: Side> Feeder<S> {
     pub fn feed(&mut self, alloc: Global, piece: &[u8]) -> Result<Fed<S>, AllocError>
         // However the stream is cut: if these bytes and values came so far, then now the piece and its values too.
         ensures came { IfOk result (λ fed. (stream : List ℕ) (values : List S)
-            → HasCome S.body S.fits S.body_at S.MOST self.old stream values
-            → HasCome S.body S.fits S.body_at S.MOST self.new (stream ++ piece.now) (values ++ fed.values.items)) }
+            → HasCome S.body (S.fits One) (S.body_at One) S.MOST self.old stream values
+            → HasCome S.body (S.fits One) (S.body_at One) S.MOST self.new (stream ++ piece.now) (values ++ fed.values.items)) }
         ensures read { IfOk result (λ fed. self.old.fault ≡ None
-            → IsStream S.body S.fits S.body_at S.MOST (self.old.bytes ++ piece.now) fed.values.items self.new.bytes fed.fault) }
+            → IsStream S.body (S.fits One) (S.body_at One) S.MOST (self.old.bytes ++ piece.now) fed.values.items self.new.bytes fed.fault) }
         ensures fault { IfOk result (λ fed. fed.fault ≡ self.new.fault) }
         ensures again { (f : Fault) → self.old.fault ≡ Some f
             → (self.new ≡ self.old) × IsOkAnd result (λ fed. (fed.values.items ≡ []) × (fed.fault ≡ Some f)) }
@@ -89,7 +92,7 @@ impl<S: Side> Feeder<S> {
         }
         let before = self.held.len();
         self.held.extend_from_slice(piece)?;
-        match split_frames(alloc, &self.held) {
+        match split_frames(alloc, Version::One, &self.held) {
             Ok(found) => {
                 let_go(&mut self.held, found.size);
                 self.fault = found.fault;

@@ -5,13 +5,14 @@ ghost use Rattle.std.proofs.Common.{rules};
 ghost use Rattle.session_proto.specs.Reading.{Gives};
 ghost use Rattle.session_proto.specs.Fields.{big_endian};
 ghost use Rattle.session_proto.specs.Kinds.{read_by};
-ghost use Rattle.session_proto.specs.Host.{host_body, reply_body, result_body, HostFits, host_kinds, host_at, accepted, is_sectors, fail_number, fail_of_number, attached_at, queued_at, read_at, written_at, error_at, group_at, moved_at, refused_at, not_yet_at};
+ghost use Rattle.session_proto.specs.Host.{host_body, reply_body, result_body, HostFits, host_kinds, host_at, accepted, is_sectors, fail_number, fail_of_number, attached_at, queued_at, read_at, written_at, error_at, discarded_at, group_at, moved_at, refused_at, not_yet_at};
 ghost use Rattle.session_proto.specs.HostLaws.{host_in_limits, host_again, host_spelled};
 ghost use Rattle.plain.specs.declared.answer.Reply.TheVariants.{Completed};
 
 use super::fault::{Fault, ReadError};
 use super::fields::{BAD_BODY, ended, named, put_u8, put_u32, put_u64, u8_of, u32_of, u64_of};
 use super::side::Side;
+use super::version::Version;
 use bytes::Bytes;
 use host_calls::RingReply;
 use plain::{Answer, Cause, Code, Reply};
@@ -21,7 +22,7 @@ use std::alloc::{AllocError, Global};
 // The bytes of 64 sectors.
 const MOST_READ: usize = 32_768;
 
-/// The side of the host in version 1: what it sends to a client or to the operator.
+/// The side of the host: what it sends to a client or to the operator, the same in each version.
 ///
 /// A reply to the dispatcher or to a device has no frame, nor has a read whose bytes are not those of 1 to 64 sectors.
 #[derive(Debug, Drop)]
@@ -32,27 +33,27 @@ impl Side for Host {
 
     ghost body = { λ r. host_body r.0 };
 
-    ghost fits = { λ r. HostFits r.0 };
+    ghost fits = { λ _ r. HostFits r.0 };
 
-    ghost body_at = { host_at };
+    ghost body_at = { λ _. host_at };
 
     ghost few = { Prim.search rules };
 
-    ghost in_limits = { host_in_limits };
+    ghost in_limits = { λ _. host_in_limits };
 
-    ghost again = { host_again };
+    ghost again = { λ _. host_again };
 
-    ghost spelled = { host_spelled };
+    ghost spelled = { λ _. host_spelled };
 
     // That of all sides, though a read of 64 sectors is 10 bytes shorter than a store of as many.
     const MOST: u32 = 32_787;
 
-    fn put_body(&self, out: &mut Vec<u8>) -> Result<(), AllocError> {
+    fn put_body(&self, _version: Version, out: &mut Vec<u8>) -> Result<(), AllocError> {
         put_answered(out, &self.0)
     }
 
     #[tactic(auto, unfolding(crate::specs::Host::host_at))]
-    fn read_body(alloc: Global, bytes: &[u8]) -> Result<Host, ReadError> {
+    fn read_body(alloc: Global, _version: Version, bytes: &[u8]) -> Result<Host, ReadError> {
         Ok(Host(reply_of(alloc, bytes)?))
     }
 }
@@ -91,6 +92,7 @@ fn reply_of(alloc: Global, bytes: &[u8]) -> Result<RingReply, ReadError>
         0x84 => written_of(fields),
         0x85 => error_of(fields),
         0x86 => ended(accepted(Reply::Left), fields),
+        0x87 => discarded_of(fields),
         0x91 => group_of(fields),
         0x92 => ended(accepted(Reply::Done), fields),
         0x93 => moved_of(fields),
@@ -150,6 +152,7 @@ fn put_result(out: &mut Vec<u8>, bio: u64, what: &BioResult) -> Result<(), Alloc
             out.extend_from_slice(bytes)
         }
         BioResult::Written => put_name(out, 0x84, bio),
+        BioResult::Discarded => put_name(out, 0x87, bio),
         BioResult::IoError(kind) => {
             put_name(out, 0x85, bio)?;
             put_u8(out, number_of(*kind))
@@ -236,6 +239,14 @@ fn error_of(fields: &[u8]) -> Result<RingReply, ReadError>
     let (number, fields) = u8_of(fields)?;
     let kind = named(fail_of(number))?;
     ended(completed(bio, BioResult::IoError(kind)), fields)
+}
+
+#[tactic(auto, unfolding(crate::specs::Host::discarded_at))]
+fn discarded_of(fields: &[u8]) -> Result<RingReply, ReadError>
+    ensures { Gives result (discarded_at fields.now) }
+{
+    let (bio, fields) = u64_of(fields)?;
+    ended(completed(bio, BioResult::Discarded), fields)
 }
 
 #[tactic(auto, unfolding(crate::specs::Host::group_at))]

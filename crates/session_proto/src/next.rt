@@ -5,6 +5,7 @@ ghost use Rattle.session_proto.specs.Reading.{next_of};
 
 use super::fault::{Fault, ReadError};
 use super::side::Side;
+use super::version::Version;
 use std::alloc::{AllocError, Global};
 
 /// What bytes begin with.
@@ -18,9 +19,9 @@ pub enum Next<S> {
     Whole(S, usize),
 }
 
-// The length that the first four bytes spell.
+/// The length that the first four bytes spell.
 #[tactic(auto, unfolding(crate::specs::Frame::length_field))]
-fn length_at(bytes: &[u8]) -> u32
+pub fn length_at(bytes: &[u8]) -> u32
     requires { 4 ≤ length bytes.now }
     ensures { result ≡ length_field bytes.now }
 {
@@ -28,14 +29,18 @@ fn length_at(bytes: &[u8]) -> u32
     u32::from_be_bytes([front[0], front[1], front[2], front[3]])
 }
 
-/// What the bytes begin with.
+/// What the bytes of a stream of a version begin with.
 ///
 /// # Errors
 ///
 /// A growth was refused.
 #[tactic(auto, unfolding(crate::specs::Reading::next_of))]
-pub fn next_in<S: Side>(alloc: Global, bytes: &[u8]) -> Result<Next<S>, AllocError>
-    ensures { IfOk result (λ next. next ≡ next_of S.body_at S.MOST bytes.now) }
+pub fn next_in<S: Side>(
+    alloc: Global,
+    version: Version,
+    bytes: &[u8],
+) -> Result<Next<S>, AllocError>
+    ensures { IfOk result (λ next. next ≡ next_of (S.body_at version) S.MOST bytes.now) }
 {
     if bytes.len() < 4 {
         return Ok(Next::More);
@@ -50,7 +55,7 @@ pub fn next_in<S: Side>(alloc: Global, bytes: &[u8]) -> Result<Next<S>, AllocErr
         return Ok(Next::More);
     }
     let (body, _) = rest.split_at(length);
-    match S::read_body(alloc, body) {
+    match S::read_body(alloc, version, body) {
         Ok(value) => Ok(Next::Whole(value, 4 + length)),
         Err(ReadError::Fault(fault)) => Ok(Next::Bad(fault)),
         Err(ReadError::OutOfMemory) => Err(AllocError),

@@ -11,11 +11,12 @@ ghost use Rattle.session_proto.specs.OperatorLaws.{operator_in_limits, operator_
 use super::fault::{Fault, ReadError};
 use super::fields::{ended, named, put_u8, put_u16, put_u32, u8_of, u16_of, u32_of};
 use super::side::Side;
+use super::version::Version;
 use host_calls::OperatorCall;
 use sector_core::Scheduler;
 use std::alloc::{AllocError, Global};
 
-/// The side of the operator in version 1: a call that it sends. Each has a frame.
+/// The side of the operator: a call that it sends. Each has a frame, the same in each version.
 #[derive(Clone, Copy, Debug, PartialEq, Eq)]
 pub struct Operator(pub OperatorCall);
 
@@ -24,27 +25,27 @@ impl Side for Operator {
 
     ghost body = { λ c. operator_body c.0 };
 
-    ghost fits = { λ c. OperatorFits c.0 };
+    ghost fits = { λ _ c. OperatorFits c.0 };
 
-    ghost body_at = { operator_at };
+    ghost body_at = { λ _. operator_at };
 
     ghost few = { Prim.search rules };
 
-    ghost in_limits = { operator_in_limits };
+    ghost in_limits = { λ _. operator_in_limits };
 
-    ghost again = { operator_again };
+    ghost again = { λ _. operator_again };
 
-    ghost spelled = { operator_spelled };
+    ghost spelled = { λ _. operator_spelled };
 
     // That of all sides, though no kind of the operator's is longer than 5 bytes: a longer body is the wrong one for its kind.
     const MOST: u32 = 32_787;
 
-    fn put_body(&self, out: &mut Vec<u8>) -> Result<(), AllocError> {
+    fn put_body(&self, _version: Version, out: &mut Vec<u8>) -> Result<(), AllocError> {
         put_call(out, self.0)
     }
 
     #[tactic(auto, unfolding(crate::specs::Operator::operator_at))]
-    fn read_body(_alloc: Global, bytes: &[u8]) -> Result<Operator, ReadError> {
+    fn read_body(_alloc: Global, _version: Version, bytes: &[u8]) -> Result<Operator, ReadError> {
         Ok(Operator(call_of(bytes)?))
     }
 }

@@ -1,6 +1,7 @@
 // A session over a reader and a writer.
 ghost use Rattle.std.specs.Prelude.{◌≡◌, ℕ, ◌*◌, ◌<◌, ◌≤◌, ◌^◌, List, [], length, None, IfOk};
 ghost use Rattle.session_proto.specs.declared.client.Client.{Client};
+ghost use Rattle.session_proto.specs.Opened.{HasRoomLess, KeepsVersion};
 ghost use Rattle.session_proto.specs.Asked.{Known};
 ghost use Rattle.session_proto.specs.Served.{HasServed, IsServed};
 ghost use Rattle.session_proto.specs.SoFar.{ReadSoFar, Reads};
@@ -8,8 +9,9 @@ ghost use Rattle.session_proto.specs.SoFar.{ReadSoFar, Reads};
 use crate::answering::{Counts, answer_all};
 use crate::asks::Asks;
 use crate::client::Client;
+use crate::client_feeder::ClientFeeder;
 use crate::end::{EndCause, SessionEnd};
-use crate::feeder::{Fed, Feeder};
+use crate::feeder::Fed;
 use host_calls::ClientCall;
 use std::alloc::Global;
 use std::io::{Read, Write};
@@ -22,7 +24,7 @@ fn read_calls<R: Read>(
     alloc: Global,
     reader: &mut R,
     piece: &mut [u8],
-    feeder: &mut Feeder<Client>,
+    feeder: &mut ClientFeeder,
 ) -> Result<Fed<Client>, EndCause>
     requires some { 0 < length piece.old }
     requires few { length piece.old ≤ 4096 }
@@ -31,9 +33,9 @@ fn read_calls<R: Read>(
         → ReadSoFar limit (length calls) start (R.remaining reader.old) feeder.old calls
         → Reads limit start (R.remaining reader.new) feeder.new calls result }
     ensures fault { IfOk result (λ fed. fed.fault ≡ feeder.new.fault) }
+    ensures versed { IfOk result (λ fed. KeepsVersion feeder.old feeder.new) }
     ensures short { IfOk result (λ fed. fed.fault ≡ None → length feeder.new.bytes < 32791) }
-    ensures grows { IfOk result (λ fed. fed.values.items ≡ [] → fed.fault ≡ None
-        → length feeder.old.bytes < length feeder.new.bytes) }
+    ensures grows { IfOk result (λ fed. fed.values.items ≡ [] → fed.fault ≡ None → HasRoomLess feeder.old feeder.new) }
     ensures length { length piece.new ≡ length piece.old }
 {
     let Ok(count) = reader.read(piece) else {
@@ -67,7 +69,7 @@ fn serve_frames<R: Read, W: Write, A: Asks>(
     ensures within { counts.new.calls ≤ frame_limit }
     ensures small { counts.new.written ≤ counts.new.calls * 32791 }
 {
-    let mut feeder = Feeder::<Client>::new(alloc);
+    let mut feeder = ClientFeeder::new(alloc);
     let mut piece = [0u8; PIECE_BYTES];
     let mut is_bad = false;
     'pieces: loop {

@@ -241,6 +241,7 @@ fn merges(rt: HostRuntime) -> Result<(), Fail> {
         Told::Merge(0, 1, Op::Fetch, BIO, place(6, false)),
         Told::Merge(0, 2, Op::Fetch, BIO, None),
         Told::Merge(0, 1, Op::Store, BIO, None),
+        Told::Merge(0, 1, Op::Discard, BIO, None),
         Told::Merge(1, 1, Op::Fetch, BIO, None),
         // It touches no request.
         Told::Merge(0, 1, Op::Fetch, inside, None),

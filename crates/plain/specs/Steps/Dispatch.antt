@@ -46,13 +46,17 @@ next_request m seat = next_of shape (m.queue seat) (m.head seat)
 abbrev pub next_size : Plain → ℕ → ℕ
 next_size m seat = option_map_or (λ request. size_of request.bios) (next_request m seat) 0
 
--- bfq: a queue that has been in service for too many ticks expires, and so does one whose budget has no room for its next request. It has one: a
--- queue that is empty has left the service with its last request (ticks, and that they are asked about first, are our profile)
+-- a queue has a request (bfq)
+abbrev pub has_queued : Plain → ℕ → Bool
+has_queued m seat = not (is_empty (m.queue seat))
+
+-- bfq: a queue that has been in service for too many ticks expires, and so does one whose budget has no room for its next request
+-- (ticks, and that they are asked about first, are our profile)
 abbrev pub with_budget_in : Limits → Plain → Option InService → Option Bfq
 with_budget_in l m None = Some m.bfq
 with_budget_in l m (Some current) =
-    if nat_le l.timeout current.age then expire Timeout l.max_budget true m.bfq
-    else if nat_lt (m.bfq.budget current.seat) (current.service + next_size m current.seat) then expire Exhaustion l.max_budget true m.bfq
+    if nat_le l.timeout current.age then expire Timeout l.max_budget (has_queued m current.seat) m.bfq
+    else if nat_lt (m.bfq.budget current.seat) (current.service + next_size m current.seat) then expire Exhaustion l.max_budget (has_queued m current.seat) m.bfq
     else Some m.bfq
 
 -- bfq: if no queue is in service now, one is selected

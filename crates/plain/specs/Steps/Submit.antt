@@ -4,7 +4,7 @@ use Rattle.std.specs.Option.{option_map, is_none}
 use Rattle.plain.specs.Lists.{is_empty}
 use Rattle.sector_core.specs.declared.range.Range.{Range}
 use Rattle.sector_core.specs.declared.bio.Op.{Op}
-use Rattle.sector_core.specs.declared.bio.Op.TheVariants.{Fetch, Store}
+use Rattle.sector_core.specs.declared.bio.Op.TheVariants.{Fetch, Store, Discard}
 use Rattle.sector_core.specs.declared.bio.Bio.{Bio}
 use Rattle.plain.specs.Machine.{WholeRequest, Plain, put}
 use Rattle.plain.specs.Merge.{merge_of, joins_at}
@@ -19,10 +19,11 @@ use Rattle.plain.specs.Sessions.{seat_tests, unreaped, with_unreaped}
 use Rattle.plain.specs.Requests.{shape, requests_of}
 use Rattle.plain.specs.Entities.{is_bfq}
 
--- 512 bytes a sector for a store, none for a fetch (our profile)
+-- 512 bytes a sector for a store, none for a fetch or a discard (our profile)
 abbrev pub payload_length : Op → ℕ → ℕ
 payload_length Fetch count = 0
 payload_length Store count = 512 * count
+payload_length Discard count = 0
 
 -- the request that a bio of a session joins in a seat's queue, and whether at its front (blk-mq: a bio is merged before any scheduler is asked)
 abbrev pub merge_in : Plain → ℕ → ℕ → Op → Range → Option (WholeRequest × Bool)

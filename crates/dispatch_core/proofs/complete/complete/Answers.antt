@@ -1,6 +1,6 @@
 use Rattle.std.proofs.lemmas.List.{drop_more}
 use Rattle.std.proofs.Common.{◌+◌, length, get_or, drop, sym, ap, ◌∙◌, subst, arith}
-use Rattle.dispatch_core.proofs.Words.{Outcome, total_count}
+use Rattle.dispatch_core.proofs.Words.{Effect, total_count}
 use Rattle.dispatch_core.specs.Counts.{blocks_put}
 use Rattle.dispatch_core.specs.Ready.{IsReady}
 use Rattle.dispatch_core.proofs.Completing.{completed_tables, first_taken, first_ends, first_done, first_ends_done, first_payload, first_total, first_bytes, tables_more, total_more, ready_more, ready_at, tables_at, changes_at}
@@ -89,7 +89,7 @@ loop-slot-preserved c =
     let changes = changes_at c.loop-slot.parts.tables.bios c.args.slots.now c.loop-slot.slot-index c.loop-slot-test.true in
     let more = total_more c.loop-slot.rest c.loop-slot.parts.tables s others ready c.put_blocks.new.parts.tables c.exchange.new.parts.tables c.in_ok-done.done done c.in_ok-put_blocks.ensures.tables c.exchange.ensures.tables in
     let left = c.without_first-rest.ensures in
-    let P : Outcome → Type 0 = λ o. IsReady c.exchange.new.parts.tables.bios others o in
+    let P : Effect → Type 0 = λ o. IsReady c.exchange.new.parts.tables.bios others o in
     record {
       tables = ap (λ o. completed_tables o c.exchange.new.parts.tables others) left ∙ tables_more c.loop-slot.rest c.loop-slot.parts.tables s others ready c.put_blocks.new.parts.tables c.exchange.new.parts.tables c.in_ok-done.done done c.in_ok-put_blocks.ensures.tables c.exchange.ensures.tables ∙ tables_at c.loop-slot.rest c.loop-slot.parts.tables c.args.slots.now c.loop-slot.slot-index c.loop-slot-test.true ∙ c.loop-slot.invariant.tables;
       ready = subst P (sym left) (ready_more c.loop-slot.rest c.loop-slot.parts.tables s others ready c.put_blocks.new.parts.tables c.exchange.new.parts.tables c.in_ok-done.done done c.in_ok-put_blocks.ensures.tables c.exchange.ensures.tables);

@@ -21,15 +21,18 @@ returns-then-count-eq0 g c =
     c.loop-count.held.count c.loop-count.held.begun.items (take n c.read_flushed.new.piece) in
     let some : 0 < length c.read_flushed.new.piece = omega arith in
     c.last_line.ensures.ended _ _ _ _
-    (subst P c.if-count-eq0.true (fed g.C.Console.prints _ _ _ _ _ _ _ _ _ _ _ c.loop-count.invariant c.in-Ok.ensures.kept c.in-Ok.ensures.read.0))
+    (subst P c.if-count-eq0.true (fed g.C.Console.prints _ _ _ _ _ _ _ _ _ _ _ c.loop-count.invariant c.in-Ok.ensures.kept c.in-Ok.ensures.read.0
+    (let within = c.in-Ok.ensures.bound.0 in let taken = c.in-Ok.ensures.bound.1 in omega (arith, within, taken))))
     (c.in-Ok.ensures.read.1 c.if-count-eq0.true some)
 
 pub returns-in-Some : goal.returns-in-Some
 returns-in-Some g c =
     c.in-Some.ensures.taken _ _ _ _
-    (fed g.C.Console.prints _ _ _ _ _ _ _ _ _ _ _ c.loop-count.invariant c.in-Ok.ensures.kept c.in-Ok.ensures.read.0)
+    (fed g.C.Console.prints _ _ _ _ _ _ _ _ _ _ _ c.loop-count.invariant c.in-Ok.ensures.kept c.in-Ok.ensures.read.0
+    (let within = c.in-Ok.ensures.bound.0 in let taken = c.in-Ok.ensures.bound.1 in omega (arith, within, taken)))
 
 pub loop-count-preserved : goal.loop-count-preserved
 loop-count-preserved g c =
     c.in_default.ensures.taken _ _ _ _
-    (fed g.C.Console.prints _ _ _ _ _ _ _ _ _ _ _ c.loop-count.invariant c.in-Ok.ensures.kept c.in-Ok.ensures.read.0)
+    (fed g.C.Console.prints _ _ _ _ _ _ _ _ _ _ _ c.loop-count.invariant c.in-Ok.ensures.kept c.in-Ok.ensures.read.0
+    (let within = c.in-Ok.ensures.bound.0 in let taken = c.in-Ok.ensures.bound.1 in omega (arith, within, taken)))

@@ -1,7 +1,8 @@
-use Rattle.std.proofs.Common.{◌≡◌, ◌∙◌, ℕ, List, [], ◌∷◌, refl, sym, ◌<◌, ◌≤◌, length, take, subst, ap, arith}
+use Rattle.std.proofs.Common.{◌≡◌, ◌∙◌, ℕ, List, [], ◌∷◌, refl, sym, ◌<◌, ◌≤◌, length, take, subst, ap, arith, inl, inr}
 use Rattle.std.proofs.lemmas.List.{length-append, length-take}
 use Rattle.std.proofs.lemmas.Bool.{false≢true}
 use Rattle.std.specs.Io.KnownBytes.{Consumes}
+use Rattle.session_proto.specs.Opened.{HeldCalls, HasGrown, HasRoomLess}
 use Rattle.session_proto.proofs.Steps.{piece_fed, piece_unfed, read_fails, input_breaks}
 use Rattle.session_proto.proofs.serving.read_calls.Goals as goal
 
@@ -37,6 +38,13 @@ returns-in-Err-clause-reads g c = λ start limit calls under past.
     let few : length piece ≤ 4096 = omega (arith, length-take c.in-Ok.count c.read.new.buf, c.in-Ok.ensures.bound, c.requires.few) in
     piece_unfed limit start _ _ c.args.feeder.now calls piece c.requires.sound c.in-Ok.ensures.bytes.0 some few under past
 
+-- a piece with bytes makes what is held longer, if the version does not become known with it
+grown : (before after : HeldCalls) (piece : List ℕ) → 0 < length piece → HasGrown before piece after → HasRoomLess before after
+grown before after piece some (inl grows) = inl (omega (arith, some, ap length grows.0, length-append before.bytes piece), grows.1)
+grown before after piece some (inr known) = inr known
+
 pub returns-in-Ok-feed-clause-grows : goal.returns-in-Ok-feed-clause-grows
 returns-in-Ok-feed-clause-grows g c = λ none sound.
-    omega (arith, ap length (c.in-Ok-feed.ensures.grows none sound), length-append c.args.feeder.now.bytes (take c.in-Ok.count c.read.new.buf), c.in-Ok.ensures.bound, c.if-count-eq0.false)
+    let piece = take c.in-Ok.count c.read.new.buf in
+    let some : 0 < length piece = omega (arith, length-take c.in-Ok.count c.read.new.buf, c.in-Ok.ensures.bound, c.if-count-eq0.false) in
+    grown c.args.feeder.now c.feed.new.self piece some (c.in-Ok-feed.ensures.grows none sound)

@@ -1,13 +1,14 @@
 use Rattle.std.proofs.Common.{◌<◌, ◌∙◌, ◌++◌, [], sym, ap, refl, length, arith, is_some}
-use Rattle.session_proto.specs.Stream.{Held}
+use Rattle.session_proto.specs.Opened.{HeldCalls}
 use Rattle.session_proto.proofs.Steps.{begun, may_read, all_come, reads_on, reads_no_more, meets_fault, meets_limit, none_of, some_of}
+use Rattle.session_proto.proofs.Steps.{less, empty}
 use Rattle.session_proto.proofs.serving.serve_frames.Goals as goal
 
 pub pieces-init : goal.pieces-init
 pieces-init g c =
     let new = c.new-feeder.ensures.new in (
-      sym (ap (λ (h : Held). is_some h.fault) new),
-      λ sound. omega (arith, ap (λ (h : Held). length h.bytes) new),
+      sym (ap (λ (h : HeldCalls). is_some h.fault) new),
+      λ sound. omega (arith, ap (λ (h : HeldCalls). length h.bytes) new),
       omega (arith, c.requires.unasked),
       omega (arith, c.requires.unwritten),
       refl,
@@ -63,3 +64,12 @@ read_calls-requires g c = record {
 
 pub answer_all-requires : goal.answer_all-requires
 answer_all-requires g c = record { within = c.pieces.invariant.2; small = c.pieces.invariant.3 }
+
+pub pieces-smaller : goal.pieces-smaller
+pieces-smaller g c =
+    let under : c.pieces.counts.calls < c.args.frame_limit = omega (arith, c.pieces.invariant.2, c.if-counts-frame_limit.false) in
+    let counted = c.in_default.ensures.counted in
+    rw c.if-is_bad.false (less c.is_some-is_bad.result c.args.frame_limit c.pieces.counts.calls c.answer_all.new.counts.calls c.pieces.feeder c.read_calls.new.feeder
+    under (omega (arith, counted))
+    (λ sound. c.in-Ok.ensures.short (none_of c.in-Ok.fed.fault (sym c.is_some-is_bad.ensures ∙ sound)))
+    (λ same sound. c.in-Ok.ensures.grows (empty c.in-Ok.fed.values.items (omega (arith, counted, same))) (none_of c.in-Ok.fed.fault (sym c.is_some-is_bad.ensures ∙ sound))))

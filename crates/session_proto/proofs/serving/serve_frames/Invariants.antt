@@ -12,6 +12,6 @@ invariant-pieces g l =
     (record { input = g.R.Read.remaining l.reader; output = g.W.Write.contents l.writer; asker = l.asker })
     l.feeder [] l.counts.calls l.counts.written
 
--- a fault ends it; else more calls are asked, or more bytes are held
+-- a fault ends it; else more calls are asked, or the version is known, or more bytes are held
 abbrev pub decreases-pieces : goal.decreases-pieces
-decreases-pieces g l = if l.is_bad then 0 else 1 + (l.frame_limit - l.counts.calls) * 50000 + (40000 - length l.feeder.bytes)
+decreases-pieces g l = if l.is_bad then 0 else 1 + (l.frame_limit - l.counts.calls) * 100000 + (if is_some l.feeder.version then 0 else 50000) + (40000 - length l.feeder.bytes)

@@ -1,7 +1,7 @@
-use Rattle.std.proofs.Common.{◌≡◌, ◌+◌, ◌-◌, ◌%◌, ◌^◌, ◌<◌, List, length, set, get_or, slice_range, subst, sym, ap, ◌∙◌, arith, rules}
+use Rattle.std.proofs.Common.{◌≡◌, ℕ, ◌+◌, ◌-◌, ◌%◌, ◌^◌, ◌<◌, List, length, set, get_or, slice_range, subst, sym, ap, ◌∙◌, arith, rules}
 use Rattle.change_record.specs.declared.change.Change.{Change}
 use Rattle.change_record.specs.Exchange.{FitForth, ArePuts, forth_tables, forth_left}
-use Rattle.change_record.specs.Tape.{step_at, begin_of, pieces, rest_of}
+use Rattle.change_record.specs.Tape.{step_at, begin_of, pieces, rest_of, TakesBack}
 use Rattle.change_record.proofs.Exchanges.{length-forth_left}
 use Rattle.change_record.proofs.Pieces.{length-pieces, length-piece, span_piece, span_put, restored}
 use Rattle.change_record.proofs.tape.Tape.forth.Goals as goal
@@ -92,3 +92,16 @@ returns-in-Ok-clause-current c =
     c.self.invariant lt c.span_at-start.ensures.start c.span_at-start.ensures.end c.in-Ok.ensures.changes long in
     let kept = restored xs c.span_forth.new.changes c.self.inside.changes.len (search rules) in
     ap (rest_of 0 es) kept ∙ put.1 ∙ ap (λ r. r.current) c.self.view_is
+
+pub returns-in-Err-clause-turned_back : goal.returns-in-Err-clause-turned_back
+returns-in-Err-clause-turned_back c =
+    let es = c.self.inside.ends.items in
+    let xs = c.self.inside.changes.items in
+    let lt : c.args.at < length es = omega (arith, c.requires.there, length-pieces 0 es xs, ap (λ r. length r.steps) c.self.view_is) in
+    let here : step_at (pieces 0 es xs) c.args.at ≡ step_at c.args.self.now.steps c.args.at = ap (λ r. step_at r.steps c.args.at) c.self.view_is in
+    let turned : c.span_at-start.result.1 - c.span_at-start.result.0 ≡ length (step_at c.args.self.now.steps c.args.at) =
+    ap (λ n. n - c.span_at-start.result.0) (c.span_at-start.ensures.end ∙ ap (λ l. get_or l c.args.at 0) c.as_slice.ensures.value)
+    ∙ ap (λ n. get_or es c.args.at 0 - n) (c.span_at-start.ensures.start ∙ ap (λ l. begin_of 0 l c.args.at) c.as_slice.ensures.value)
+    ∙ sym (length-piece es xs c.self.invariant c.args.at lt) ∙ ap length here in
+    let P : ℕ → Type 0 = λ n. TakesBack c.args.parts.now.turns n c.span_forth.new.parts.turns in
+    subst P turned c.in-Err.ensures.turned_back

@@ -1,4 +1,4 @@
-use Rattle.std.proofs.Common.{true, false, ◌≡◌, ℕ, ◌+◌, ◌==◌, nat_lt, [], ◌∷◌, ◌++◌, length, sym, ap, ◌∙◌, refl, subst, arith, rules}
+use Rattle.std.proofs.Common.{inr, true, false, ◌≡◌, ℕ, ◌+◌, ◌==◌, nat_lt, [], ◌∷◌, ◌++◌, length, sym, ap, ◌∙◌, refl, subst, arith, rules}
 use Rattle.plain.specs.declared.call.Call.TheVariants.{Redo}
 use Rattle.plain.specs.declared.answer.Answer.TheVariants.{Accepted, Refused}
 use Rattle.plain.specs.declared.answer.Reply.TheVariants.{Moved}
@@ -6,6 +6,8 @@ use Rattle.plain.specs.declared.answer.Code.TheVariants.{OutOfMemory}
 use Rattle.plain.specs.Keeper.{State}
 use Rattle.plain.specs.Headline.{MayCall}
 use Rattle.history.specs.Keeping.{state_of}
+use Rattle.history.specs.Kept.{Kept}
+use Rattle.history.specs.Turns.{Turns}
 use Rattle.plain.specs.Step.{of_sizes}
 use Rattle.history.proofs.Calls.{keeper-same, keeper-more, redo-done, redo-wants}
 use Rattle.history.proofs.keeper.Keeper.redo.Goals as goal
@@ -93,3 +95,12 @@ invariant_of-self-2 c =
       },
       Accepted (Moved (r.cursor + n) (length r.steps)),
     )) ∙ sym (redo-done k n c.if-not-self.false some enough room))
+
+pub returns-in-Err-clause-turns : goal.returns-in-Err-clause-turns
+returns-in-Err-clause-turns c =
+    let i = c.self.inside in
+    let n : ℕ = c.args.k in
+    let roll = c.redo_steps.new.roll in
+    let now : Kept = record { state = state_of roll i.held c.reserved.new.journal.items i.most; lengths = roll.lengths; turns = roll.turns } in
+    let P : Kept → Type 0 = λ k. Turns k (Redo n) (Refused OutOfMemory) now in
+    subst P c.self.view_is (inr c.in-Err.ensures.turned_back, c.in-Err.ensures.lengths)

@@ -1,7 +1,8 @@
-use Rattle.std.proofs.Common.{ℕ, suc, ◌+◌, ◌<◌, ◌%◌, ◌^◌, [], length, get_or, sym, ap, ◌∙◌, subst, arith, map}
+use Rattle.std.proofs.Common.{◌≡◌, ℕ, suc, ◌+◌, ◌<◌, ◌%◌, ◌^◌, [], length, get_or, sym, ap, ◌∙◌, subst, arith, map}
 use Rattle.std.proofs.Math.Seq.{map-set_same}
 use Rattle.std.proofs.lemmas.List.{get_or-map}
-use Rattle.change_record.specs.Tape.{step_at}
+use Rattle.change_record.specs.Tape.{step_at, TakesBack}
+use Rattle.history.specs.Roll.{Line}
 use Rattle.change_record.specs.Exchange.{forth_left}
 use Rattle.change_record.proofs.Exchanges.{length-forth_left}
 use Rattle.history.proofs.Ways.{same-line, redo-line, next-waits}
@@ -55,3 +56,14 @@ returns-in-Ok-clause-turns c =
     c.in-Ok.ensures.turns
     ∙ ap (λ n. (i.machine.turns + n) % 2 ^ 64) (sym (get_or-map length i.tape.steps i.cursor [] 0 (omega (arith, lt, even))))
     ∙ ap (λ v. (v.turns + get_or v.lengths v.cursor 0) % 2 ^ 64) c.self.view_is
+
+pub returns-in-Err-clause-turned_back : goal.returns-in-Err-clause-turned_back
+returns-in-Err-clause-turned_back c =
+    let i = c.self.inside in
+    let lt : i.cursor < length i.line.items = subst (λ v. v.cursor < length v.steps) (sym c.self.view_is) c.requires in
+    let even = c.self.invariant.even in
+    let here : length (step_at i.tape.steps i.cursor) ≡ get_or (map length i.tape.steps) i.cursor 0 =
+    sym (get_or-map length i.tape.steps i.cursor [] 0 (omega (arith, lt, even))) in
+    let P : ℕ → Type 0 = λ n. TakesBack i.machine.turns n c.forth.new.self.turns in
+    let Q : Line → Type 0 = λ v. TakesBack v.turns (get_or v.lengths v.cursor 0) c.forth.new.self.turns in
+    subst Q c.self.view_is (subst P here c.in-Err.ensures.turned_back)

@@ -3,7 +3,7 @@ use Rattle.std.proofs.lemmas.Bool.{true≢false}
 use Rattle.std.proofs.Math.Logic.{∥∥₁_map}
 use Rattle.host_core.specs.Desks.{rows, lasts}
 use Rattle.host_core.proofs.Same.{desks-none}
-use Rattle.host_core.proofs.Waiting.{few-devices}
+use Rattle.host_core.proofs.Waiting.{devices-told}
 use Rattle.host_core.proofs.Accounts.{kept-any, named-any, shut-last}
 use Rattle.host_core.proofs.turns.Core.turn.Goals as goal
 
@@ -17,7 +17,7 @@ invariant_of-self g c =
     let report = c.take_turn-starved.result.report in
     let turn = c.take_turn-starved.ensures in
     record {
-      kept = ∥∥₁_map was.kept (λ h. kept-any (lasts was.desks) (g.B.Judges.pages was.book) (g.B.Judges.pages now.book) (rows was.desks) (rows now.desks) report.answered report.dispatched report.ended (λ e. (turn.turn e).0) turn.last (few-devices was.desks) was.named h);
+      kept = ∥∥₁_map was.kept (λ h. kept-any (lasts was.desks) (g.B.Judges.pages was.book) (g.B.Judges.pages now.book) (rows was.desks) (rows now.desks) report.answered report.dispatched report.ended (λ e. (turn.turn e).0) turn.last (devices-told was.desks) was.named h);
       named = named-any (lasts was.desks) (g.B.Judges.pages was.book) (g.B.Judges.pages now.book) (rows was.desks) (rows now.desks) report.answered report.dispatched report.ended (λ e. (turn.turn e).0) turn.last was.named;
       ready = turn.ready;
       shut = λ e. shut-last (g.B.Judges.pages was.book) (g.B.Judges.pages now.book) (rows was.desks) (rows now.desks) report.answered report.dispatched (turn.last e);

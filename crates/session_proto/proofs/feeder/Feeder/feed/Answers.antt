@@ -1,12 +1,13 @@
 use Rattle.std.proofs.Common.{ℕ, List, take, refl, sym, ap, ◌∙◌}
 use Rattle.std.proofs.lemmas.List.{take_at}
 use Rattle.session_proto.specs.Stream.{Held}
+use Rattle.session_proto.specs.declared.version.Version.TheVariants.{One}
 use Rattle.session_proto.proofs.Streams.{comes_unheld, reads_piece, comes_piece, grows_by, is_fault, refused}
 use Rattle.session_proto.proofs.feeder.Feeder.feed.Goals as goal
 
 pub returns-in-Some-clause-came : goal.returns-in-Some-clause-came
 returns-in-Some-clause-came g c = λ stream values came. rw c.new.ensures.items
-    (comes_unheld g.S.Side.body g.S.Side.fits g.S.Side.body_at g.S.Side.MOST c.args.self.now stream c.args.piece.now values c.in-Some.fault
+    (comes_unheld g.S.Side.body (g.S.Side.fits One) (g.S.Side.body_at One) g.S.Side.MOST c.args.self.now stream c.args.piece.now values c.in-Some.fault
     (rw (← c.self.view_is) c.in-Some.is) came)
 
 pub returns-in-Some-clause-fault : goal.returns-in-Some-clause-fault
