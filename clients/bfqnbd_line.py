@@ -85,8 +85,10 @@ class BridgeLine:
 
 
 def tell(text: str) -> None:
-    """Says a line on standard error, where it takes one."""
+    """Says a line on standard error, where it takes one. It goes out in one write, as processes say theirs at the same time; `print` makes
+    two of them if nothing is buffered."""
     try:
-        print(f"bfqnbd: {text}", file=sys.stderr, flush=True)
+        sys.stderr.write(f"bfqnbd: {text}\n")
+        sys.stderr.flush()
     except OSError:
         pass

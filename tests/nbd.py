@@ -647,6 +647,19 @@ def without_looks(place):
         bridge.ended()
 
 
+def told_whole(_):
+    """A line for a person goes out in one write, whether Python buffers or not: connections say theirs at the same time."""
+    script = f"import sys; sys.path.insert(0, {os.path.dirname(BRIDGE)!r}); import bfqnbd_line; bfqnbd_line.tell('a line')"
+    for words in (["-E"], ["-E", "-u"]):
+        # Each write to such a socket is a message of its own.
+        ours, theirs = socket.socketpair(socket.AF_UNIX, socket.SOCK_SEQPACKET)
+        with ours:
+            with theirs:
+                subprocess.run([sys.executable, *words, "-c", script], stderr=theirs, timeout=SECONDS, check=True)
+            same("its first write", ours.recv(4096), b"bfqnbd: a line\n")
+            same("its end", ours.recv(4096), b"")
+
+
 class OfSize:
     """Answers looks at the sectors of a device of this size, as a host does of which nothing is stored."""
 
@@ -744,7 +757,7 @@ def goes_with_its_bridge(place):
 # The words of the host of a run, if it wants others.
 HOSTS = {"full": ("--history", "22"), "without_looks": ("--no-inspect",), "idle_end_without_looks": ("--no-inspect",)}
 RUNS = (handshake, any_byte, clears, long_ones, classes, bad_input, typos, cut_anywhere, limit_of_frames, many_connections, held, frozen_reader, stopped, killed, idle_end,
-        idle_end_without_looks, another_host, full, words, not_allowed, no_way_in, without_looks, sizes, log, log_ends, goes_with_its_bridge,
+        idle_end_without_looks, another_host, full, words, not_allowed, no_way_in, without_looks, told_whole, sizes, log, log_ends, goes_with_its_bridge,
         *UNDO_RUNS)
 
 
