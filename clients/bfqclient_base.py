@@ -16,7 +16,7 @@ from typing import Any, Callable, Dict, Iterable, NamedTuple, Optional, Tuple, T
 
 # The bytes of a sector.
 SECTOR = 512
-# A read or a write has at most so many sectors.
+# A read, a write or a discard has at most so many sectors.
 MOST_SECTORS = 64
 # The longest frame that a host sends: a read of 64 sectors.
 LONGEST = 9 + MOST_SECTORS * SECTOR
@@ -44,8 +44,8 @@ REFUSALS: Dict[int, Tuple[str, str]] = {
     12: ("BadCount", "a read, a write or a discard has 1 to 64 sectors"),
     13: ("BadLength", "a write brings 512 bytes for each sector, and a read or a discard none; no line of a script breaks this"),
     14: ("OutOfRange", "the last of these sectors is past the end of the device"),
-    15: ("TooManyBios", "the session has 32 reads and writes that are not reaped; reap one first"),
-    16: ("NothingOwed", "the session has no result to come: it has reaped one for each read and write, if it made any"),
+    15: ("TooManyBios", "the session has 32 reads, writes and discards that are not reaped; reap one first"),
+    16: ("NothingOwed", "the session has no result to come: it has reaped one for each read, write and discard, if it made any"),
     17: ("NothingQueued", "no request waits to be sent"),
     18: ("NoTag", "every tag bears a request in flight; one must be finished or given back first"),
     19: ("BadTag", "tags are numbered from 0, and are as many as --tags says"),
@@ -65,9 +65,9 @@ REFUSALS: Dict[int, Tuple[str, str]] = {
     33: ("HistoryFull", "the journal has as many accepted calls as --history allows; going back makes no room"),
     34: ("OutOfMemory", "there was no memory for this call"),
     41: ("Held", "the host is held; it takes no step, a completion neither, until it is released"),
-    42: ("Frozen", "the host is frozen; it takes no new read or write until it is thawed"),
-    43: ("RequestsFull", "there are as many requests as --nr-requests allows, and this read or write joins none of them"),
-    44: ("NotCompleted", "of the reads and writes that the session has not reaped, none is finished yet"),
+    42: ("Frozen", "the host is frozen; it takes no new read, write or discard until it is thawed"),
+    43: ("RequestsFull", "there are as many requests as --nr-requests allows, and this read, write or discard joins none of them"),
+    44: ("NotCompleted", "of the reads, writes and discards that the session has not reaped, none is finished yet"),
 }
 
 Path = Union[str, bytes, "os.PathLike[str]", "os.PathLike[bytes]"]
@@ -82,7 +82,7 @@ class ClientError(Exception):
     sentence  what the name says
     kind      what was asked: `connect`, `attach`, `read`, `write`, `discard`, `reap`, `leave` or `run`; None if that is not known
     sectors   the sectors that it is about, as a `range`; None if there are none
-    bios      the numbers of the reads and writes that it is about, as the host counts them
+    bios      the numbers of the reads, writes and discards that it is about, as the host counts them
     also      what was refused or failed besides, in the same call
     """
 

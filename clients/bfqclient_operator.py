@@ -77,7 +77,7 @@ class Operator:
         self._ask("set-weight", framed(0x13, "BH", group, weight), DONE, timeout)
 
     def freeze(self, timeout: Optional[float] = None) -> None:
-        """From now on new reads and writes wait."""
+        """From now on new reads, writes and discards wait."""
         self._ask("freeze", framed(0x14), DONE, timeout)
 
     def thaw(self, timeout: Optional[float] = None) -> None:

@@ -451,7 +451,7 @@ class Session:
         """The results of a run; `kind` and `sectors` tell what it is about if it ends the session."""
         self._is_free()
         if self._owed:
-            raise Misuse(f"{len(self._owed)} reads and writes of `submit` are not reaped: reap them first")
+            raise Misuse(f"{len(self._owed)} reads, writes and discards of `submit` are not reaped: reap them first")
         self._is_running = True
         flight = Flight(self, ios, depth)
         try:

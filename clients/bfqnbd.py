@@ -278,7 +278,7 @@ def seats_word(text: str) -> Tuple[int, int]:
 
 
 def depth_word(text: str) -> int:
-    """A number of reads and writes."""
+    """A number of reads, writes and discards."""
     if re.fullmatch("[0-9]{1,2}", text, re.ASCII) is None or not 1 <= int(text) <= MOST_BIOS:
         raise argparse.ArgumentTypeError(f"N is 1 to {MOST_BIOS}, and not {text!r}")
     return int(text)

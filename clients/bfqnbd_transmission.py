@@ -247,7 +247,7 @@ class Transmission:
         count = self.requests.again(lost)
         now = time.monotonic()
         if why and (count or now - self.told_at >= TOLD_AGAIN):
-            self.told(f"steps were undone and not redone ({why}): it goes on, {count} reads and writes are asked anew")
+            self.told(f"steps were undone and not redone ({why}): it goes on, {count} reads, writes and discards are asked anew")
             self.told_at = now
 
     def part(self, error: int, why: str) -> None:

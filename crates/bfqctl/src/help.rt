@@ -31,7 +31,7 @@ COMMANDS
     group-make PARENT WEIGHT     a group comes under its parent; 0 is the root
     group-drop GROUP             a group goes
     set-weight GROUP WEIGHT      a group gets another weight, 1 to 1000
-    freeze                       from now on reads and writes wait
+    freeze                       from now on reads, writes and discards wait
     thaw                         they wait no longer
     switch none|bfq              a frozen host without a request gets this scheduler
     tick                         the queue in service grows older

@@ -205,7 +205,7 @@ fn meanings_of_numbers(rt: HostRuntime) {
     assert_eq!(rt;
         meaning_of("43"),
         Some(
-            "43 RequestsFull: there are as many requests as --nr-requests allows, and this read or write joins none of them"
+            "43 RequestsFull: there are as many requests as --nr-requests allows, and this read, write or discard joins none of them"
         )
     );
     for number in ["0", "7x", "35", "40", "", "attach"] {

@@ -3,7 +3,7 @@
 //!
 //! | call | rule that it meets |
 //! |---|---|
-//! | [`work_once`] | a store is stored, and nothing is read; a fetch gives the image's bytes, or how the read ended |
+//! | [`work_once`] | a store or a discard is stored, and nothing is read; a fetch gives the image's bytes, or how the read ended |
 //!
 //! A fetch reads until its range is full. Where the image ends before, it failed short; where the device fails, it failed by
 //! a fault; where the device is busy, the request is given back. Each read asks for what is left, behind what came so far, and

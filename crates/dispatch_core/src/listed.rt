@@ -38,7 +38,7 @@ impl<'a> Listed<'a> {
         request.session
     }
 
-    /// Whether it reads or writes.
+    /// Whether it reads, writes or discards.
     pub fn op(&self) -> Op
         ensures { result ≡ self.now.op }
     {

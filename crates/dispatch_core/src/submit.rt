@@ -17,7 +17,7 @@ use change_record::{Parts, Tape};
 use plain::{BIO_SECTORS, SEATS, SECTOR_BYTES, SESSION_BIOS};
 use sector_core::{Op, OutOfMemory, Range};
 
-/// The bio is named by the step's serial; a store has 512 bytes for each sector, a fetch none.
+/// The bio is named by the step's serial; a store has 512 bytes for each sector, a fetch or a discard none.
 pub fn run_submit(
     sizes: Sizes,
     parts: &mut Parts,

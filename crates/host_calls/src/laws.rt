@@ -16,7 +16,7 @@ pub fn blocks_are_full()
 {}
 
 /// There each bio that is queued, in the dispatch list or in flight has 1 to 64 sectors, and a payload of 512 bytes for each
-/// of them where it is a store, and of none where it is a fetch. The body is empty: the contract is the law.
+/// of them where it is a store, and of none where it is a fetch or a discard. The body is empty: the contract is the law.
 pub fn payloads_fit()
     ensures { (l : Limits) (most : ℕ) (journal : List Call) → EachPayloadFits l most journal }
 {}

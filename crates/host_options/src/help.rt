@@ -62,7 +62,7 @@ OPTIONS of serve
     --dir DIR            the folder of the sockets: client0, client1 and so on, operator and inspect
     --clients N          clients that have a socket, 1 to 16 (4)
     --workers N          workers of the device, 1 to 4 (2)
-    --delay US           each read or write takes a worker so many microseconds at least, 0 to 1000000 (0)
+    --delay US           each request takes a worker so many microseconds at least, 0 to 1000000 (0)
     --bad START+COUNT,.. a read that has one of these sectors fails; at most 16 runs of sectors
     --no-inspect         no socket inspect
     --record FILE        every accepted call goes to FILE, which must not be there
@@ -74,7 +74,7 @@ OPTIONS of replay
     --list               list the entries, and read no script
 
 SERVE
-    It serves until the operator stops it (bfqctl --socket DIR/operator stop). Each read or write makes four calls:
+    It serves until the operator stops it (bfqctl --socket DIR/operator stop). Each read, write or discard makes four calls:
     so the usual history holds 16384 of them, and then nothing more is accepted. Say --history 16777216 for a long run.
     A line on standard error says when it serves, another when nine tenths of the history are used, and one when it is full.
     At DIR/inspect lines of a script that only look (sector, queue, vtime, entity, class, line, show) are answered as there.
@@ -110,8 +110,8 @@ REFUSALS: what 'refused N' says; nothing has changed
     12 BadCount: a read, a write or a discard has 1 to 64 sectors
     13 BadLength: a write brings 512 bytes for each sector, and a read or a discard none; no line of a script breaks this
     14 OutOfRange: the last of these sectors is past the end of the device
-    15 TooManyBios: the session has 32 reads and writes that are not reaped; reap one first
-    16 NothingOwed: the session has no result to come: it has reaped one for each read and write, if it made any
+    15 TooManyBios: the session has 32 reads, writes and discards that are not reaped; reap one first
+    16 NothingOwed: the session has no result to come: it has reaped one for each read, write and discard, if it made any
     17 NothingQueued: no request waits to be sent
     18 NoTag: every tag bears a request in flight; one must be finished or given back first
     19 BadTag: tags are numbered from 0, and are as many as --tags says
@@ -133,9 +133,9 @@ REFUSALS: what 'refused N' says; nothing has changed
 
 CAUSES: what 'notyet N' says; nothing has changed, and the same line may be accepted later
     41 Held: the host is held; it takes no step, a completion neither, until it is released
-    42 Frozen: the host is frozen; it takes no new read or write until it is thawed
-    43 RequestsFull: there are as many requests as --nr-requests allows, and this read or write joins none of them
-    44 NotCompleted: of the reads and writes that the session has not reaped, none is finished yet
+    42 Frozen: the host is frozen; it takes no new read, write or discard until it is thawed
+    43 RequestsFull: there are as many requests as --nr-requests allows, and this read, write or discard joins none of them
+    44 NotCompleted: of the reads, writes and discards that the session has not reaped, none is finished yet
 
 EXIT STATUS
     0 end of input, or the operator's stop    2 bad line    3 read fault    4 write fault    5 no memory
