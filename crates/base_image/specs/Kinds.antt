@@ -19,6 +19,10 @@ pub record Read : Type 0 where
 abbrev pub unread : Disk → Read
 unread disk = record { disk = disk; log = [] }
 
+-- images of files, none of which was read yet (our profile)
+abbrev pub AreUnread : List Read → Type 0
+AreUnread images = (i : ℕ) (image : Read) → slice_get images i ≡ Some image → image ≡ unread (fresh image.disk.sectors None true)
+
 -- a read that never fails, and fills as much of the buffer as the known bytes reach (our profile)
 abbrev pub FillsAll : Known → ℕ → List ℕ → Result ℕ ImageFault → Type 0
 FillsAll None offset buffer result = Unit {0}

@@ -1,6 +1,6 @@
 // Images of files that are opened by name.
 ghost use Rattle.std.specs.Prelude.{◌≡◌, ◌↔◌, length, IfOk, IsTrue, None, true};
-ghost use Rattle.base_image.specs.Kinds.{fresh, unread, AreAlike};
+ghost use Rattle.base_image.specs.Kinds.{fresh, unread, AreAlike, AreUnread};
 
 use crate::file::FileImage;
 use crate::image::Image;
@@ -26,7 +26,7 @@ pub fn file_image(rt: &impl Files<File = File>, path: &str) -> io::Result<FileIm
     File::open(rt, path).and_then(FileImage::from_file)
 }
 
-/// The image in a file, opened once for each of so many workers. Each tells the same number of sectors.
+/// The image in a file, opened once for each of so many workers. None was read yet, and each tells the same number of sectors.
 ///
 /// # Errors
 ///
@@ -39,6 +39,7 @@ pub fn file_images(
 ) -> io::Result<Vec<FileImage>>
     ensures many { IfOk result (λ images. length images.items ≡ workers) }
     ensures alike { IfOk result (λ images. AreAlike images.items) }
+    ensures unread { IfOk result (λ images. AreUnread images.items) }
 {
     let mut images = Vec::new(alloc);
     for _opened in 0..workers {

@@ -1,13 +1,10 @@
 -- Rounds, one after the other.
-use Rattle.std.proofs.Common.{◌≡◌, ℕ, ◌-◌, ◌^◌, ◌<◌, List, [], ◌∷◌, ◌++◌, Option, None, Some, map, refl, ap, sym, subst, inl, ◌∙◌, append_assoc, append-nil, arith}
+use Rattle.std.proofs.Common.{◌≡◌, ℕ, ◌-◌, ◌^◌, ◌<◌, List, [], ◌∷◌, ◌++◌, Option, None, Some, map, refl, ap, sym, subst, inl, ◌∙◌, append_assoc, arith}
 use Rattle.std.proofs.lemmas.List.{map-append}
 use Rattle.base_image.specs.Image.{Disk, Log}
 use Rattle.base_image.specs.Kinds.{Read}
-use Rattle.device_engine.specs.Work.{Works, ReadsFor, ReadsInVain}
+use Rattle.device_engine.specs.Work.{Works, ReadsFor}
 use Rattle.host_calls.specs.declared.ring.RingReply.{RingReply}
-use Rattle.host_calls.specs.declared.ring.RingReply.TheVariants.{Answer as Answered}
-use Rattle.plain.specs.declared.answer.Answer.TheVariants.{Accepted}
-use Rattle.plain.specs.declared.answer.Reply.TheVariants.{Taken}
 use Rattle.plain.specs.declared.answer.Work.{Work}
 use Rattle.plain.specs.declared.call.DeviceCall.{DeviceCall}
 use Rattle.plain.specs.declared.call.DeviceCall.TheVariants.{Take, Finish, Requeue}

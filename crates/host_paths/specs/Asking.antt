@@ -1,5 +1,5 @@
 -- How a seat of a host answers a client (our profile).
-use Rattle.std.specs.Prelude.{◌≡◌, Bool, true, false, List, [], ◌∷◌, ◌++◌, length, Result, Ok, Err}
+use Rattle.std.specs.Prelude.{◌≡◌, true, false, [], ◌∷◌, ◌++◌, length, Result, Ok, Err}
 use Rattle.plain.specs.declared.answer.Answer.{Answer}
 use Rattle.host_calls.specs.Frames.{AnswerHasFrame}
 use Rattle.host_calls.specs.declared.client.ClientCall.{ClientCall}

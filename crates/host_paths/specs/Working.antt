@@ -1,11 +1,11 @@
 -- What a worker of a device does, call after call (our profile).
-use Rattle.std.specs.Prelude.{◌≡◌, ℕ, ◌-◌, ◌^◌, Bool, true, false, List, [], ◌∷◌, ◌++◌, length, Option, None, Some, map}
+use Rattle.std.specs.Prelude.{◌≡◌, ℕ, ◌-◌, ◌^◌, true, false, List, [], ◌∷◌, ◌++◌, length, Option, None, Some, map}
 use Rattle.rtrb.specs.declared.AnyItems.{AnyItems}
 use Rattle.base_image.specs.Image.{Disk, Log}
 use Rattle.base_image.specs.Kinds.{Read}
 use Rattle.device_engine.specs.Work.{Works, ReadsFor, ReadsInVain}
 use Rattle.host_calls.specs.declared.ring.RingReply.{RingReply}
-use Rattle.host_calls.specs.declared.ring.RingReply.TheVariants.{Answer as Answered, Closed as Closing}
+use Rattle.host_calls.specs.declared.ring.RingReply.TheVariants.{Answer as Answered}
 use Rattle.plain.specs.declared.answer.Answer.TheVariants.{Accepted, Refused}
 use Rattle.plain.specs.declared.answer.Code.TheVariants.{HistoryFull as NoHistory}
 use Rattle.host_paths.specs.declared.worker.WorkerEnd.{WorkerEnd}

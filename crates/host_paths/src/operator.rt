@@ -1,8 +1,10 @@
 // The connections of the operator's path, one after the other.
-ghost use Rattle.std.specs.Prelude.{◌≡◌, [], ◌∷◌, length, false};
+ghost use Rattle.std.specs.Prelude.{◌≡◌, ◌+◌, ◌≤◌, [], ◌∷◌, length, true, false};
+ghost use Rattle.byte_writing.specs.Written.{IsWritten};
+ghost use Rattle.host_calls.specs.declared.ring.RingReply.TheVariants.{Closed as Closing};
 ghost use Rattle.host_core.specs.Opening.{IsIdle};
-ghost use Rattle.host_paths.specs.Operating.{IsBetween, Asks, HasAsked, IsOperated};
-ghost use Rattle.host_core.specs.Seats.{SameSeat, is_closed};
+ghost use Rattle.host_paths.specs.Operating.{IsBetween, Asks, HasAsked, IsOperated, frames_of};
+ghost use Rattle.host_core.specs.Seats.{SameSeat, is_closed, staged};
 
 use crate::clients::FRAME_LIMIT;
 use crate::threads::breathe;
@@ -50,11 +52,14 @@ pub fn serve_operators<R: Wait + Clock>(
     unreachable!()
 }
 
-/// Tells the operator that the host has ended. If he has gone away, he does not want to know.
-pub fn tell_closed<W: Write>(alloc: Global, writer: &mut W) {
-    if let Ok(frame) = encode(alloc, Version::One, &Host(RingReply::Closed)) {
-        let _ = writer.write_all(frame.as_slice());
-    }
+/// Tells the operator that the host has ended. Gives whether all of that was written: if he has gone away, he does not want to know.
+pub fn tell_closed<W: Write>(alloc: Global, writer: &mut W) -> bool
+    ensures told { IsWritten (W.contents writer.old) (W.contents writer.new) (frames_of (Closing ∷ [])) result }
+{
+    let Ok(frame) = encode(alloc, Version::One, &Host(RingReply::Closed)) else {
+        return false;
+    };
+    write_whole(writer, frame.as_slice())
 }
 
 /// Serves one connection of the operator: reads his frames, asks their calls one after the other, and writes each answer before the next
@@ -75,6 +80,7 @@ pub fn serve_operator<T: Wait, R: Read, W: Write>(
     ensures seat { SameSeat seat.old seat.new }
     ensures between { IsBetween seat.new }
     ensures operated { IsOperated (R.remaining reader.old) (R.remaining reader.new) (W.contents writer.old) (W.contents writer.new) seat.old seat.new }
+    ensures few { length (staged seat.new) ≤ length (staged seat.old) + frame_limit }
 {
     let mut feeder = Feeder::<Operator>::new(alloc);
     let mut piece = [0u8; PIECE_BYTES];
@@ -117,6 +123,8 @@ fn answer_all<T: Wait, W: Write>(
     ensures seat { SameSeat seat.old seat.new }
     ensures between { IsBetween seat.new }
     ensures asked { HasAsked seat.old seat.new (W.contents writer.old) (W.contents writer.new) calls.items result }
+    ensures few { length (staged seat.new) ≤ length (staged seat.old) + left.old }
+    ensures counted { result ≡ true → length (staged seat.new) + left.new ≡ length (staged seat.old) + left.old }
 {
     for call in calls {
         if *left == 0 {

@@ -1,4 +1,4 @@
-use Rattle.std.proofs.Common.{take, sym, ap, refl, ◌∙◌}
+use Rattle.std.proofs.Common.{take, sym, ap, refl, ◌∙◌, arith}
 use Rattle.host_paths.proofs.Asked.{seat-twice}
 use Rattle.host_paths.proofs.Operated.{begins, ends_here, ends_now, ends_unfed, ends_behind, goes_behind, same_seat}
 use Rattle.host_paths.proofs.operator.serve_operator.Goals as goal
@@ -36,6 +36,7 @@ loop-init g c = (
   c.requires,
   refl,
   begins (g.R.Read.remaining c.args.reader.now) (g.W.Write.contents c.args.writer.now) c.args.seat.now c.new-feeder.result c.new-feeder.ensures.none_came (ap (λ h. h.fault) c.new-feeder.ensures.new),
+  refl,
 )
 
 pub returns-then-left-eq0-clause-operated : goal.returns-then-left-eq0-clause-operated
@@ -69,4 +70,34 @@ loop-preserved g c = (
   c.read.auto.buf ∙ c.loop.invariant.2,
   goes_behind _ _ _ _ _ _ _ _ _ c.loop.feeder c.feed.new.self (take c.in-Ok.count c.read.new.buf) c.in-Ok-feed.fed.values.items c.answer_all.result c.in-Ok-feed.fed.fault c.loop.invariant.3
       c.in-Ok.ensures.bytes.0 c.in-Ok-feed.ensures.came c.answer_all.ensures.asked c.if-not-answer_all.false c.in-Ok-feed.ensures.fault (sym c.if-is_some.ensures),
+  (let counted = c.loop.invariant.4 in
+   let all = c.answer_all.ensures.counted c.if-not-answer_all.false in
+   omega (arith, counted, all)),
 )
+
+pub returns-then-left-eq0-clause-few : goal.returns-then-left-eq0-clause-few
+returns-then-left-eq0-clause-few g c = let counted = c.loop.invariant.4 in omega (arith, counted)
+
+pub returns-in_default-clause-few : goal.returns-in_default-clause-few
+returns-in_default-clause-few g c = let counted = c.loop.invariant.4 in omega (arith, counted)
+
+pub returns-in_default-feed-clause-few : goal.returns-in_default-feed-clause-few
+returns-in_default-feed-clause-few g c = let counted = c.loop.invariant.4 in omega (arith, counted)
+
+pub returns-then-not-answer_all-clause-few : goal.returns-then-not-answer_all-clause-few
+returns-then-not-answer_all-clause-few g c =
+    let counted = c.loop.invariant.4 in
+    let few = c.answer_all.ensures.few in
+    omega (arith, counted, few)
+
+pub returns-then-is_some-clause-few : goal.returns-then-is_some-clause-few
+returns-then-is_some-clause-few g c =
+    let counted = c.loop.invariant.4 in
+    let few = c.answer_all.ensures.few in
+    omega (arith, counted, few)
+
+pub returns-then-count-eq0-clause-few : goal.returns-then-count-eq0-clause-few
+returns-then-count-eq0-clause-few g c =
+    let counted = c.loop.invariant.4 in
+    let few = c.answer_all.ensures.few in
+    omega (arith, counted, few)

@@ -1,4 +1,4 @@
-use Rattle.std.proofs.Common.{◌≡◌, None}
+use Rattle.std.proofs.Common.{None}
 use Rattle.host_core.specs.Seats.{SameSeat}
 use Rattle.host_paths.specs.Working.{IsOpen, HasDone, read_of}
 use Rattle.host_paths.proofs.worker.run_worker.Given as goal
