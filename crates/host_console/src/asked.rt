@@ -11,7 +11,8 @@ use sector_core::{Class, OutOfMemory};
 use std::alloc::Global;
 
 /// The call that a line makes, whatever the keeper is. There is none where the line asks the keeper or the device first, or only
-/// looks.
+/// looks. Each line asks here once, and a call is wide: where it is made it need not be moved.
+#[inline(always)]
 pub fn call_of(alloc: Global, line: Line) -> Result<Option<Call>, OutOfMemory>
     ensures { IfOk result (λ call. call ≡ asked line) }
 {

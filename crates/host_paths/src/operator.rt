@@ -56,10 +56,10 @@ pub fn serve_operators<R: Wait + Clock>(
 pub fn tell_closed<W: Write>(alloc: Global, writer: &mut W) -> bool
     ensures told { IsWritten (W.contents writer.old) (W.contents writer.new) (frames_of (Closing ∷ [])) result }
 {
-    let Ok(frame) = encode(alloc, Version::One, &Host(RingReply::Closed)) else {
+    let Ok(closed) = encode(alloc, Version::One, &Host(RingReply::Closed)) else {
         return false;
     };
-    write_whole(writer, frame.as_slice())
+    write_whole(writer, closed.as_slice())
 }
 
 /// Serves one connection of the operator: reads his frames, asks their calls one after the other, and writes each answer before the next
