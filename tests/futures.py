@@ -176,25 +176,60 @@ def toy_faults(program):
 
 
 def played_faults(program, path, stdout):
-    """A failure is whole: tools/expect plays its script, tools/export writes its image, and the command fails again as it did."""
+    """A failure is as it was shown and whole, and the command fails again as it did."""
     with open(f"{path}.script", encoding="ascii") as file:
         rows = file.read().splitlines()
     if "".join(f"    {row}\n" for row in rows[1:]) not in stdout:
         yield f"{path}.script has not what was shown"
-    folder = os.path.dirname(os.path.dirname(path))
+    yield from whole_faults(program, path, rows)
+    with open(f"{path}.txt", encoding="ascii") as said:
+        ran = subprocess.run([RECOVER, f"{path}.img"], capture_output=True, text=True, timeout=SECONDS, check=False)
+        yield from differences("the check again", (ran.stdout, ran.returncode), (said.read(), 1))
+
+
+def whole_faults(program, path, rows):
+    """tools/expect plays a script, and tools/export writes the image beside it."""
     options = rows[0].partition(" -- ")[2].split()
     ran = subprocess.run([os.path.join(TOOLS, "expect"), "--program", program, f"{path}.script", "--", *options], capture_output=True,
                          text=True, timeout=SECONDS, check=False)
     yield from differences("tools/expect", ran.stdout + ran.stderr, f"{len(rows) - 1} lines asked, {len(rows) - 1} answers as wanted\n")
-    again = f"{path}.again"
+    disk, again = os.path.join(os.path.dirname(path), os.pardir, "disk.img"), f"{path}.again"
     lines = "".join(f"{row.partition(' -> ')[0]}\n" for row in rows)
-    subprocess.run([os.path.join(TOOLS, "export"), "--program", program, os.path.join(folder, "disk.img"), again], input=lines,
-                   capture_output=True, text=True, timeout=SECONDS, check=True)
-    with open(f"{path}.img", "rb") as image, open(again, "rb") as other, open(f"{path}.txt", encoding="ascii") as said:
-        if image.read() != other.read():
-            yield f"{path}.img is not what tools/export writes"
-        ran = subprocess.run([RECOVER, f"{path}.img"], capture_output=True, text=True, timeout=SECONDS, check=False)
-        yield from differences("the check again", (ran.stdout, ran.returncode), (said.read(), 1))
+    subprocess.run([os.path.join(TOOLS, "export"), "--program", program, disk, again], input=lines, capture_output=True, text=True,
+                   timeout=SECONDS, check=True)
+    with open(f"{path}.img", "rb") as image, open(again, "rb") as other:
+        yield from [] if image.read() == other.read() else [f"{path}.img is not what tools/export writes"]
+
+
+def jobs_faults(program):
+    """The checks of the toy writer as lines for a shell: of 20 contents the same 3 fail as where the tool runs the checks itself, with as few
+    steps. Each content has its image and the shortest script to it."""
+    with tempfile.TemporaryDirectory() as folder:
+        written(folder, "disk.img", bytes(64 * 512))
+        words = [os.path.join(TOOLS, "futures"), "--program", program, os.path.join(TOY, "forgets.clients"), "--image", "disk.img", "--check",
+                 RECOVER, "--into", "all of them", "--jobs-file", "all of them/jobs"]
+        with started(words, folder) as ran:
+            stdout = ran.communicate(timeout=SECONDS)[0].decode()
+        if not stdout.endswith(": complete\n20 checks written\n") or ran.returncode:
+            yield f"{stdout!r}, with status {ran.returncode}"
+        into = os.path.join(folder, "all of them")
+        with open(os.path.join(into, "jobs"), encoding="utf-8") as file:
+            jobs = file.read().splitlines()
+        with open(os.path.join(into, "contents.csv"), encoding="ascii") as file:
+            steps = [int(row["steps"]) for row in csv.DictReader(file)]
+        names = [f"content-{number:06}" for number in range(20)]
+        yield from differences("the files", sorted(os.listdir(into)),
+                               sorted(["contents.csv", "jobs", *(f"{it}.{end}" for it in names for end in ("img", "script"))]))
+        yield from differences("the jobs", jobs, [f"{RECOVER} '{os.path.join(into, it)}.img'" for it in names])
+        failed = [at for at, job in enumerate(jobs) if subprocess.run(job, shell=True, capture_output=True, timeout=SECONDS, check=False).returncode]
+        yield from differences("the steps of those that fail", [steps[at] for at in failed], [26, 28, 28])
+        for at in failed:
+            path = os.path.join(into, names[at])
+            with open(f"{path}.script", encoding="ascii") as file:
+                rows = file.read().splitlines()
+            # Its first line tells how it is played, and the second is the attach.
+            yield from differences("the steps of a script", len(rows) - 2, steps[at])
+            yield from whole_faults(program, path, rows)
 
 
 # Two clients with so many reads each, from the end of a script. None of them reaps, so with 64 tags no completion changes a lag.
@@ -292,6 +327,7 @@ def runs_of(program, is_all):
     for it in OPENINGS:
         yield f"futures: from {it.name}", lambda it=it: opening_faults(program, it)
     yield "futures: the toy writer", lambda: [*toy_faults(program)]
+    yield "futures: checks as jobs", lambda: [*jobs_faults(program)]
     for it in LAGS:
         yield f"futures: the lag of {it.name}", lambda it=it: [*lag_faults(program, it)]
     for count, lags in LAGS_LONG.items() if is_all else []:

@@ -2,8 +2,8 @@
 
 A command is a row that begins with four spaces, a dollar sign and a space; the rows below it, up to the next command or a text, are what
 is printed from then on, also by what runs beside it. Empty rows count for nothing. A folder that `mktemp -d` has made may have another
-name. Where a lesson says that its numbers differ from run to run, each number may be another. A lesson that needs a tool for file
-systems which is not there is left out, and that is told.
+name. Where a lesson says that its numbers differ from run to run, each number may be another. A lesson that needs a package which
+is not there is left out, and that is told.
 """
 
 import contextlib
@@ -25,7 +25,7 @@ SHOWN = "FOLDER"
 PAGES = ("README.md", "docs/GUIDE.md", "docs/NBD.md", "docs/OWN_RULE.md", "docs/FUTURES.md")
 DIFFERS = "The numbers differ from run to run."
 # What not every machine has; some of it stands where only root looks. A mount needs root besides, and FUSE with loop devices.
-OF_FILE_SYSTEMS = ("mkfs.ext4", "e2fsck", "debugfs", "nbdcopy", "nbdfuse", "qemu-io", "sqlite3")
+NOT_EVERYWHERE = ("mkfs.ext4", "e2fsck", "debugfs", "nbdcopy", "nbdfuse", "qemu-io", "sqlite3", "parallel")
 MOUNTS = "mount -o loop"
 # A row that calls a program of this repository; and what tests/documents.py runs of such rows.
 CALL = re.compile(r"(?:^|[\s|;])(?:\./bfq(?:host|ctl)|(?:clients|tests|tools)/\w[\w.]*)\s")
@@ -148,7 +148,7 @@ def served_lessons(*programs):
         yield f"documents: the command lines of {path}", [*not_run(path)]
     for head, commands, differs in found:
         text = " ".join(command for command, _ in commands)
-        lacking = [it for it in OF_FILE_SYSTEMS if it in text and not shutil.which(it, path=PATH)]
+        lacking = [it for it in NOT_EVERYWHERE if it in text and not shutil.which(it, path=PATH)]
         if MOUNTS in text and not can_mount():
             lacking.append("root with FUSE and loop devices")
         if lacking:

@@ -45,7 +45,7 @@ TWO_STORES = ["attach 0 0 4", "write 0 1 0 64 65", "write 0 1 100 64 66", "dispa
               "hold", "undo 2", "redo 2", "undo 1", "release"]
 OF_TWO_STORES = ["attached 1", "queued 2", "queued 3", "issued 0 4 store 0 64", "issued 1 5 store 100 64", "finished 1", "finished 1",
                  "moved 7 7", "moved 5 7", "moved 7 7", "moved 6 7", "done"]
-SHORT_ROWS = ["host", "turn", "work", "serve", "feed", "record", "look"]
+SHORT_ROWS = ["host", "turn", "work", "serve", "feed", "feed2", "record", "look"]
 ONCE, ALWAYS = "once", "always"
 UNPREPARED, KEPT, WANTING, HALF_WAY = "no memory before the row", "kept", "kept without memory", "kept half way"
 # So many random scripts, each of so many calls.

@@ -10,6 +10,7 @@ use crate::runs::run_calls;
 use crate::sessions::{feed_row, serve_row};
 use crate::verdict::{Met, Mode, Verdict};
 use crate::words::words_row;
+use session_proto::Version;
 use std::alloc::Global;
 use std::io::Read;
 
@@ -110,7 +111,9 @@ fn short_row(alloc: Global, mode: Mode, row: &[u8]) -> Verdict {
     } else if row == b"serve".as_slice() {
         serve_row(alloc, mode)
     } else if row == b"feed".as_slice() {
-        feed_row(alloc, mode)
+        feed_row(alloc, mode, Version::One)
+    } else if row == b"feed2".as_slice() {
+        feed_row(alloc, mode, Version::Two)
     } else if row == b"record".as_slice() {
         record_row(alloc, mode)
     } else if row == b"look".as_slice() {

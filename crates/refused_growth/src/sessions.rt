@@ -9,7 +9,7 @@ use history::Keeper;
 use host_calls::ClientCall;
 use plain::{Answer, Call, Code, Reply, Step};
 use sector_core::{Class, Op, Range};
-use session_proto::{Client, ClientFeeder, EndCause, SessionEnd, serve};
+use session_proto::{Client, ClientFeeder, EndCause, SessionEnd, Version, serve};
 use session_solo::Solo;
 use std::alloc::{AllocError, Global};
 
@@ -146,9 +146,20 @@ struct Stream {
     values: Digest,
 }
 
-// The session from above, with a store of a sector before its Reap.
-fn stream_of(alloc: Global) -> Result<Stream, AllocError> {
+// That the stream is of version 2; Attach in the root, of priority 4 and of real time; and a discard of sectors 4 and 5.
+const OPENED: &[u8] = &[
+    0, 0, 0, 2, 7, 2, //
+    0, 0, 0, 4, 8, 0, 4, 1, //
+    0, 0, 0, 19, 6, 0, 0, 0, 0, 0, 0, 0, 1, 0, 0, 0, 0, 0, 0, 0, 4, 0, 2,
+];
+
+// The session from above, with a store of a sector before its Reap. In version 2 it begins as above.
+fn stream_of(alloc: Global, version: Version) -> Result<Stream, AllocError> {
     let (front, reap) = SESSION.split_at(30);
+    let (front, class, op) = match version {
+        Version::One => (front, Class::BestEffort, Op::Fetch),
+        Version::Two => (OPENED, Class::RealTime, Op::Discard),
+    };
     let mut bytes = Vec::new(alloc);
     bytes.extend_from_slice(front)?;
     bytes.extend_from_slice(&[0, 0, 2, 19, 3, 0, 0, 0, 0, 0, 0, 0, 1])?;
@@ -161,12 +172,12 @@ fn stream_of(alloc: Global) -> Result<Stream, AllocError> {
         &ClientCall::Attach {
             group: 0,
             prio: 4,
-            class: Class::BestEffort,
+            class,
         }
         .of_seat(0),
     );
-    let fetch = submit(Op::Fetch, Range { start: 4, count: 2 }, Bytes::new());
-    add_call(&mut values, &fetch);
+    let first = submit(op, Range { start: 4, count: 2 }, Bytes::new());
+    add_call(&mut values, &first);
     let payload = Bytes::from_vec(vec![in alloc; 7u8; 512]?)?;
     let store = submit(Op::Store, Range { start: 9, count: 1 }, payload);
     add_call(&mut values, &store);
@@ -184,9 +195,9 @@ fn submit(op: Op, range: Range, payload: Bytes) -> Call {
     call.of_seat(0)
 }
 
-/// A stream in three pieces, which are cut inside of frames. A piece that finds no memory is fed again.
-pub fn feed_row(alloc: Global, mode: Mode) -> Verdict {
-    match stream_of(alloc) {
+/// A stream of this version in four pieces, which are cut inside of frames, the first frame too. A piece that finds no memory is fed again.
+pub fn feed_row(alloc: Global, mode: Mode, version: Version) -> Verdict {
+    match stream_of(alloc, version) {
         Ok(stream) => ended(feed_all(alloc, mode, &stream)),
         Err(_) => Verdict::Unprepared,
     }
@@ -197,7 +208,7 @@ fn feed_all(alloc: Global, mode: Mode, stream: &Stream) -> Result<Met, Broken> {
     let mut values = Digest::new();
     let mut feeder = ClientFeeder::new(alloc);
     let bytes = stream.bytes.as_slice();
-    for (from, to) in [(0, 20), (20, 300), (300, bytes.len())] {
+    for (from, to) in [(0, 3), (3, 20), (20, 300), (300, bytes.len())] {
         let piece = bytes.get(from..to).unwrap_or(&[]);
         if feed_one(alloc, &mut feeder, piece, &mut values) {
             continue;
