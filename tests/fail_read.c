@@ -4,7 +4,7 @@
  *     FAIL_FILE=/tmp/image FAIL_NTH=7 FAIL_ERRNO=11 LD_PRELOAD=./fail_read.so PROGRAM
  *
  * The 7th read of that file fails with error 11, and takes nothing. The file is named as the system names it, with no link in the name, and
- * reads of others are as ever. With READ_AT_MOST=200 no read of it gives more than 200 bytes. Reads are counted from the start of the
+ * reads of others are as ever. With FAIL_COUNT=3 so do the two behind it. With READ_AT_MOST=200 no read of it gives more than 200 bytes. Reads are counted from the start of the
  * program, over all that it has open of the file. At the end one line stands on standard error: `fail_read: R reads, F failed`. Without
  * FAIL_NTH, or with 0, none fails. */
 
@@ -14,7 +14,7 @@ extern long readlink(const char *, char *, size);
 
 #define NAME_BYTES 4096
 
-static size reads, failed, nth, most;
+static size reads, failed, nth, count, most;
 static int error;
 static const char *file;
 
@@ -25,6 +25,7 @@ static void (*next_exit)(int);
 __attribute__((constructor)) static void find(void) {
     nth = number_of(getenv("FAIL_NTH"));
     error = (int)number_of(getenv("FAIL_ERRNO"));
+    count = getenv("FAIL_COUNT") ? number_of(getenv("FAIL_COUNT")) : 1;
     most = number_of(getenv("READ_AT_MOST"));
     file = getenv("FAIL_FILE");
     next_pread = dlsym(NEXT, "pread");
@@ -45,7 +46,8 @@ static int is_of_file(int descriptor) {
 
 /* Counts a read, and says whether it fails. */
 static int fails(void) {
-    if (COUNTED(reads) != nth)
+    size number = COUNTED(reads);
+    if (!nth || number < nth || number - nth >= count)
         return 0;
     COUNTED(failed);
     *__errno_location() = error;

@@ -4,9 +4,11 @@ The shim lets no read give more than READ_AT_MOST bytes, so a fetch takes severa
 past the reads of a clean run. What must come is worked out from docs/FORMATS.md line by line, as is how many reads there are:
 
 - The file is read once when it is opened, and once for each worker. If that fails the run is refused.
-- A fetch is read until its range is full, also while the host is held. A store, a discard and any other line reads nothing.
+- A fetch is read until its range is full, also while the host is held. A store, a discard and any other line reads nothing. Where no read
+  is cut short a fetch is one read, as each asks for all that is left.
 - The system says that the read was interrupted, or that it would have to wait: then the request is given back, and the next `work` line
   reads it from its start. With any other error the read has failed, and that is what the client hears.
+- A worker of a host waits before it tries again, twice as long each time.
 """
 
 import contextlib
@@ -15,6 +17,7 @@ import os
 import re
 import subprocess
 import tempfile
+import time
 from concurrent.futures import ThreadPoolExecutor
 
 from bad_input import BAD_WORDS
@@ -31,13 +34,15 @@ FAILED = ("EIO", "ETIMEDOUT")
 # In frames: a read that failed as the device did.
 FAULT = "85 {:016x} 02"
 STORED = 65
+# How often an image is busy in a row: the last pause but for the longest one is 64 milliseconds.
+BUSY_READS = 7
 
 
 class Script:
     """Lines of a script, what each must print, and how many reads there were, if the Nth one fails with this error."""
 
-    def __init__(self, nth, is_busy):
-        self.nth, self.is_busy = nth, is_busy
+    def __init__(self, nth, is_busy, at_most):
+        self.nth, self.is_busy, self.at_most = nth, is_busy, at_most
         self.lines, self.texts, self.serial = [], [], 0
         # That of the opening.
         self.reads = 1
@@ -55,7 +60,7 @@ class Script:
 
     def fails(self, count):
         """Reads a range till it is full. Gives whether a read failed, and then none came behind it."""
-        pieces = -(-count * SECTOR // READ_AT_MOST)
+        pieces = -(-count * SECTOR // self.at_most) if self.at_most else 1
         has_failed = self.reads < self.nth <= self.reads + pieces
         self.reads = self.nth if has_failed else self.reads + pieces
         return has_failed
@@ -98,9 +103,9 @@ class Script:
         self.takes(f"reap 0 {self.session}", f"completed {bio} discarded")
 
 
-def script(nth, is_busy):
+def script(nth, is_busy, at_most=READ_AT_MOST):
     """The script of all runs of `sim`."""
-    made = Script(nth, is_busy)
+    made = Script(nth, is_busy, at_most)
     made.fetches(0, 1, [sector_of(0)])
     made.fetches(5, 2, [sector_of(5), sector_of(6)])
     made.stores(9, 2, STORED)
@@ -120,9 +125,9 @@ class Shim:
     def __init__(self, path, image):
         self.path, self.image = path, os.path.realpath(image)
 
-    def environment(self, nth, name):
-        return {**os.environ, "LD_PRELOAD": self.path, "FAIL_FILE": self.image, "READ_AT_MOST": str(READ_AT_MOST), "FAIL_NTH": str(nth),
-                "FAIL_ERRNO": str(getattr(errno, name, 0))}
+    def environment(self, nth, name, at_most=READ_AT_MOST, count=1):
+        return {**os.environ, "LD_PRELOAD": self.path, "FAIL_FILE": self.image, "READ_AT_MOST": str(at_most), "FAIL_NTH": str(nth),
+                "FAIL_COUNT": str(count), "FAIL_ERRNO": str(getattr(errno, name, 0))}
 
 
 def told(said):
@@ -131,12 +136,12 @@ def told(said):
     return (int(found[1]), int(found[2]), said[:found.start()]) if found else (0, 0, said)
 
 
-def of_sim(program, shim, nth, name):
+def of_sim(program, shim, nth, name, at_most=READ_AT_MOST):
     """What a script did in another way than it must, if a read fails."""
-    wanted = script(nth, name in BUSY)
+    wanted = script(nth, name in BUSY, at_most)
     stdin = "".join(f"{line}\n" for line in wanted.lines).encode()
     ran = subprocess.run([program, "sim", "--image", shim.image], input=stdin, capture_output=True, timeout=SECONDS,
-                         env=shim.environment(nth, name), check=False)
+                         env=shim.environment(nth, name, at_most), check=False)
     reads, failed, said = told(ran.stderr)
     if nth == 1:
         found = [("standard output", ran.stdout, b""), ("standard error", said, CANNOT_BE_READ), ("the status", ran.returncode, BAD_WORDS),
@@ -159,6 +164,7 @@ def sims(program, shim):
             numbers = range(0, reads + 2)
             yield f"sim, each of {reads} reads fails with {name}", faults_in(pool.map(
                 lambda nth, name=name: caught(of_sim, program, shim, nth, name), numbers))
+    yield "sim, a fetch is one read", caught(of_sim, program, shim, 0, "", 0)
 
 
 def caught(run, *given):
@@ -204,6 +210,23 @@ def of_served(program, shim, name, nth):
         ended(host, 1 + nth + pieces * (2 if name in BUSY else 1), 1)
 
 
+def of_pauses(program, shim):
+    """The image is busy at the first reads of a fetch, one after the other. Behind each the worker waits, 1 millisecond at first and then twice
+    as long each time, so it takes 1 + 2 + 4 + .. of them. It may take longer, and not less."""
+    with tempfile.TemporaryDirectory(prefix="bfq-") as folder, contextlib.ExitStack() as stack:
+        env = shim.environment(2, "EAGAIN", 0, BUSY_READS)
+        host = stack.enter_context(Served(program, shim.image, folder, clients=1, workers=1, env=env))
+        client = stack.enter_context(host.talk(0))
+        client.asks((ATTACH, attached(1)))
+        began = time.monotonic()
+        client.asks((fetch(1, 5, 2), queued(2)), (reap(1), read(2, sector_of(5) + sector_of(6))))
+        took = time.monotonic() - began
+        least = (2 ** BUSY_READS - 1) / 1000
+        same(f"whether {took:.3f} seconds are less than {least}", took < least, False)
+        # That of the opening, those that failed, and the one that did not.
+        ended(host, 2 + BUSY_READS, BUSY_READS)
+
+
 def of_opening(program, shim, nth):
     """A host of two workers, whose image cannot be read when one of them opens it."""
     with tempfile.TemporaryDirectory(prefix="bfq-") as folder:
@@ -222,6 +245,7 @@ def serves(program, shim):
             yield f"serve, {which} read of a fetch fails with {name}", caught(of_served, program, shim, name, nth)
     for nth in (1, 2):
         yield f"serve, the image cannot be read by worker {nth}", caught(of_opening, program, shim, nth)
+    yield f"serve, the image is busy {BUSY_READS} times", caught(of_pauses, program, shim)
 
 
 def shim_of(program, folder):

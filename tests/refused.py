@@ -33,9 +33,10 @@ from shims import NoShim, shim_in
 
 SECONDS = 60
 # The rows of tests/scripts whose calls are made: a write and its read, a queue that expires, merges, an undone store, an undone failure,
-# the largest store, sectors of one page, and a discard over sectors half of which are stored.
+# the largest store, sectors of one page and of two, and a discard over sectors half of which are stored.
 SCRIPT_ROWS = ["write_and_read_back", "exhaustion_undone", "merges_and_undo_of_a_merge", "stale_finish_after_undo",
                "failed_read_undone_and_redone", "full_store_undone_and_redone", "two_sectors_of_one_page",
+               "stored_sectors_undone_and_redone",
                "discard_of_half_stored_sectors"]
 # Of these the calls are also made by one run of the keeper.
 RUN_ROWS = ["write_and_read_back", "failed_read_undone_and_redone"]
@@ -45,7 +46,7 @@ TWO_STORES = ["attach 0 0 4", "write 0 1 0 64 65", "write 0 1 100 64 66", "dispa
               "hold", "undo 2", "redo 2", "undo 1", "release"]
 OF_TWO_STORES = ["attached 1", "queued 2", "queued 3", "issued 0 4 store 0 64", "issued 1 5 store 100 64", "finished 1", "finished 1",
                  "moved 7 7", "moved 5 7", "moved 7 7", "moved 6 7", "done"]
-SHORT_ROWS = ["host", "turn", "work", "serve", "feed", "feed2", "record", "look"]
+SHORT_ROWS = ["host", "turn", "work", "serve", "feed", "feed2", "operator", "record", "look"]
 ONCE, ALWAYS = "once", "always"
 UNPREPARED, KEPT, WANTING, HALF_WAY = "no memory before the row", "kept", "kept without memory", "kept half way"
 # So many random scripts, each of so many calls.

@@ -13,7 +13,8 @@
 //! | `turn MODE` | turns of a host: a client, a device and the operator |
 //! | `work MODE` | work of a device: a fetch, and a store |
 //! | `serve MODE` | a session over a keeper, on one thread |
-//! | `feed MODE` | a stream of three pieces |
+//! | `feed MODE`, `feed2 MODE` | a client's stream of four pieces, of version 1 and of version 2 |
+//! | `operator MODE` | a stream of the operator, of three pieces |
 //! | `record MODE` | turns of a host, each recorded behind it |
 //! | `look MODE` | looks at a host, and a script of looks |
 //! | `words MODE` | each command of the operator, read from its words |

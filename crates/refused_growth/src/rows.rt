@@ -7,7 +7,7 @@ use crate::options::{Setting, setting_of};
 use crate::prepared::{Prepared, prepare};
 use crate::records::record_row;
 use crate::runs::run_calls;
-use crate::sessions::{feed_row, serve_row};
+use crate::sessions::{feed_operator_row, feed_row, serve_row};
 use crate::verdict::{Met, Mode, Verdict};
 use crate::words::words_row;
 use session_proto::Version;
@@ -114,6 +114,8 @@ fn short_row(alloc: Global, mode: Mode, row: &[u8]) -> Verdict {
         feed_row(alloc, mode, Version::One)
     } else if row == b"feed2".as_slice() {
         feed_row(alloc, mode, Version::Two)
+    } else if row == b"operator".as_slice() {
+        feed_operator_row(alloc, mode)
     } else if row == b"record".as_slice() {
         record_row(alloc, mode)
     } else if row == b"look".as_slice() {

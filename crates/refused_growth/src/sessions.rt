@@ -8,8 +8,8 @@ use bytes::Bytes;
 use history::Keeper;
 use host_calls::ClientCall;
 use plain::{Answer, Call, Code, Reply, Step};
-use sector_core::{Class, Op, Range};
-use session_proto::{Client, ClientFeeder, EndCause, SessionEnd, Version, serve};
+use sector_core::{Class, Op, Range, Scheduler};
+use session_proto::{Client, ClientFeeder, EndCause, Feeder, Operator, SessionEnd, Version, serve};
 use session_solo::Solo;
 use std::alloc::{AllocError, Global};
 
@@ -234,6 +234,78 @@ fn feed_one(alloc: Global, feeder: &mut ClientFeeder, piece: &[u8], values: &mut
         Ok(fed) => {
             for Client(call) in fed.values {
                 add_call(values, &call.of_seat(0));
+            }
+            if fed.fault.is_some() {
+                values.add(0);
+            }
+            true
+        }
+        Err(_) => false,
+    }
+}
+
+// Freeze, Undo of three steps, Switch to BFQ, Tick: the operator's.
+const OPERATED: &[u8] = &[
+    0, 0, 0, 1, 0x14, //
+    0, 0, 0, 5, 0x1a, 0, 0, 0, 3, //
+    0, 0, 0, 2, 0x16, 1, //
+    0, 0, 0, 1, 0x17,
+];
+
+/// A stream of the operator in three pieces, which are cut inside of frames. A piece that finds no memory is fed again.
+pub fn feed_operator_row(alloc: Global, mode: Mode) -> Verdict {
+    ended(feed_operator(alloc, mode))
+}
+
+fn feed_operator(alloc: Global, mode: Mode) -> Result<Met, Broken> {
+    let mut met = Met::new();
+    let mut values = Digest::new();
+    let mut feeder = Feeder::<Operator>::new(alloc);
+    for (from, to) in [(0, 3), (3, 12), (12, OPERATED.len())] {
+        let piece = OPERATED.get(from..to).unwrap_or(&[]);
+        if feed_operated(alloc, &mut feeder, piece, &mut values) {
+            continue;
+        }
+        met.note(mode)?;
+        if mode == Mode::Always {
+            return Ok(met);
+        }
+        if !feed_operated(alloc, &mut feeder, piece, &mut values) {
+            return breaks("the same piece, fed again, goes on", "");
+        }
+    }
+    if values == operated() && feeder.is_between() {
+        Ok(met)
+    } else {
+        breaks("the values are those of the stream", "")
+    }
+}
+
+// What the operator's stream asks.
+fn operated() -> Digest {
+    let mut values = Digest::new();
+    add_call(&mut values, &Call::Do(Step::Freeze));
+    add_call(&mut values, &Call::Undo { k: 3 });
+    let scheduler = Scheduler::Bfq;
+    add_call(&mut values, &Call::Do(Step::Switch { scheduler }));
+    add_call(&mut values, &Call::Do(Step::Tick));
+    values
+}
+
+// Feeds a piece of the operator's, and adds its values. Gives whether there was memory for it.
+fn feed_operated(
+    alloc: Global,
+    feeder: &mut Feeder<Operator>,
+    piece: &[u8],
+    values: &mut Digest,
+) -> bool {
+    match feeder.feed(alloc, piece) {
+        Ok(fed) => {
+            for Operator(call) in fed.values {
+                match call.into_call() {
+                    Some(call) => add_call(values, &call),
+                    None => values.add(0),
+                }
             }
             if fed.fault.is_some() {
                 values.add(0);
