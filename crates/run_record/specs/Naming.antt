@@ -23,3 +23,7 @@ parts_of Dispatch = Some (name.Core, Do step.Dispatch)
 -- an entry that has a frame is that of a call under this name (our profile)
 abbrev pub IsEntryOf : SeatName → Call → Entry → Type 0
 IsEntryOf seat call entry = EntryFits entry × (parts_of entry ≡ Some (seat, call))
+
+-- no entry that has a frame is that of the call under this name (our profile)
+abbrev pub HasNoEntry : SeatName → Call → Type 0
+HasNoEntry seat call = (entry : Entry) → IsEntryOf seat call entry → ⊥

@@ -1,6 +1,6 @@
 // The entry of a call under the name of its seat, and back.
-ghost use Rattle.std.specs.Prelude.{◌≡◌, ◌<◌, IfOk, IfSome, IsTrue};
-ghost use Rattle.run_record.specs.Naming.{parts_of, IsEntryOf};
+ghost use Rattle.std.specs.Prelude.{◌≡◌, ◌<◌, IfOk, IfSome, IfNone, IsTrue, IsFalse};
+ghost use Rattle.run_record.specs.Naming.{parts_of, IsEntryOf, HasNoEntry};
 ghost use Rattle.plain.specs.declared.call.Call.TheVariants.{Do};
 ghost use Rattle.plain.specs.declared.step.Step.TheVariants as step;
 ghost use Rattle.host_calls.specs.declared.seat.SeatName.TheVariants as seat_name;
@@ -29,14 +29,15 @@ const MOST_FETCHED: usize = 131_072;
 const MOST_COUNT: u32 = 65_535;
 
 impl Entry {
-    /// The entry of a call under this name. None if no entry is that: no call that a host's journal has under its seat's name. A payload
+    /// The entry of a call under this name. None only if no entry is that: no call that a host's journal has under its seat's name. A payload
     /// is shared and not copied.
     ///
     /// # Errors
     ///
     /// A payload is shared too often to count.
     pub fn of(name: SeatName, call: &Call) -> Result<Option<Entry>, AllocError>
-        ensures { IfOk result (λ found. IfSome found (IsEntryOf name call.now)) }
+        ensures found { IfOk result (λ found. IfSome found (IsEntryOf name call.now)) }
+        ensures none { IfOk result (λ found. IfNone found (HasNoEntry name call.now)) }
     {
         match call {
             Call::Do(step) => of_step(name, step),
@@ -84,7 +85,8 @@ impl Entry {
 
 // The entry of a step.
 fn of_step(name: SeatName, step: &Step) -> Result<Option<Entry>, AllocError>
-    ensures { IfOk result (λ found. IfSome found (IsEntryOf name (Do step.now))) }
+    ensures found { IfOk result (λ found. IfSome found (IsEntryOf name (Do step.now))) }
+    ensures none { IfOk result (λ found. IfNone found (HasNoEntry name (Do step.now))) }
 {
     match name {
         SeatName::Client(seat) => of_client(seat, step),
@@ -99,7 +101,8 @@ fn of_step(name: SeatName, step: &Step) -> Result<Option<Entry>, AllocError>
 
 // The entry of a client's step.
 fn of_client(seat: u8, step: &Step) -> Result<Option<Entry>, AllocError>
-    ensures { IfOk result (λ found. IfSome found (IsEntryOf (seat_name.Client seat) (Do step.now))) }
+    ensures found { IfOk result (λ found. IfSome found (IsEntryOf (seat_name.Client seat) (Do step.now))) }
+    ensures none { IfOk result (λ found. IfNone found (HasNoEntry (seat_name.Client seat) (Do step.now))) }
 {
     if seat >= CLIENTS {
         return Ok(None);
@@ -160,7 +163,8 @@ fn submit(
     payload: &Bytes,
 ) -> Result<Option<Entry>, AllocError>
     requires { seat < 16 }
-    ensures { IfOk result (λ found. IfSome found (IsEntryOf (seat_name.Client seat) (Do (step.Submit seat session op range payload.now)))) }
+    ensures found { IfOk result (λ found. IfSome found (IsEntryOf (seat_name.Client seat) (Do (step.Submit seat session op range payload.now)))) }
+    ensures none { IfOk result (λ found. IfNone found (HasNoEntry (seat_name.Client seat) (Do (step.Submit seat session op range payload.now)))) }
 {
     let most = match op {
         Op::Fetch | Op::Discard => 0,
@@ -181,7 +185,8 @@ fn submit(
 
 // The entry of a device's step.
 fn of_device(worker: u8, step: &Step) -> Result<Option<Entry>, AllocError>
-    ensures { IfOk result (λ found. IfSome found (IsEntryOf (seat_name.Device worker) (Do step.now))) }
+    ensures found { IfOk result (λ found. IfSome found (IsEntryOf (seat_name.Device worker) (Do step.now))) }
+    ensures none { IfOk result (λ found. IfNone found (HasNoEntry (seat_name.Device worker) (Do step.now))) }
 {
     if worker >= WORKERS {
         return Ok(None);
@@ -213,7 +218,8 @@ fn of_device(worker: u8, step: &Step) -> Result<Option<Entry>, AllocError>
 
 // Whether the bytes that were fetched are at most those of 256 sectors.
 fn is_short(outcome: &Outcome) -> bool
-    ensures { IsTrue result → OutcomeFits outcome.now }
+    ensures fits { IsTrue result → OutcomeFits outcome.now }
+    ensures not { IsFalse result → OutcomeFits outcome.now → ⊥ }
 {
     match outcome {
         Outcome::Fetched(bytes) => bytes.len() <= MOST_FETCHED,
@@ -223,7 +229,8 @@ fn is_short(outcome: &Outcome) -> bool
 
 // The entry of a step of the operator.
 fn of_setting(step: &Step) -> Option<Entry>
-    ensures { IfSome result (IsEntryOf seat_name.Operator (Do step.now)) }
+    ensures found { IfSome result (IsEntryOf seat_name.Operator (Do step.now)) }
+    ensures none { IfNone result (HasNoEntry seat_name.Operator (Do step.now)) }
 {
     let call = match step {
         Step::GroupMake { parent, weight } => OperatorCall::GroupMake {
@@ -248,7 +255,8 @@ fn of_setting(step: &Step) -> Option<Entry>
 
 // The entry of a call that goes along the line, if it is the operator's.
 fn of_history(name: SeatName, call: OperatorCall) -> Option<Entry>
-    ensures { IfSome result (λ found. (name ≡ seat_name.Operator) × (found ≡ entry.Operator (record { 0 = call }))) }
+    ensures found { IfSome result (λ found. (name ≡ seat_name.Operator) × (found ≡ entry.Operator (record { 0 = call }))) }
+    ensures none { IfNone result (name ≡ seat_name.Operator → ⊥) }
 {
     match name {
         SeatName::Operator => Some(Entry::Operator(Operator(call))),
