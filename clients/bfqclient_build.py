@@ -20,7 +20,7 @@ NAME, TAG = "bfqclient", "py3-none-any"
 # What the library is made of; its command and the bridge from NBD, whose modules nobody imports; and what builds it.
 LIBRARY = [NAME, *(f"{NAME}_{part}" for part in ("base", "moments", "operator", "record", "serve", "session"))]
 COMMANDS = [f"{NAME}_command.py", "bfqnbd.py", *(f"bfqnbd_{part}.py" for part in (
-    "connection", "handshake", "host", "line", "log", "look", "requests", "session", "transmission", "watch", "wire"))]
+    "connection", "handshake", "host", "line", "log", "look", "requests", "room", "session", "transmission", "watch", "wire"))]
 SOURCES = [*(f"{module}.py" for module in LIBRARY), *COMMANDS, "bfqclient_build.py", "pyproject.toml"]
 # A zip archive has no time before this one: 1980-01-01, in seconds since 1970 and by its parts.
 SECONDS, PARTS = 315_532_800, (1980, 1, 1, 0, 0, 0)

@@ -4,8 +4,9 @@ whether its history is full.
 The line of steps tells it exactly. `show host` has the last serial that was given and how many steps stand. Each step has the next serial.
 So while nothing is undone behind a session's Attach, the last serial less the number of steps that stand is the same as when it attached.
 
-What is not finished when the history becomes full never is, and a Reap for it waits for ever. No look tells how long the history is. So if
-nothing was accepted for a while, where reads and writes are under way, another seat is asked to attach: that is refused then.
+What is not finished when the history becomes full never is, and a Reap for it waits for ever. No look tells how long the history may be; the
+words that started the host do. If they cannot be had and nothing was accepted for a while, where reads, writes or discards are under way,
+another seat is asked to attach: that is refused then.
 """
 
 from __future__ import annotations
@@ -20,6 +21,7 @@ from bfqclient_base import ClientError, NoInspect, Refused
 from bfqclient_operator import Operator
 from bfqclient_session import Session
 from bfqnbd_line import ENDED, FULL, SITS, UNDONE, hear, say
+from bfqnbd_room import most_of
 from bfqnbd_wire import Gone
 
 # How often it looks, in seconds: while a session sits there, and while none does.
@@ -54,12 +56,14 @@ def line_of(operator: Operator) -> Line:
 class Watch:
     """What is known of the sessions that sit at the host."""
 
-    def __init__(self, operator: Operator, bridge: socket.socket, seats: List[int]) -> None:
+    def __init__(self, operator: Operator, bridge: socket.socket, seats: List[int], most: Optional[int]) -> None:
         self.operator, self.bridge, self.seats = operator, bridge, seats
+        # How many calls the history may have, if that is known.
+        self.most = most
         # The session at each seat, and how many serials were lost when it attached; None if that is not known yet.
         self.sessions: Dict[int, int] = {}
         self.lost: Dict[int, Optional[int]] = {}
-        # How many calls were accepted at the last look, and since when; when to ask whether the history is full.
+        # How many calls were accepted at the last look; when to ask whether the history is full, or to tell it again.
         self.journal = -1
         self.ask_at = 0.0
 
@@ -90,11 +94,7 @@ class Watch:
     def look(self) -> None:
         """One look. While the host is held what was undone may be redone, so nothing is said then."""
         line = line_of(self.operator)
-        if line.journal != self.journal or line.is_held or line.is_frozen:
-            self.journal, self.ask_at = line.journal, time.monotonic() + STILL
-        elif time.monotonic() > self.ask_at:
-            self.ask_at = time.monotonic() + STILL_AGAIN
-            self.look_for_room()
+        self.look_for_room(line)
         if line.is_held:
             return
         lost = line.serial - line.cursor
@@ -114,8 +114,21 @@ class Watch:
         # Of a session that is gone at least its Attach was undone.
         return lost if told[2] == str(session) else lost - 1
 
+    def look_for_room(self, line: Line) -> None:
+        """Tells if the history is full. At the look before it was as full: what was answered last has come to its client by now."""
+        is_still = line.journal == self.journal
+        self.journal = line.journal
+        if self.most is not None:
+            if is_still and line.journal >= self.most and time.monotonic() > self.ask_at:
+                self.ask_at = time.monotonic() + STILL
+                say(self.bridge, FULL)
+        elif not is_still or line.is_held or line.is_frozen:
+            self.ask_at = time.monotonic() + STILL
+        elif time.monotonic() > self.ask_at:
+            self.ask_at = time.monotonic() + STILL_AGAIN
+            self.ask_for_room()
 
-    def look_for_room(self) -> None:
+    def ask_for_room(self) -> None:
         """Whether the history has room, if something is under way that does not end."""
         seats = self.operator.looks([f"show seat {seat}" for seat in self.sessions])
         if any(told.split(" ")[5:6] not in ([], ["0"]) for told in seats) and self.is_full():
@@ -136,6 +149,6 @@ class Watch:
 def watch(folder: str, bridge: socket.socket, seats: List[int]) -> None:
     """Looks at the host of a folder till it has ended, or the bridge has."""
     try:
-        Watch(Operator(folder, PATIENCE), bridge, seats).run()
+        Watch(Operator(folder, PATIENCE), bridge, seats, most_of(folder)).run()
     except Gone:
         pass

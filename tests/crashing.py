@@ -290,7 +290,7 @@ class Unlimited:
 
 
 def discards(place):
-    """A discard is a state too. The clients of these tests ask for none, so here is what finds the states, over a script that is held."""
+    """A discard is a state too. Here is what finds the states, over a script that is held."""
     loader = importlib.machinery.SourceFileLoader("crashes", CRASHES)
     tool = importlib.util.module_from_spec(importlib.util.spec_from_loader("crashes", loader))
     loader.exec_module(tool)

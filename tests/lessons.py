@@ -25,7 +25,7 @@ SHOWN = "FOLDER"
 PAGES = ("README.md", "docs/GUIDE.md", "docs/NBD.md", "docs/OWN_RULE.md", "docs/FUTURES.md")
 DIFFERS = "The numbers differ from run to run."
 # What not every machine has; some of it stands where only root looks. A mount needs root besides, and FUSE with loop devices.
-NOT_EVERYWHERE = ("mkfs.ext4", "e2fsck", "debugfs", "nbdcopy", "nbdfuse", "qemu-io", "sqlite3", "parallel")
+NOT_EVERYWHERE = ("mkfs.ext4", "e2fsck", "debugfs", "nbdcopy", "nbdfuse", "nbdkit", "qemu-io", "fio", "sqlite3", "parallel")
 MOUNTS = "mount -o loop"
 # A row that calls a program of this repository; and what tests/documents.py runs of such rows.
 CALL = re.compile(r"(?:^|[\s|;])(?:\./bfq(?:host|ctl)|(?:clients|tests|tools)/\w[\w.]*)\s")

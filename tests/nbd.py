@@ -1,5 +1,5 @@
 """Runs of `clients/bfqnbd.py` with a client of NBD of the tests' own (tests/nbd_client.py): handshakes, requests of any byte, bad input, limits, and
-what comes of connections if the host is held, full, stopped, killed, or goes back (tests/nbd_undo.py)."""
+what comes of connections if the host is held, stopped, killed, full (tests/nbd_errors.py), or goes back (tests/nbd_undo.py)."""
 
 import collections
 import concurrent.futures
@@ -20,6 +20,7 @@ from nbd_client import (ABORT, ACK, BLOCK_STATUS, BRIDGE, CACHE, CLEARS, DISC, E
                         FAST_ZERO, FLUSH, FUA, GO, INFO, INVALID, LIST, LIST_META, MULTI_CONN, NO_HOLE, POLICY, READ, READ_ONLY, REP_INFO, SERVER,
                         SET_META, SHUTDOWN, STARTTLS, STRUCTURED, TOP, TRIM, UNKNOWN, UNSUP, USUAL, WRITE, WRITE_ZEROES, Bridge, Nbd, looked,
                         named, option, request)
+from nbd_errors import ERROR_RUNS
 from nbd_undo import UNDO_RUNS
 from served import DONE, FREEZE, HOLD, RELEASE, SECONDS, SECTOR, STOP, Served, Wrong, image_of, moved, same, sector_of, undo
 
@@ -537,18 +538,6 @@ def another_host(place):
         place.host = Served(place.program, place.image, place.sockets, clients=4)
 
 
-def full(place):
-    """The history is full: a write is ENOSPC, so is a read, and a new client is told; nothing hangs."""
-    with place.bridge("--after-undo", "keep") as bridge, bridge.opened() as nbd:
-        errors = [nbd.ask(WRITE, at * SECTOR, data=b"x" * SECTOR)[0] for at in range(8)]
-        # Attach is one of 22 entries, and a write four; of the sixth one no result can be had.
-        same("the errors", errors, [0, 0, 0, 0, 0, ENOSPC, ENOSPC, ENOSPC])
-        same("a read", nbd.ask(READ, 0, SECTOR)[0], ENOSPC)
-        with bridge.connect() as other:
-            kind, text = other.greet().asks(GO, named(b""))[0]
-            same("another client", (kind, b"refused 33" in text), (POLICY, True))
-
-
 def words(place):
     """Bad words are status 2, no host 3, a socket that cannot be had 7; a socket at which nobody listens is replaced, and others stay."""
     def ends(status, *given, says=""):
@@ -755,10 +744,11 @@ def goes_with_its_bridge(place):
 
 
 # The words of the host of a run, if it wants others.
-HOSTS = {"full": ("--history", "22"), "without_looks": ("--no-inspect",), "idle_end_without_looks": ("--no-inspect",)}
-RUNS = (handshake, any_byte, clears, long_ones, classes, bad_input, typos, cut_anywhere, limit_of_frames, many_connections, held, frozen_reader, stopped, killed, idle_end,
-        idle_end_without_looks, another_host, full, words, not_allowed, no_way_in, without_looks, told_whole, sizes, log, log_ends, goes_with_its_bridge,
-        *UNDO_RUNS)
+HOSTS = {**{name: ("--history", "22") for name in ("full", "full_with_all_seats", "full_and_not_told")}, "bad_sectors": ("--bad", "100+8"),
+         "without_looks": ("--no-inspect",), "idle_end_without_looks": ("--no-inspect",)}
+RUNS = (handshake, any_byte, clears, long_ones, classes, bad_input, typos, cut_anywhere, limit_of_frames, many_connections, held, frozen_reader,
+        stopped, killed, idle_end, idle_end_without_looks, another_host, *ERROR_RUNS, words, not_allowed, no_way_in, without_looks, told_whole,
+        sizes, log, log_ends, goes_with_its_bridge, *UNDO_RUNS)
 
 
 def nbd_runs(program, has_all):
