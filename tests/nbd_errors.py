@@ -1,7 +1,20 @@
-"""Errors that a client of the bridge is told of its requests: where the history of the host is full, and where the device has bad sectors."""
+"""Errors that a client of the bridge is told of its requests: where the history of the host is full, where the device has bad sectors, and of
+hosts that are played here and answer otherwise than a real one would by itself."""
 
-from nbd_client import EIO, ENOSPC, GO, POLICY, READ, TRIM, WRITE, named
-from served import SECTOR, same, sector_of
+import contextlib
+import os
+import socket
+import threading
+
+from nbd_client import EIO, ENOMEM, ENOSPC, ESHUTDOWN, GO, POLICY, READ, SHUTDOWN, TRIM, WRITE, Bridge, named
+from served import SECTOR, Talk, same, sector_of
+
+# What a played host answers to the Submit of a read, and the error of that read.
+ANSWERS = [("00000002 e0 22", ENOMEM), ("00000002 e0 21", ENOSPC), ("00000002 e0 1b", EIO),
+           # No frame, another answer than one to a Submit, and nothing: the host has gone mad, or away.
+           ("00000000", ESHUTDOWN), ("00000009 84 0000000000000002", ESHUTDOWN), ("", ESHUTDOWN)]
+# With these its session is gone, or it owes what nobody knows of: steps were undone.
+GONE = ["00000002 e0 03", "00000002 e0 04", "00000002 e0 0f"]
 
 
 def full(place):
@@ -46,4 +59,80 @@ def bad_sectors(place):
         nbd.leave()
 
 
-ERROR_RUNS = (full, full_with_all_seats, full_and_not_told, bad_sectors)
+class Played:
+    """A host with one seat, which is asked one session: its Attach is accepted, if it speaks version 2, and its first Submit is answered so."""
+
+    def __init__(self, folder, answer, version=2):
+        self.answer, self.version = bytes.fromhex(answer), version
+        os.mkdir(folder)
+        self.sockets = {name: socket.socket(socket.AF_UNIX) for name in ("operator", "client0")}
+        for name, listening in self.sockets.items():
+            listening.bind(os.path.join(folder, name))
+            listening.listen()
+        threading.Thread(target=self.serve, daemon=True).start()
+
+    def serve(self):
+        # It ends when its socket is closed.
+        with contextlib.suppress(OSError):
+            while True:
+                connection, _ = self.sockets["client0"].accept()
+                self.meet(connection)
+
+    def meet(self, connection):
+        with connection:
+            talk = Talk.__new__(Talk)
+            talk.socket = connection
+            # What it ends at has been read with all that came behind it.
+            opening, _ = talk.reply(), talk.reply()
+            if opening[:1] == b"\7" and self.version == 1:
+                return
+            talk.send("00000009 81 0000000000000001")
+            if talk.reply() and self.answer:
+                connection.sendall(self.answer)
+                # What it asks besides has no answer; it ends when the bridge does.
+                while talk.reply():
+                    pass
+
+    def __enter__(self):
+        return self
+
+    def __exit__(self, *_):
+        for listening in self.sockets.values():
+            listening.close()
+
+
+def played(place, number, answer, version=2):
+    """A bridge to a host that is played, and what ends both."""
+    folder = os.path.join(place.folder, f"played-{number}")
+    stack = contextlib.ExitStack()
+    stack.enter_context(Played(folder, answer, version))
+    return stack, stack.enter_context(Bridge(folder, "--image", place.image, path=os.path.join(place.folder, "played")))
+
+
+def answers_of_a_host(place):
+    """What a host answers to a request is its error: want of memory, a full history, any other refusal; and ESHUTDOWN if it answers what is none."""
+    for number, (answer, error) in enumerate(ANSWERS):
+        stack, bridge = played(place, number, answer)
+        with stack, bridge.opened() as nbd:
+            same(f"the error of a read that is answered {answer!r}", nbd.ask(READ, 0, SECTOR)[0], error)
+
+
+def sessions_that_are_gone(place):
+    """If the host does not know the session any more, or owes it what was told, steps were undone: the connection ends."""
+    for number, answer in enumerate(GONE):
+        stack, bridge = played(place, number, answer)
+        with stack, bridge.opened() as nbd:
+            nbd.begin(READ, 0, SECTOR)
+            nbd.ends()
+            bridge.says("steps were undone", "the connection ends")
+
+
+def host_of_version_1(place):
+    """A host that knows version 1 alone ends the connection at once, and a client is told what may be the cause."""
+    stack, bridge = played(place, 0, "", version=1)
+    with stack, bridge.connect() as nbd:
+        kind, text = nbd.greet().asks(GO, named(b""))[0]
+        same("a client", (kind, b"perhaps the host does not know version 2" in text), (SHUTDOWN, True))
+
+
+ERROR_RUNS = (full, full_with_all_seats, full_and_not_told, bad_sectors, answers_of_a_host, sessions_that_are_gone, host_of_version_1)
