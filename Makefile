@@ -19,7 +19,7 @@ VERSION := $(shell cat VERSION)
 PROGRAMS := bfqhost bfqctl
 BUILT := $(foreach name,$(PROGRAMS),crates/$(name)/out/$(name))
 # A tool has a name of its own where it is installed, as `step` and `export` are those of others.
-TOOLS := compare crashes expect export futures iolog page plot step top why
+TOOLS := compare crashes expect export futures iolog page plot step top trace why
 SHARED := $(wildcard tools/*.py)
 # The page that tools/page puts scripts into.
 WEB := web/bfqhost.html

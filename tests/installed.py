@@ -17,11 +17,12 @@ VERSION = (TOP / "VERSION").read_text(encoding="ascii").strip()
 SECONDS = 60
 PREFIX = "usr"
 COMMANDS = ["bfqclient", "bfqctl", "bfqhost", "bfqnbd"]
-TOOLS = ["bfq-compare", "bfq-crashes", "bfq-expect", "bfq-export", "bfq-futures", "bfq-iolog", "bfq-page", "bfq-plot", "bfq-step", "bfq-top", "bfq-why"]
+TOOLS = ["bfq-compare", "bfq-crashes", "bfq-expect", "bfq-export", "bfq-futures", "bfq-iolog", "bfq-page", "bfq-plot", "bfq-step", "bfq-top", "bfq-trace",
+         "bfq-why"]
 PAGES = ["man1/bfqctl.1", "man1/bfqhost.1", "man5/bfqhost-script.5", "man7/bfqhost-protocol.7", "man7/bfqhost-serve.7"]
 # What the tools share.
 MODULES = ("dials drawn driving future_checks future_clients future_contents future_observers future_search future_states grammar host image "
-           "live live_stepper logs measured narrow reasons recorded room sentences shares shown stepper ways").split()
+           "live live_stepper logs measured narrow reasons recorded room sentences shares shown stepper traced ways").split()
 # What must stand under PREFIX, but for the client's modules.
 FILES = {*(f"bin/{name}" for name in [*COMMANDS, *TOOLS]), "libexec/bfqhost/bfqhost", "libexec/bfqhost/bfqctl",
          *(f"libexec/bfqhost/tools/{name}" for name in [*TOOLS, *(f"{name}.py" for name in MODULES)]),
