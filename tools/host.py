@@ -283,16 +283,19 @@ def told_with(path: str) -> Iterator[None]:
 RECORD: Tuple[str, Dict[str, Any]] = ("--record", {"metavar": "FILE", "help": "goes on behind what bfqhost serve --record has written"})
 
 
-def words_of(description: Optional[str], usage: str, *places: Tuple[str, Dict[str, Any]]) -> Tuple[argparse.Namespace, List[str]]:
-    """The words of a tool: its own, with these places beside `--program`, and after `--` the options of sim, or of replay."""
+def words_of(description: Optional[str], usage: str, *places: Tuple[str, Dict[str, Any]],
+             behind: Optional[str] = None) -> Tuple[argparse.Namespace, List[str]]:
+    """The words of a tool: its own, with these places beside `--program`, and after `--` the options of sim, or of replay. A tool that
+    runs no host says what stands behind `--`, and has no `--program`."""
     words = sys.argv[1:]
     own = os.path.basename(sys.argv[0])
     if own.startswith(INSTALLED):
         description = re.sub(r"\btools/(\w+)", rf"{INSTALLED}\1", description or "")
     at = words.index("--") if "--" in words else len(words)
-    parser = argparse.ArgumentParser(description=description, usage=f"%(prog)s {usage} [-- OPTION-OF-SIM ...]", allow_abbrev=False,
+    parser = argparse.ArgumentParser(description=description, usage=f"%(prog)s {usage} {behind or '[-- OPTION-OF-SIM ...]'}", allow_abbrev=False,
                                      formatter_class=argparse.RawDescriptionHelpFormatter)
-    parser.add_argument("--program", metavar="PATH", help="the program (../bfqhost, from the tool's folder)")
+    if behind is None:
+        parser.add_argument("--program", metavar="PATH", help="the program (../bfqhost, from the tool's folder)")
     for name, given in places:
         parser.add_argument(name, **given)
     return parser.parse_intermixed_args(words[:at]), words[at + 1:]
