@@ -122,15 +122,19 @@ class Folder:
         self.write("contents.csv", text.getvalue().encode())
 
 
-def runs_of(content):
-    """What is stored in a content: each run of sectors of one byte."""
+def runs_of(content, places):
+    """What is stored in a content: each run of sectors of one byte, as START+COUNT=BYTE, or of sectors that follow each other in the payload, as
+    START+COUNT@SECTOR. `places` has the first place of each block there."""
     found = []
     for sector, block in sorted(content.items()):
-        if found and sector == found[-1][0] + found[-1][1] and block == found[-1][2]:
+        # All bytes alike stand for themselves.
+        sign, value = ("=", block[0]) if block == block[:1] * len(block) else ("@", places[block])
+        step = 1 if sign == "@" else 0
+        if found and found[-1][2] == sign and sector == found[-1][0] + found[-1][1] and value == found[-1][3] + step * found[-1][1]:
             found[-1][1] += 1
         else:
-            found.append([sector, 1, block])
-    return " ".join(f"{start}+{count}={block[0]:02x}" for start, count, block in found)
+            found.append([sector, 1, sign, value])
+    return " ".join(f"{start}+{count}={value:02x}" if sign == "=" else f"{start}+{count}@{value}" for start, count, sign, value in found)
 
 
 def played(opening, lines, contents=None, number=None):

@@ -5,15 +5,17 @@ import collections
 import grammar
 from host import BadInput, BadLine, Ended, Host, bad_line, read_lines
 from logs import MOST_SECTORS
+from payload import size_of, why_no_bytes
 from shown import SEATS
 
-FORMS = [form.split() for form in ["seat SEAT", "write START COUNT BYTE", "read START COUNT", "discard START COUNT", "reap", "sync"]]
+FORMS = [form.split() for form in ["seat SEAT", "write START COUNT BYTE", "write START COUNT @SECTOR", "read START COUNT", "discard START COUNT", "reap", "sync"]]
 PRIO = 4
 MOST_OWED = 32
 
 
 class Item(collections.namedtuple("Item", "word start count byte")):
-    """What a client calls: of a read, a write or a discard also where it begins, how many sectors it has, and the byte of a write."""
+    """What a client calls: of a read, a write or a discard also where it begins, how many sectors it has, and the byte of a write, or from
+    which sector of the payload on it takes its bytes, as `@SECTOR`."""
 
     def act(self):
         """What it does, as `act_of` tells it of a line."""
@@ -37,6 +39,8 @@ class Client:
         # The rows of its block, each a number and its words; and what comes of them.
         self.rows, self.items = [], []
         self.session = None
+        # How many bytes the payload has, if there is one.
+        self.payload = None
         # For each number of items that it has called: how many reaps are the last of these.
         self.last_reaps = [0]
 
@@ -62,12 +66,14 @@ class Client:
             self.last_reaps.append(self.last_reaps[-1] + 1 if item is REAP else 0)
 
     def io_of(self, number, words, host):
-        """A read, a write or a discard, which must end before the device does."""
-        word, start, count, *byte = words[0], *map(int, words[1:])
-        last = start + count - 1
+        """A read, a write or a discard, which must end before the device does. The payload must have the bytes that a write takes."""
+        word, start, count, *source = words
+        last = int(start) + int(count) - 1
         if last >= 2**64 or host.ask(f"sector {last}").endswith(" none"):
             raise bad_line(self.path, number, f"past the end of the device: sector {last}")
-        return Item(word, start, count, byte[0] if byte else None)
+        if source and (why := why_no_bytes(int(count), source[0], self.payload)):
+            raise bad_line(self.path, number, why)
+        return Item(word, int(start), int(count), source[0] if source else None)
 
 
 def read_clients(path):
@@ -121,6 +127,9 @@ class Opening:
     def __init__(self, program, options, script, clients):
         self.program, self.options = program, options
         self.clients = clients
+        size = size_of(options)
+        for client in clients:
+            client.payload = size
         self.lines, self.answers = [], []
         # How often the script met each refusal.
         self.refusals = collections.Counter()
