@@ -93,7 +93,7 @@ def of_bfqhost(program, folder):
     """The subcommands, and the options of each."""
     text = help_of(program)
     both, sim, serve, replay = (options_in(part(text, head)) - ALONE
-                                for head in ("OPTIONS of sim and serve", "OPTION of sim", "OPTIONS of serve", "OPTIONS of replay"))
+                                for head in ("OPTIONS of sim and serve", "OPTIONS of sim$", "OPTIONS of serve", "OPTIONS of replay"))
     named = {*re.findall(r"(?m)^    bfqhost ([a-z-]+)", part(text, "SYNOPSIS"))} | options_in(text)
     yield from differences(["bfqhost", ""], folder, {it for it in named if it in {"sim", "serve", "replay"} | HELP | ALONE})
     yield from differences(["bfqhost", "sim", ""], folder, both | sim)

@@ -113,11 +113,16 @@ def same_texts(program, path, given):
             yield f"{name}: status {got['status']} and not {wanted['status']}; {first}"
 
 
+def why_bad(line):
+    """Why a line is a bad one in a page, where there is no payload; None if it is good."""
+    return grammar.why_bad(line, grammar.FORMS_WITHOUT_PAYLOAD)
+
+
 def good_part(script):
     """The lines of a script up to a bad one."""
     lines = []
     for line in script.decode(errors="surrogateescape").split("\n"):
-        if grammar.why_bad(line):
+        if why_bad(line):
             break
         lines += [] if grammar.is_silent(line) else [line]
     return lines
@@ -203,17 +208,17 @@ LINES = ["", "# a", "attach 0 0 4", "attach 0 0 4 rt", "attach 0 0 4 RT", "attac
          "Attach 0 0 4", "attach 0 0", "attach", "dispatch now", "dispatch ", " dispatch", "dispatch\r", "dis\tpatch", "read  0 1 0 1", "tock", "discard 0 1 0 1", "discard 0 1 0 1 0",
          "it's", 'a"b\'c', "back\\slash", "write 0 1 0 1", "show", "show seat", "show moon 1", "undo 4294967296", f"sector {2**64}", "sector 1e3",
          "vtime 0 be", "caf\u00e9", "\u2192", "\x00", "#" + "x" * 255, "#" + "x" * 256, "# " + "\u00e9" * 127, "# " + "\u00e9" * 128, "finish 0 1 fill",
-         "switch cfq", "line 1"]
+         "switch cfq", "line 1", "write 0 1 9 1 @0", "write 0 1 9 1 @", "write 0 1 9 @0", "@0"]
 OPTIONS = [[], ["--tags", "1"], ["--tags=64"], ["--tags=65"], ["--tags=0"], ["--tags", "01"], ["--tags", "-1"], ["--tags"], ["--tags=1", "--tags=2"],
            ["--first-budget=4096"], ["--first-budget=4097"], ["--first-budget=255"], ["--max-budget=256", "--first-budget=256"], ["--max-budget=300"],
            ["--timeout=1001"], ["--history=0"], [f"--first-vtime={2**62}"], [f"--first-vtime={2**62 + 1}"], [f"--first-vtime={2**64}"],
-           ["--sectors=65537"], ["--sectors=0"], ["--scheduler=none"], ["--scheduler", "cfq"], ["--image", "disk"], ["word"], ["--nr-requests=257"]]
+           ["--sectors=65537"], ["--sectors=0"], ["--scheduler=none"], ["--scheduler", "cfq"], ["--image", "disk"], ["--payload", "bytes"], ["word"], ["--nr-requests=257"]]
 
 
 def same_words(path):
     """Where a page says otherwise than the tools why a line or an option is bad."""
     lines, *options = answers(path, [{"task": "bad", "lines": LINES}, *({"task": "options", "options": words} for words in OPTIONS)])
-    yield from (f"{line!r}: {got} and not {grammar.why_bad(line)}" for line, got in zip(LINES, lines) if got != grammar.why_bad(line))
+    yield from (f"{line!r}: {got} and not {why_bad(line)}" for line, got in zip(LINES, lines) if got != why_bad(line))
     yield from (f"{words}: {got} and not {dials.why_bad(words)}" for words, got in zip(OPTIONS, options) if got != dials.why_bad(words))
 
 

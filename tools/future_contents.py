@@ -6,7 +6,9 @@ if nothing were stored.
 
 import os
 
+import payload
 from future_clients import act_of
+from grammar import SIGN
 from host import told_with
 from image import SECTOR
 
@@ -16,8 +18,8 @@ ZEROS = bytes(SECTOR)
 class Contents:
     """All contents so far. What a write or a discard stores is told by the name of its bio."""
 
-    def __init__(self, image, stored):
-        self.image = image
+    def __init__(self, image, stored, options=()):
+        self.image, self.options = image, options
         # Of each content what is stored where the image has something else, and its number.
         self.all, self.numbers = [], {}
         # What each of them stores: sectors with their blocks, which are None if the image has these bytes.
@@ -56,9 +58,14 @@ class Contents:
                     self.name(names.of(act, (number, place)), *act[1:])
 
     def name(self, name, start, count, byte="0"):
-        """That the bio of this name stores this byte in so many sectors. A discard has none, and stores zeros."""
-        start, count, block = int(start), int(count), bytes([int(byte)]) * SECTOR
-        self.writes[name] = [(sector, None if block == self.of_image(sector) else block) for sector in range(start, start + count)]
+        """That the bio of this name stores this byte in so many sectors, or what stands in the payload from a sector on. A discard has
+        none, and stores zeros."""
+        start, count = int(start), int(count)
+        if byte.startswith(SIGN):
+            blocks = [payload.block_at(self.options, int(byte.removeprefix(SIGN)) + at) for at in range(count)]
+        else:
+            blocks = [bytes([int(byte)]) * SECTOR] * count
+        self.writes[name] = [(sector, None if block == self.of_image(sector) else block) for sector, block in enumerate(blocks, start)]
 
     def stored(self, before, bios):
         """The content that comes of another one when a request is stored."""

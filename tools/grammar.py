@@ -14,7 +14,7 @@ MOST_LINES = 1_048_576
 
 # Each line of the grammar. A word in capitals stands for a number of so many bits, or for one of a few words.
 BITS = {"SEAT": 8, "GROUP": 8, "PARENT": 8, "PRIO": 8, "TAG": 8, "BYTE": 8, "N": 8, "COUNT": 16, "WEIGHT": 16, "K": 32,
-        "SESSION": 64, "ISSUE": 64, "START": 64, "NUMBER": 64, "FROM": 64}
+        "SESSION": 64, "ISSUE": 64, "START": 64, "NUMBER": 64, "FROM": 64, "SECTOR": 64}
 # What stands in words of the tools alone.
 BITS_OF_TOOLS = {"SERIAL": 64}
 # The classes, the first to be served first.
@@ -22,7 +22,8 @@ CLASSES = ("rt", "be", "idle")
 CHOICES = {"CLASS": CLASSES}
 FORMS = [form.split() for form in [
     "attach SEAT GROUP PRIO", "attach SEAT GROUP PRIO CLASS",
-    "read SEAT SESSION START COUNT", "write SEAT SESSION START COUNT BYTE", "discard SEAT SESSION START COUNT", "dispatch",
+    "read SEAT SESSION START COUNT", "write SEAT SESSION START COUNT BYTE", "write SEAT SESSION START COUNT @SECTOR",
+    "discard SEAT SESSION START COUNT", "dispatch",
     "finish TAG ISSUE stored", "finish TAG ISSUE fill BYTE", "finish TAG ISSUE short", "finish TAG ISSUE fault",
     "work TAG ISSUE", "requeue TAG ISSUE", "reap SEAT SESSION", "leave SEAT", "group PARENT WEIGHT", "drop GROUP",
     "weight GROUP WEIGHT", "freeze", "thaw", "switch none", "switch bfq", "tick", "hold", "release", "undo K", "redo K",
@@ -30,6 +31,9 @@ FORMS = [form.split() for form in [
     "show seat SEAT", "show outbox SEAT", "show queue SEAT", "show requeued", "show flight", "show service", "show tree GROUP",
     "show host", "show stored FROM", "show step K",
 ]]
+# A number behind this sign is a sector of the payload. Without a payload no line has one.
+SIGN = "@"
+FORMS_WITHOUT_PAYLOAD = [form for form in FORMS if not form[-1].startswith(SIGN)]
 # The first words of lines that are no steps. They take no serial.
 NO_STEPS = {"hold", "release", "undo", "redo", "sector", "queue", "vtime", "class", "entity", "line", "show"}
 
@@ -74,6 +78,11 @@ def is_step(line: str) -> bool:
     return not is_silent(line) and line.split(" ")[0] not in NO_STEPS
 
 
+def takes_bytes(line: str) -> bool:
+    """A good line that takes bytes from the payload, which may not have them."""
+    return line.startswith("write ") and line.split(" ")[-1].startswith(SIGN)
+
+
 def why_bad(line: str, forms: Sequence[Sequence[str]] = FORMS) -> Optional[str]:
     """Why a line is a bad one, of a script or of other forms; None if it is good. Bytes that are no text stand in it as `surrogateescape`
     has them."""
@@ -113,6 +122,8 @@ def why_other_words(words: Sequence[str], forms: Sequence[Sequence[str]]) -> Opt
         forms = [form for form in forms if len(form) > at]
         if not forms:
             return f"a word too many: {word!r}"
+        # A byte and a sector of the payload may stand at one place.
+        forms = [form for form in forms if form[at].startswith(SIGN) == word.startswith(SIGN)] or forms
         name = forms[0][at]
         if name in CHOICES:
             reason = why_no_choice(name, word)
@@ -142,7 +153,9 @@ def why_no_choice(name: str, word: str) -> Optional[str]:
 
 
 def why_no_number(name: str, word: str) -> Optional[str]:
-    """Why a word is no number for this place; None if it is one."""
+    """Why a word is no number for this place; None if it is one. What stands behind the sign of a payload's sector is judged there."""
+    if name.startswith(SIGN):
+        return why_no_number(name.removeprefix(SIGN), word.removeprefix(SIGN))
     most = 2**(BITS | BITS_OF_TOOLS)[name] - 1
     if not re.fullmatch("[0-9]+", word):
         return f"{name} is no number: {word!r}"

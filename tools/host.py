@@ -37,6 +37,8 @@ BUILDING = "bfqhost: "
 TOGETHER = 4_096
 # What stands before the name of a tool where it is installed.
 INSTALLED = "bfq-"
+# Why a line is bad that takes bytes from the payload.
+NO_BYTES = "there is no payload, or it has not so many bytes from there on: --payload FILE names one"
 # How long a program may take to end when its input has ended.
 SECONDS = 5
 
@@ -64,7 +66,8 @@ class BadLine(Ended):
 
     def __init__(self, line: str, answer: str) -> None:
         self.line, self.answer = line, answer
-        self.why = grammar.why_bad(line) or "the program does not know it"
+        other = NO_BYTES if grammar.takes_bytes(line) else "the program does not know it"
+        self.why = grammar.why_bad(line) or other
         super().__init__(f"the program takes no line {line!r}: {self.why}")
 
 

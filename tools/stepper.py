@@ -10,6 +10,7 @@ import sys
 import textwrap
 
 import grammar
+import payload
 from host import answers_to, moved, on_line, way_to
 from reasons import Looks, lines_of
 from sentences import Sentences
@@ -145,6 +146,7 @@ class Stepper:
         # What makes narrow pictures, or None.
         self.narrow = narrow
         self.options = options
+        self.payload_size = payload.size_of(options)
         self.sentences = Sentences(host.program)
         # The tag and the issue of the last `issued`.
         self.last = None
@@ -178,7 +180,7 @@ class Stepper:
 
     def why_bad(self, line):
         """Why a line is none that may be typed; None if it is one."""
-        return why_bad(line)
+        return why_bad(line) or payload.why_no_bytes(line, self.payload_size)
 
     def ask(self, line, typed):
         """Asks a line of a script, and shows the machine after a step or a way."""

@@ -47,7 +47,7 @@ def tables():
     """What the page knows of lines and refusals, as the tools and the documents have it."""
     rows = re.findall(r"(?m)^\| (\d+) \| [A-Z]\w+ \| (.*) \|$", read("docs", "FORMATS.md"))
     return {
-        "forms": grammar.FORMS, "bits": grammar.BITS, "choices": {name: list(words) for name, words in grammar.CHOICES.items()},
+        "forms": grammar.FORMS_WITHOUT_PAYLOAD, "bits": grammar.BITS, "choices": {name: list(words) for name, words in grammar.CHOICES.items()},
         "noSteps": sorted(grammar.NO_STEPS), "mostBytes": grammar.MOST_BYTES, "names": {str(number): name for number, name in grammar.NAMES.items()},
         # Numbers as texts, since one may have more digits than a number of a browser.
         "options": [{field: str(value) for field, value in option._asdict().items()} for option in dials.OPTIONS],

@@ -17,7 +17,7 @@ pub struct Counter {
 impl Console for Counter {
     ghost prints = { λ before line text after. text ≡ codes "call " ++ (decimal after.calls ++ 10 ∷ []) };
 
-    fn runs(_line: &Line) -> bool {
+    fn runs(&self, _line: &Line) -> bool {
         true
     }
 

@@ -10,6 +10,7 @@
 //! | `operator` | `operator_words`: the words of the operator's calls, and words of none |
 //! | `ends` | a host's keeper run from a script, where its input or its output fails |
 //! | `device_work` | the same over images that are busy, fail or end early |
+//! | `payload` | a host's keeper run from a script over a payload, whose bytes writes take |
 //! | `calls` | `history`: calls made one after the other, with no script |
 //! | `classes` | scripts of sessions of each class at a host |
 //!
@@ -34,6 +35,8 @@ mod host;
 mod lines;
 #[cfg(test)]
 mod operator;
+#[cfg(test)]
+mod payload;
 #[cfg(test)]
 mod spelling;
 #[cfg(test)]

@@ -3,7 +3,7 @@ use script_line::{Ending, Line, Look, line_of, number};
 use sector_core::{Class, Scheduler};
 
 // A line, as it is spelled and as it is.
-const FORMS: [(&[u8], Line); 61] = [
+const FORMS: [(&[u8], Line); 63] = [
     (
         b"attach 0 1 4",
         Line::Attach {
@@ -64,6 +64,26 @@ const FORMS: [(&[u8], Line); 61] = [
             start: 100,
             count: 8,
             byte: 171,
+        },
+    ),
+    (
+        b"write 3 1 100 8 @0",
+        Line::WriteFrom {
+            seat: 3,
+            session: 1,
+            start: 100,
+            count: 8,
+            from: 0,
+        },
+    ),
+    (
+        b"write 255 18446744073709551615 7 65535 @18446744073709551615",
+        Line::WriteFrom {
+            seat: 255,
+            session: 18446744073709551615,
+            start: 7,
+            count: 65535,
+            from: 18446744073709551615,
         },
     ),
     (
@@ -339,9 +359,54 @@ finish 0 1 rt
 switch rt
 show tree 0 rt";
 
+// Lines with a sector of the payload that are none; each is one number, sign, space or word away from a line.
+const SOURCELESS: &str = "\
+write 0 1 9 1 @
+write 0 1 9 1 @01
+write 0 1 9 1 @00
+write 0 1 9 1 @+1
+write 0 1 9 1 @-1
+write 0 1 9 1 @0x1
+write 0 1 9 1 @18446744073709551616
+write 0 1 9 1 @@1
+write 0 1 9 1 @ 1
+write 0 1 9 1 1@
+write 0 1 9 1 #1
+write 0 1 9 1 @1\x20
+write 0 1 9 1  @1
+write 0 1 9 1 @1 @1
+write 0 1 9 1 @1 17
+write 0 1 9 1 17 @1
+write 0 1 9 1@1
+write 0 1 9 @1
+write @1
+write@1
+write 0 1 9 @1 1
+write 0 @1 9 1 1
+write 256 1 9 1 @1
+write 0 18446744073709551616 9 1 @1
+write 0 1 18446744073709551616 1 @1
+write 0 1 9 65536 @1
+write 0 1 9 01 @1
+writes 0 1 9 1 @1
+Write 0 1 9 1 @1
+read 0 1 9 1 @1
+read 0 1 9 @1
+discard 0 1 9 1 @1
+attach 0 0 4 @1
+finish 0 3 fill @1
+sector @1
+show stored @1
+undo @1
+dispatch @1
+switch @1";
+
 #[test]
 fn no_line_ends_in_another_word(rt: HostRuntime) {
     for text in CLASSLESS.lines() {
+        assert!(rt; line_of(text.as_bytes()).is_none(), "{text}");
+    }
+    for text in SOURCELESS.lines() {
         assert!(rt; line_of(text.as_bytes()).is_none(), "{text}");
     }
 }

@@ -232,6 +232,7 @@ fn run(alloc: Global) -> (ScriptEnd, Vec<u8>, u64) {
             calls: 0,
         },
         image: ZeroImage::new(8),
+        payload: None,
     };
     let mut written = Vec::new(alloc);
     let mut script = SCRIPT;

@@ -40,6 +40,7 @@ fn sim(scheduler: Scheduler, numbers: [u64; 8]) -> Request {
         draft,
         sectors,
         image: None,
+        payload: None,
     }
 }
 
@@ -233,10 +234,46 @@ fn words_that_name_an_image(rt: HostRuntime) -> Result<(), Fail> {
             draft: ConfigDraft::default(),
             sectors,
             image: Some(String::from_str(rt.alloc(), named)?),
+            payload: None,
         };
         expect(&rt, line, wanted)?;
     }
     Ok(())
+}
+
+#[test]
+fn words_that_name_a_payload(rt: HostRuntime) -> Result<(), Fail> {
+    for (line, named, image) in [
+        ("bfqhost sim --payload bytes.bin", "bytes.bin", None),
+        ("bfqhost sim --payload=/srv/a=b", "/srv/a=b", None),
+        ("bfqhost sim --payload=", "", None),
+        (
+            "bfqhost sim --payload bytes.bin --image disk.img",
+            "bytes.bin",
+            Some("disk.img"),
+        ),
+    ] {
+        let image = match image {
+            Some(named) => Some(String::from_str(rt.alloc(), named)?),
+            None => None,
+        };
+        let wanted = Request::Sim {
+            draft: ConfigDraft::default(),
+            sectors: 1024,
+            image,
+            payload: Some(String::from_str(rt.alloc(), named)?),
+        };
+        expect(&rt, line, wanted)?;
+    }
+    let wanted = Request::Replay {
+        file: String::from_str(rt.alloc(), "run.rec")?,
+        image: None,
+        payload: Some(String::from_str(rt.alloc(), "bytes.bin")?),
+        history: None,
+        to: None,
+        list: false,
+    };
+    expect(&rt, "bfqhost replay run.rec --payload bytes.bin", wanted)
 }
 
 // A program always has its own name, so no run of it has no words.

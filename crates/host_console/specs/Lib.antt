@@ -1,3 +1,4 @@
+pub mod Payload
 pub mod Printed
 pub mod Texts
 pub mod Views

@@ -1,5 +1,5 @@
 -- What a line that begins with `show` prints of a keeper (our profile).
-use Rattle.std.specs.Prelude.{◌≡◌, ℕ, ◌-◌, nat_lt, Bool, true, false, List, [], ◌∷◌, ◌++◌, length, codes, Option, None, Some, slice_get, if◌then◌else◌}
+use Rattle.std.specs.Prelude.{◌≡◌, ℕ, ◌-◌, nat_lt, Bool, List, [], ◌∷◌, ◌++◌, length, codes, Option, None, Some, slice_get, if◌then◌else◌}
 use Rattle.std.specs.Fmt.{decimal}
 use Rattle.sector_core.specs.declared.bio.Op.TheVariants.{Fetch, Store, Discard}
 use Rattle.sector_core.specs.declared.bio.FailKind.TheVariants.{Short, Fault}

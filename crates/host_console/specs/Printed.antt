@@ -1,4 +1,4 @@
--- What a line of a script asks of a keeper over an image, and what it prints.
+-- What a line of a script asks of a keeper over an image and a payload, and what it prints.
 use Rattle.std.specs.Prelude.{◌≡◌, ℕ, ◌*◌, ◌≤◌, ◌<◌, nat_le, nat_lt, List, [], ◌∷◌, ◌++◌, length, replicate, codes, Option, None, Some, if◌then◌else◌}
 use Rattle.std.specs.Fmt.{decimal}
 use Rattle.std.specs.FinMap as blocks
@@ -11,7 +11,7 @@ use Rattle.sector_core.specs.declared.class.Class.{Class as ClassOf}
 use Rattle.sector_core.specs.declared.class.Class.TheVariants as class
 use Rattle.sector_text.specs.Hex.{hex_of}
 use Rattle.script_line.specs.declared.line.Line.{Line}
-use Rattle.script_line.specs.declared.line.Line.TheVariants.{Attach, ClassAttach, Read, Write, Discard, Reap, Leave, Dispatch, Finish, Work, Requeue, Hold, Release, Undo, Redo, Group, Drop, Weight, Freeze, Thaw, Switch, Tick, Sector, Queue, Cursor, Vtime, ClassVtime, Entity, Class, Show}
+use Rattle.script_line.specs.declared.line.Line.TheVariants.{Attach, ClassAttach, Read, Write, WriteFrom, Discard, Reap, Leave, Dispatch, Finish, Work, Requeue, Hold, Release, Undo, Redo, Group, Drop, Weight, Freeze, Thaw, Switch, Tick, Sector, Queue, Cursor, Vtime, ClassVtime, Entity, Class, Show}
 use Rattle.script_line.specs.declared.line.Ending.{Ending}
 use Rattle.script_line.specs.declared.line.Ending.TheVariants.{Stored, Fill, Short, Fault}
 use Rattle.plain.specs.Machine.{WholeRequest}
@@ -33,6 +33,7 @@ use Rattle.plain.specs.Looks.{vtime_view, entity_view}
 use Rattle.host_calls.specs.Texts.{text_of}
 use Rattle.host_console.specs.Texts.{vtime_text, class_vtime_text, entity_text, entity_class_text}
 use Rattle.host_console.specs.Looks.{Looked}
+use Rattle.host_console.specs.Payload.{bytes_from}
 use Rattle.plain.specs.declared.view.SectorView.{SectorView}
 use Rattle.plain.specs.declared.view.SectorView.TheVariants as content
 
@@ -128,52 +129,63 @@ IsContent k number (content.Stored block) = (number < k.limits.sectors) × (bloc
 
 -- Lines.
 
--- A keeper, and the image that its device reads (our profile).
+-- A keeper, the image that its device reads, and the payload of the script, if it has one (our profile).
 pub record Desk : Type 0 where
   pub keeper : State
   pub disk : Disk
+  pub payload : Option (List ℕ)
 
 -- the keeper is called once, and the answer is printed
 abbrev pub Answers : State → Call → List ℕ → State → Type 0
 Answers before c text after = (answer : Answer) × MayCall before c answer after × (text ≡ ended (text_of answer))
 
--- the same over an image, which is not read
+-- the same over an image, which is not read, and a payload
 abbrev pub AnswersOver : Desk → Call → List ℕ → Desk → Type 0
-AnswersOver before c text after = Answers before.keeper c text after.keeper × (after.disk ≡ before.disk)
+AnswersOver before c text after = Answers before.keeper c text after.keeper × (after.disk ≡ before.disk) × (after.payload ≡ before.payload)
 
--- the call that a line makes, whatever the keeper is; none where the line asks the keeper or the device first, or only looks
--- (our profile)
-abbrev pub asked : Line → Option Call
-asked (Attach seat group prio) = Some (call.Do (step.Attach seat group prio class.BestEffort))
-asked (ClassAttach seat group prio named) = Some (call.Do (step.Attach seat group prio named))
-asked (Read seat session start count) = Some (call.Do (step.Submit seat session op.Fetch (record { start = start; count = count }) []))
-asked (Write seat session start count byte) = Some (call.Do (step.Submit seat session op.Store (record { start = start; count = count }) (payload_of count byte)))
-asked (Discard seat session start count) = Some (call.Do (step.Submit seat session op.Discard (record { start = start; count = count }) []))
-asked (Reap seat session) = Some (call.Do (step.Reap seat session))
-asked (Leave seat) = Some (call.Do (step.Leave seat why.Ended))
-asked Dispatch = Some (call.Do step.Dispatch)
-asked (Finish tag issue ending) = None
-asked (Work tag issue) = None
-asked (Requeue tag issue) = Some (call.Do (step.Requeue tag issue))
-asked Hold = Some call.Hold
-asked Release = Some call.Release
-asked (Undo k) = Some (call.Undo k)
-asked (Redo k) = Some (call.Redo k)
-asked (Group parent weight) = Some (call.Do (step.GroupMake parent weight))
-asked (Drop group) = Some (call.Do (step.GroupDrop group))
-asked (Weight group weight) = Some (call.Do (step.SetWeight group weight))
-asked Freeze = Some (call.Do step.Freeze)
-asked Thaw = Some (call.Do step.Thaw)
-asked (Switch scheduler) = Some (call.Do (step.Switch scheduler))
-asked Tick = Some (call.Do step.Tick)
-asked (Sector number) = None
-asked (Queue seat) = None
-asked Cursor = None
-asked (Vtime group) = None
-asked (ClassVtime group named) = None
-asked (Entity number) = None
-asked (Class number) = None
-asked (Show look) = None
+-- a write of these bytes
+abbrev pub write_of : ℕ → ℕ → ℕ → ℕ → List ℕ → Call
+write_of seat session start count bytes = call.Do (step.Submit seat session op.Store (record { start = start; count = count }) bytes)
+
+-- the write of these bytes, if there are any
+abbrev pub write_if : ℕ → ℕ → ℕ → ℕ → Option (List ℕ) → Option Call
+write_if seat session start count None = None
+write_if seat session start count (Some bytes) = Some (write_of seat session start count bytes)
+
+-- the call that a line makes over a payload, whatever the keeper is; none where the line asks the keeper or the device first, or only
+-- looks, or asks for bytes that the payload has not (our profile)
+abbrev pub asked : Option (List ℕ) → Line → Option Call
+asked payload (Attach seat group prio) = Some (call.Do (step.Attach seat group prio class.BestEffort))
+asked payload (ClassAttach seat group prio named) = Some (call.Do (step.Attach seat group prio named))
+asked payload (Read seat session start count) = Some (call.Do (step.Submit seat session op.Fetch (record { start = start; count = count }) []))
+asked payload (Write seat session start count byte) = Some (write_of seat session start count (payload_of count byte))
+asked payload (WriteFrom seat session start count from) = write_if seat session start count (bytes_from payload from count)
+asked payload (Discard seat session start count) = Some (call.Do (step.Submit seat session op.Discard (record { start = start; count = count }) []))
+asked payload (Reap seat session) = Some (call.Do (step.Reap seat session))
+asked payload (Leave seat) = Some (call.Do (step.Leave seat why.Ended))
+asked payload Dispatch = Some (call.Do step.Dispatch)
+asked payload (Finish tag issue ending) = None
+asked payload (Work tag issue) = None
+asked payload (Requeue tag issue) = Some (call.Do (step.Requeue tag issue))
+asked payload Hold = Some call.Hold
+asked payload Release = Some call.Release
+asked payload (Undo k) = Some (call.Undo k)
+asked payload (Redo k) = Some (call.Redo k)
+asked payload (Group parent weight) = Some (call.Do (step.GroupMake parent weight))
+asked payload (Drop group) = Some (call.Do (step.GroupDrop group))
+asked payload (Weight group weight) = Some (call.Do (step.SetWeight group weight))
+asked payload Freeze = Some (call.Do step.Freeze)
+asked payload Thaw = Some (call.Do step.Thaw)
+asked payload (Switch scheduler) = Some (call.Do (step.Switch scheduler))
+asked payload Tick = Some (call.Do step.Tick)
+asked payload (Sector number) = None
+asked payload (Queue seat) = None
+asked payload Cursor = None
+asked payload (Vtime group) = None
+asked payload (ClassVtime group named) = None
+asked payload (Entity number) = None
+asked payload (Class number) = None
+asked payload (Show look) = None
 
 -- what a query prints at a keeper, with its end; no other line prints anything by itself
 abbrev pub Tells : State → Line → List ℕ → Type 0
@@ -188,15 +200,15 @@ Tells k (Show look) text = (shown : List ℕ) × Looked k look shown × (text �
 Tells k line text = ⊥
 
 -- what such a line as makes no call of its own may print at a keeper over an image, and what both are then: only a `work` line
--- reads the image (our profile)
+-- reads the image, and none reads the payload (our profile)
 abbrev pub Looks : Desk → Line → List ℕ → Desk → Type 0
 Looks before (Finish tag issue ending) text after = AnswersOver before (call.Do (step.Finish tag issue (outcome_of before.keeper tag issue ending))) text after
 Looks before (Work tag issue) text after =
     (made : Step) × StepOfWork before.disk tag issue (work_in_flight (machine_of before.keeper) tag issue) made after.disk
-    × Answers before.keeper (call.Do made) text after.keeper
+    × Answers before.keeper (call.Do made) text after.keeper × (after.payload ≡ before.payload)
 Looks before line text after = (after ≡ before) × Tells before.keeper line text
 
--- what a line may print at a keeper over an image, and what both are then: its call is made once, and answered; or it has none
--- of its own
+-- what a line may print at a keeper over an image and a payload, and what they are then: its call is made once, and answered; or it has
+-- none of its own
 abbrev pub Prints : Desk → Line → List ℕ → Desk → Type 0
-Prints before line text after = elim (asked line) [ None ↦ Looks before line text after | Some made ↦ AnswersOver before made text after ]
+Prints before line text after = elim (asked before.payload line) [ None ↦ Looks before line text after | Some made ↦ AnswersOver before made text after ]

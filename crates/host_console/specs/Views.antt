@@ -1,5 +1,5 @@
 -- What is printed of a machine (our profile). Numbers are in decimal.
-use Rattle.std.specs.Prelude.{ℕ, ◌+◌, ◌==◌, Bool, true, false, List, [], ◌∷◌, ◌++◌, codes, Option, None, Some, if◌then◌else◌}
+use Rattle.std.specs.Prelude.{ℕ, ◌+◌, Bool, List, [], ◌∷◌, ◌++◌, codes, Option, None, Some, if◌then◌else◌}
 use Rattle.std.specs.List.{flat_map}
 use Rattle.std.specs.Fmt.{decimal}
 use Rattle.sector_core.specs.declared.bio.Op.{Op}
@@ -15,7 +15,6 @@ use Rattle.sector_core.specs.declared.class.Class.{Class}
 use Rattle.sector_core.specs.declared.class.Class.TheVariants.{RealTime, BestEffort, Idle}
 use Rattle.plain.specs.Lists.{numbers}
 use Rattle.plain.specs.declared.seat.Seat.{Seat}
-use Rattle.plain.specs.declared.seat.InService.{InService}
 use Rattle.plain.specs.Machine.{WholeRequest, Plain}
 use Rattle.plain.specs.Rules.{group_of, vtime_of, stands}
 use Rattle.plain.specs.Requests.{range_of, size_of}

@@ -3,18 +3,25 @@ ghost use Rattle.std.specs.Prelude.{◌≡◌, Ok, Some, IfOk};
 ghost use Rattle.host_console.specs.Printed.{asked};
 
 use crate::group::{make, unmake, weigh};
+use crate::source::bytes_from;
 use crate::steps::{attach, freeze, leave, requeue, switch, thaw, tick};
-use crate::submit::{discard, fetch, store};
+use crate::submit::{discard, fetch, store, store_of};
+use bytes::Bytes;
 use plain::{Call, Step};
 use script_line::Line;
 use sector_core::{Class, OutOfMemory};
 use std::alloc::Global;
 
-/// The call that a line makes, whatever the keeper is. There is none where the line asks the keeper or the device first, or only
-/// looks. Each line asks here once, and a call is wide: where it is made it need not be moved.
+/// The call that a line makes over a payload, whatever the keeper is. There is none where the line asks the keeper or the device first,
+/// or only looks, or asks for bytes that the payload has not. Each line asks here once, and a call is wide: where it is made it need not
+/// be moved.
 #[inline(always)]
-pub fn call_of(alloc: Global, line: Line) -> Result<Option<Call>, OutOfMemory>
-    ensures { IfOk result (λ call. call ≡ asked line) }
+pub fn call_of(
+    alloc: Global,
+    line: Line,
+    payload: &Option<Bytes>,
+) -> Result<Option<Call>, OutOfMemory>
+    ensures { IfOk result (λ call. call ≡ asked payload.now line) }
 {
     match line {
         Line::Attach { seat, group, prio } => done(attach(seat, group, prio, Class::BestEffort)),
@@ -37,6 +44,16 @@ pub fn call_of(alloc: Global, line: Line) -> Result<Option<Call>, OutOfMemory>
             count,
             byte,
         } => done(store(alloc, seat, session, start, count, byte)?),
+        Line::WriteFrom {
+            seat,
+            session,
+            start,
+            count,
+            from,
+        } => match bytes_from(payload, from, count)? {
+            Some(bytes) => done(store_of(seat, session, start, count, bytes)),
+            None => Ok(None),
+        },
         Line::Discard {
             seat,
             session,

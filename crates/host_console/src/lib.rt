@@ -4,13 +4,16 @@
 //! | call | rule that it meets |
 //! |---|---|
 //! | `Teller::run` | a line is one call, and prints its answer; or it is a query, which changes nothing; a `work` line reads the image first |
+//! | `Teller::runs` | a line that asks for bytes which the payload has not does not run: the line and the payload's length decide it |
 //! | `run_keeper` | the lines of a script run at a keeper over an image, one after the other |
+//! | `others_read_no_payload`, `payload_stays` | a line that takes no bytes from the payload does not read it, and no line changes it |
+//! | `bad_by_length` | a line that does not run over a payload of that length may print nothing |
 //! | `put_answer` | the text of an answer |
 //! | `tell` | what a query prints at a keeper, which is not changed |
 //! | `Shows`, `Keeps` | what a keeper must offer to be looked at, and to be run from a script |
 //!
-//! The rules stand in `specs/`: `Printed` says for each line which call it is and what it prints, and `Texts` has
-//! the texts of groups and of entities. `Looks` says what a line that begins with `show` prints, and `Views` has the texts of what a
+//! The rules stand in `specs/`: `Printed` says for each line which call it is and what it prints, `Payload` which bytes a line takes from
+//! the payload, and `Texts` has the texts of groups and of entities. `Looks` says what a line that begins with `show` prints, and `Views` has the texts of what a
 //! machine has. `host_calls` has those of answers.
 //!
 //! ```text
@@ -30,8 +33,10 @@ mod asked;
 mod filled;
 mod group;
 mod keeps;
+mod law;
 mod query;
 mod run;
+mod source;
 mod steps;
 mod submit;
 mod teller;
@@ -40,6 +45,7 @@ mod work;
 
 pub use host_calls::put_answer;
 pub use keeps::{Keeps, Shows};
+pub use law::{bad_by_length, others_read_no_payload, payload_stays};
 pub use run::run_keeper;
 pub use teller::Teller;
 pub use telling::tell;

@@ -21,7 +21,7 @@ pub fn fetch(seat: u8, session: u64, start: u64, count: u16) -> Step
     }
 }
 
-/// The step of a `write` line.
+/// The step of a `write` line whose bytes are alike.
 pub fn store(
     alloc: Global,
     seat: u8,
@@ -32,13 +32,21 @@ pub fn store(
 ) -> Result<Step, OutOfMemory>
     ensures { IfOk result (λ step. step ≡ Step.Submit seat session Op.Store (record { start = start; count = count }) (payload_of count byte)) }
 {
-    Ok(Step::Submit {
+    let payload = payload(alloc, count, byte)?;
+    Ok(store_of(seat, session, start, count, payload))
+}
+
+/// The step of a write of these bytes.
+pub fn store_of(seat: u8, session: u64, start: u64, count: u16, payload: Bytes) -> Step
+    ensures { result ≡ Step.Submit seat session Op.Store (record { start = start; count = count }) payload }
+{
+    Step::Submit {
         seat,
         session,
         op: Op::Store,
         range: range(start, count),
-        payload: payload(alloc, count, byte)?,
-    })
+        payload,
+    }
 }
 
 /// The step of a `discard` line.

@@ -1,13 +1,16 @@
-// A keeper over an image, run from a script.
-ghost use Rattle.std.specs.Prelude.{◌≡◌, ℕ, List, ◌++◌, None, IfOk, OnOk, OnErr, ◌⊎◌};
-ghost use Rattle.script_line.specs.Script.{MayHaveRun};
+// A keeper over an image and a payload, run from a script.
+ghost use Rattle.std.specs.Prelude.{◌≡◌, ℕ, List, ◌++◌, None, IfOk, OnOk, OnErr, IsFalse, ◌⊎◌};
+ghost use Rattle.script_line.specs.Script.{IsStrange, MayHaveRun};
+ghost use Rattle.host_console.specs.Payload.{runs_over, size_of};
 ghost use Rattle.host_console.specs.Printed.{AnswersOver, Looks, Prints, asked, outcome_of, sectors_in_flight};
 
 use crate::Keeps;
 use crate::asked::call_of;
 use crate::filled::sectors_of;
+use crate::source::runs_over;
 use crate::telling::tell;
 use base_image::Image;
+use bytes::Bytes;
 use host_calls::put_answer;
 use plain::{Call, Step};
 use script_line::{Console, Ending, Line};
@@ -15,13 +18,15 @@ use sector_core::{FailKind, OutOfMemory, Outcome};
 use std::alloc::Global;
 use std::marker::Model;
 
-/// Runs the lines of a script at a keeper over an image.
+/// Runs the lines of a script at a keeper over an image and a payload.
 #[derive(Drop)]
 pub struct Teller<K: Keeps, I: Image> {
     /// The keeper.
     pub keeper: K,
     /// The image that the device reads at a `work` line.
     pub image: I,
+    /// The bytes that a `write` line may take, where there are any.
+    pub payload: Option<Bytes>,
 }
 
 impl<K: Keeps, I: Image> Model for Teller<K, I> {
@@ -29,14 +34,17 @@ impl<K: Keeps, I: Image> Model for Teller<K, I> {
 
     ghost Value = { Desk };
 
-    ghost view = { λ teller. record { keeper = K.state teller.keeper; disk = I.disk teller.image } };
+    ghost view = { λ teller. record { keeper = K.state teller.keeper; disk = I.disk teller.image; payload = teller.payload } };
 }
 
 impl<K: Keeps, I: Image> Console for Teller<K, I> {
     ghost prints = { Prints };
 
-    fn runs(_line: &Line) -> bool {
-        true
+    fn runs(&self, line: &Line) -> bool
+        ensures runs { result ≡ runs_over (size_of self.now.payload) line.now }
+        ensures strange { IsFalse result → IsStrange Prints self.now line.now }
+    {
+        runs_over(&self.payload, line)
     }
 
     fn run(&mut self, alloc: Global, line: Line, out: &mut Vec<u8>) -> Result<(), OutOfMemory> {
@@ -50,7 +58,7 @@ impl<K: Keeps, I: Image> Teller<K, I> {
         ensures ok { OnOk result ((text : List ℕ) × (out.new.items ≡ out.old.items ++ text) × Prints self.old line text self.new) }
         ensures err { OnErr result (MayHaveRun Prints self.old line self.new) }
     {
-        match call_of(alloc, line)? {
+        match call_of(alloc, line, &self.payload)? {
             Some(call) => self.answer(alloc, &call, out),
             None => self.look(alloc, line, out),
         }
@@ -58,13 +66,15 @@ impl<K: Keeps, I: Image> Teller<K, I> {
 
     // Runs a line that asks the keeper or the device first, or only looks.
     fn look(&mut self, alloc: Global, line: Line, out: &mut Vec<u8>) -> Result<(), OutOfMemory>
-        requires { asked line ≡ None }
+        requires { asked self.old.payload line ≡ None }
         ensures ok { OnOk result ((text : List ℕ) × (out.new.items ≡ out.old.items ++ text) × Looks self.old line text self.new) }
         ensures err { OnErr result (MayHaveRun Looks self.old line self.new) }
     {
         match line {
             Line::Finish { tag, issue, ending } => self.finish(alloc, tag, issue, ending, out),
             Line::Work { tag, issue } => self.work(alloc, tag, issue, out),
+            // Such a line is not asked to run if the payload has not its bytes, and else makes its call.
+            Line::WriteFrom { .. } => Err(OutOfMemory),
             // Each other line makes its call, or is a query.
             _ => tell(&self.keeper, line, out),
         }

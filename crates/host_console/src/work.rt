@@ -32,6 +32,7 @@ impl<K: Keeps, I: Image> Teller<K, I> {
     // The step that the device asks for, once it has done the work of this request.
     fn step_of_work(&mut self, alloc: Global, tag: u8, issue: u64) -> Result<Step, OutOfMemory>
         ensures keeper { self.new.keeper ≡ self.old.keeper }
+        ensures payload { self.new.payload ≡ self.old.payload }
         ensures ok { IfOk result (λ step.
             StepOfWork self.old.disk tag issue (work_in_flight (machine_of self.old.keeper) tag issue) step self.new.disk) }
         ensures err { OnErr result (self.new ≡ self.old) }

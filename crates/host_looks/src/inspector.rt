@@ -30,9 +30,9 @@ impl<'a, R: Wait> Model for Inspector<'a, R> {
 impl<'a, R: Wait> Console for Inspector<'a, R> {
     ghost prints = { λ _ line text _. Prints line text };
 
-    fn runs(line: &Line) -> bool
+    fn runs(&self, line: &Line) -> bool
         ensures query { result ≡ is_query line.now }
-        ensures strange { IsFalse result → IsStrange (λ (_ : Unit {0}) l text (_ : Unit {0}). Prints l text) line.now }
+        ensures strange { IsFalse result → IsStrange (λ (_ : Unit {0}) l text (_ : Unit {0}). Prints l text) self.now line.now }
     {
         is_query(line)
     }

@@ -28,7 +28,7 @@ type Words = (
 );
 
 const SUBCOMMANDS: [Words; 3] = [
-    ("sim", &[], &CONFIGURATION, &["sectors"], &[]),
+    ("sim", &[], &CONFIGURATION, &["sectors", "payload"], &[]),
     (
         "serve",
         &[],
@@ -36,7 +36,7 @@ const SUBCOMMANDS: [Words; 3] = [
         &["dir", "clients", "workers", "delay", "bad", "record"],
         &["no-inspect"],
     ),
-    ("replay", &["file"], &REPLAY, &[], &["list"]),
+    ("replay", &["file"], &REPLAY, &["payload"], &["list"]),
 ];
 
 // Adds options that are given at most once. `Set` takes exactly one value, and `SetTrue` none.

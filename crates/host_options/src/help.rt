@@ -55,8 +55,9 @@ OPTIONS of sim and serve
     --help, -h           print this help
     --version            print the version; no other word may stand beside it
 
-OPTION of sim
+OPTIONS of sim
     --sectors N          sectors of a device of zeros, 0 to 65536 (1024); not used if there is an image
+    --payload FILE       a write line may take its bytes from this file, of 64 MiB at most
 
 OPTIONS of serve
     --dir DIR            the folder of the sockets: client0, client1 and so on, operator and inspect
@@ -69,6 +70,7 @@ OPTIONS of serve
 
 OPTIONS of replay
     --image FILE         the device of the script is this file; else it is of zeros
+    --payload FILE       a write line of the script may take its bytes from this file, of 64 MiB at most
     --history N          accepted calls at most, in place of the record's number
     --to N               stop before entry N, from 1
     --list               list the entries, and read no script
@@ -82,6 +84,7 @@ SERVE
 SCRIPT: one call a line, words joined by one space; an empty line or one that begins with # is skipped
     attach SEAT GROUP PRIO [rt|be|idle]  read SEAT SESSION START COUNT
     write SEAT SESSION START COUNT BYTE  discard SEAT SESSION START COUNT
+    write SEAT SESSION START COUNT @SECTOR, with the bytes that stand from that sector on in the file of --payload
     reap SEAT SESSION                    leave SEAT
     dispatch
     finish TAG ISSUE stored|short|fault|fill BYTE
@@ -139,5 +142,5 @@ CAUSES: what 'notyet N' says; nothing has changed, and the same line may be acce
 
 EXIT STATUS
     0 end of input, or the operator's stop    2 bad line    3 read fault    4 write fault    5 no memory
-    6 bad words, configuration, image or record    7 a socket, a thread or a record cannot be had
+    6 bad words, configuration, image, payload or record    7 a socket, a thread or a record cannot be had
 ";

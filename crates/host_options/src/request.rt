@@ -22,6 +22,8 @@ pub enum Request {
         sectors: u64,
         /// The file that is the image of the device, where one is named.
         image: Option<String>,
+        /// The file whose bytes a write of the script may take, where one is named.
+        payload: Option<String>,
     },
     /// Serve clients and the operator over sockets.
     Serve {
@@ -50,6 +52,8 @@ pub enum Request {
         file: String,
         /// The file that is the image of the device, where one is named.
         image: Option<String>,
+        /// The file whose bytes a write of the script may take, where one is named.
+        payload: Option<String>,
         /// How many calls the history is to hold, where that is given; not yet checked.
         history: Option<u64>,
         /// The number of the entry before which it stops, where one is given.
@@ -145,10 +149,12 @@ fn sim<'a>(alloc: Global, options: &ArgMatches<'a>) -> Result<Request, Reason<'a
     let draft = draft_of(options)?;
     let sectors = number_or(options, "sectors", 1024)?;
     let image = text_of(alloc, options, "image")?;
+    let payload = text_of(alloc, options, "payload")?;
     Ok(Request::Sim {
         draft,
         sectors,
         image,
+        payload,
     })
 }
 
@@ -206,11 +212,13 @@ fn replay<'a>(alloc: Global, options: &ArgMatches<'a>) -> Result<Request, Reason
     let history = number_of(options, "history")?;
     let to = number_of(options, "to")?;
     let image = text_of(alloc, options, "image")?;
+    let payload = text_of(alloc, options, "payload")?;
     let file = text_of(alloc, options, "file")?.ok_or(Reason::NoRecord)?;
     let list = options.get_flag("list");
     Ok(Request::Replay {
         file,
         image,
+        payload,
         history,
         to,
         list,

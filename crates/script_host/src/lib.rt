@@ -4,6 +4,7 @@
 //! | call | rule that it meets |
 //! |---|---|
 //! | [`run_script`] | what is written is the text of the lines read, with answers that the keeper's rules allow |
+//! | [`run_script_over`] | the same over a payload, whose bytes a `write` line may take |
 //! | [`run_script_at`] | the same on a keeper that is in whatever state |
 //! | [`put_step`] | a step as a line of a script spells it |
 //! | [`Host`] | a keeper as a console needs it, also one that is only looked at |
@@ -35,5 +36,5 @@ mod seats;
 mod steps;
 
 pub use host::{Host, Seen};
-pub use script::{run_script, run_script_at};
+pub use script::{run_script, run_script_at, run_script_over};
 pub use steps::put_step;

@@ -1,11 +1,12 @@
-// A script run on a new host.
+// A script run on a host.
 ghost use Rattle.std.specs.Prelude.{◌<◌, ◌^◌};
 ghost use Rattle.plain.specs.Step.{of_sizes};
 ghost use Rattle.dispatch_core.specs.Running.{sizes_of};
-ghost use Rattle.script_host.specs.Run.{IsRun, IsRunAt};
+ghost use Rattle.script_host.specs.Run.{IsRun, IsRunAt, IsRunOver};
 
 use crate::host::Host;
 use base_image::Image;
+use bytes::Bytes;
 use history::Keeper;
 use host_console::{Teller, run_keeper};
 use script_line::ScriptEnd;
@@ -28,28 +29,48 @@ pub fn run_script<R: Read, W: Write, I: Image + Drop>(
     ensures { IsRun (of_sizes (sizes_of config (I.disk image).sectors)) config.history_max (I.disk image)
         (R.remaining reader.old) (R.remaining reader.new) (W.contents writer.old) (W.contents writer.new) result }
 {
+    run_script_over(alloc, config, reader, writer, image, None)
+}
+
+/// Runs the lines of the reader in turn on a new keeper over the image and a payload, if there is one, whose bytes a `write` line may
+/// take. See [`run_script`].
+pub fn run_script_over<R: Read, W: Write, I: Image + Drop>(
+    alloc: Global,
+    config: Config,
+    reader: &mut R,
+    writer: &mut W,
+    image: I,
+    payload: Option<Bytes>,
+) -> ScriptEnd
+    requires { (I.disk image).faults < 2 ^ 63 }
+    ensures { IsRunOver (of_sizes (sizes_of config (I.disk image).sectors)) config.history_max (I.disk image) payload
+        (R.remaining reader.old) (R.remaining reader.new) (W.contents writer.old) (W.contents writer.new) result }
+{
     let keeper = match Keeper::new(alloc, config, image.sectors()) {
         Ok(keeper) => keeper,
         Err(_) => return ScriptEnd::OutOfMemory,
     };
-    run_script_at(alloc, keeper, reader, writer, image)
+    run_script_at(alloc, keeper, reader, writer, image, payload)
 }
 
-/// Runs the lines of the reader in turn on a keeper in whatever state, over the image. See [`run_script`].
+/// Runs the lines of the reader in turn on a keeper in whatever state, over the image and a payload, if there is one. See
+/// [`run_script`].
 pub fn run_script_at<R: Read, W: Write, I: Image + Drop>(
     alloc: Global,
     keeper: Keeper,
     reader: &mut R,
     writer: &mut W,
     image: I,
+    payload: Option<Bytes>,
 ) -> ScriptEnd
     requires { (I.disk image).faults < 2 ^ 63 }
-    ensures { IsRunAt keeper.state (I.disk image)
+    ensures { IsRunAt keeper.state (I.disk image) payload
         (R.remaining reader.old) (R.remaining reader.new) (W.contents writer.old) (W.contents writer.new) result }
 {
     let teller = Teller {
         keeper: Host { keeper },
         image,
+        payload,
     };
     let Ok(teller) = Box::new(alloc, teller) else {
         return ScriptEnd::OutOfMemory;

@@ -51,17 +51,17 @@ bad_line_some [] loud = absurd (loud tt)
 bad_line_some (b ∷ bs) loud = omega arith
 
 -- a bad line has bytes
-bad_some : {C : Type 0} (prints : C → Line → List ℕ → C → Type 0) (left : Known) (lines : List (List ℕ)) (rest : List ℕ)
-    → IsBadNext prints left lines rest → 0 < length rest
-bad_some prints left lines rest (too_many some _) = some
-bad_some prints left lines rest (too_long front more e _ long) = omega (arith, ap length e, length-append front more)
-bad_some prints left lines rest (no_line line next bad) =
+bad_some : {C : Type 0} (prints : C → Line → List ℕ → C → Type 0) (last : C) (left : Known) (lines : List (List ℕ)) (rest : List ℕ)
+    → IsBadNext prints last left lines rest → 0 < length rest
+bad_some prints last left lines rest (too_many some _) = some
+bad_some prints last left lines rest (too_long front more e _ long) = omega (arith, ap length e, length-append front more)
+bad_some prints last left lines rest (no_line line next bad) =
     let some = bad_line_some line bad.0 in
     omega (arith, ap length next.begins, length-append line next.after)
 
 -- the bad line is told of, in whole, in part or not at all
 pub stops_bad : {C : Type 0} (prints : C → Line → List ℕ → C → Type 0) (r0 r1 w0 w1 w2 : Known) (c0 c1 c2 : C) (count : ℕ) (begun waiting : List ℕ)
-    (s : SoFar prints r0 r1 w0 w1 c0 c1 count begun waiting) → IsBadNext prints r1 s.lines (begun ++ waiting) → c2 ≡ c1
+    (s : SoFar prints r0 r1 w0 w1 c0 c1 count begun waiting) → IsBadNext prints c1 r1 s.lines (begun ++ waiting) → c2 ≡ c1
     → (why : ScriptEnd) → IsBadEnd w1 w2 (count + 1) why → IsEnd prints r0 r1 w0 w2 c0 c2 why
 stops_bad prints r0 r1 w0 w1 w2 c0 c1 c2 count begun waiting s bad same Done h = absurd h
 stops_bad prints r0 r1 w0 w1 w2 c0 c1 c2 count begun waiting s bad same (BadLine n) h =
@@ -112,7 +112,7 @@ stops_bad prints r0 r1 w0 w1 w2 c0 c1 c2 count begun waiting s bad same OutOfMem
       each = s.each;
       few = omega arith;
       runs = s.runs;
-      ends = (bad_some prints r1 s.lines (begun ++ waiting) bad, subst P (sym h) s.wrote, inl same);
+      ends = (bad_some prints c1 r1 s.lines (begun ++ waiting) bad, subst P (sym h) s.wrote, inl same);
     }
 
 -- one line too many
@@ -135,7 +135,7 @@ stops_long prints r0 r1 w0 w1 w2 c0 c1 count begun byte waiting s other full =
 
 -- no line
 pub stops_unread : {C : Type 0} (prints : C → Line → List ℕ → C → Type 0) (r0 r1 w0 w1 w2 : Known) (c0 c1 c2 : C) (count : ℕ) (line after : List ℕ)
-    → SoFar prints r0 r1 w0 w1 c0 c1 count line after → count < 1048576 → IsWhole r1 line after → IsBad prints line → c2 ≡ c1
+    → SoFar prints r0 r1 w0 w1 c0 c1 count line after → count < 1048576 → IsWhole r1 line after → IsBad prints c1 line → c2 ≡ c1
     → (why : ScriptEnd) → IsBadEnd w1 w2 (count + 1) why → IsEnd prints r0 r1 w0 w2 c0 c2 why
 stops_unread prints r0 r1 w0 w1 w2 c0 c1 c2 count line after s room whole bad same =
     stops_bad prints r0 r1 w0 w1 w2 c0 c1 c2 count line after s

@@ -6,4 +6,5 @@ pub mod Looks
 pub mod Named
 pub mod Plains
 pub mod Same
+pub mod Sources
 pub mod Ends

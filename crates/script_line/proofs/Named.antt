@@ -7,7 +7,7 @@ use Rattle.std.proofs.lemmas.Fmt.{decimal_by_steps}
 use Rattle.sector_core.specs.declared.class.Class.{Class}
 use Rattle.sector_core.specs.declared.class.Class.TheVariants.{RealTime, BestEffort, Idle}
 use Rattle.script_line.specs.Words.{IsTail, AreNumbers, numbers, class_named}
-use Rattle.script_line.specs.Line.{spelled, Fits}
+use Rattle.script_line.specs.Line.{Fits}
 use Rattle.script_line.specs.Plain.{IsWordNumbersAndClass, IsClassed, ReadsClass, FitsOrNone}
 use Rattle.script_line.specs.declared.line.Line.{Line}
 use Rattle.script_line.specs.declared.line.Line.TheVariants.{ClassAttach, ClassVtime}
@@ -58,7 +58,7 @@ digit_first n fits = decimal_by_steps (λ _ ds. HasNoLetterFirst ds)
     (λ m ds big h. first_kept ds ((48 + m % 10) ∷ []) h)
     n fits
 
-letter_first : (n : ℕ) (rest bs : List ℕ) → n < 2 ^ 64 → bs ≡ decimal n ++ rest → HasNoLetterFirst bs
+pub letter_first : (n : ℕ) (rest bs : List ℕ) → n < 2 ^ 64 → bs ≡ decimal n ++ rest → HasNoLetterFirst bs
 letter_first n rest bs fits e = subst HasNoLetterFirst (sym e) (first_kept (decimal n) rest (digit_first n fits))
 
 no_name : (c : Class) (ns : List ℕ) → AreNumbers ns → class_named c ≡ numbers ns → ⊥
@@ -169,12 +169,6 @@ read_classed word text front given c None whole is fits h = λ l f m.
     let same : p.given ≡ given = one_numbers p.given given p.fits fits (cuts.0 ∙ is) in
     let M : List ℕ → Class → Type 0 = λ ns k. IsWordNumbersAndClass word ns k l in
     h l f (subst (λ k. M given k) cuts.1 (subst (λ ns. M ns p.named) same p.is))
-
-pub if_classed : {Q : Type 0} (word text : List ℕ) (found : Option Line)
-    → MatchOption found ((l : Line) → Fits l → IsClassed word text l → ⊥) (λ l. Fits l × IsClassed word text l)
-    → (((l : Line) → Fits l → IsClassed word text l → ⊥) → Q) → IfNone found Q
-if_classed word text None h f = f h
-if_classed word text (Some l) h f = tt
 
 -- what stands before the end of a text, if it has that end
 pub if_ends : (text end : List ℕ) (found : Option (Bor (List ℕ))) → MatchOption found ((front : List ℕ) → text ≢ front ++ end) (λ x. text ≡ x.now ++ end)

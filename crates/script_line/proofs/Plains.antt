@@ -1,19 +1,19 @@
--- Each line is a word and numbers, or ends in a class, or begins with the word `finish`, `switch` or `show`.
+-- Each line is a word and numbers, or ends in a class or at a sector of the payload, or begins with the word `finish`, `switch` or `show`.
 use Rattle.std.proofs.Common.{◌≡◌, ℕ, ◌≤◌, ◌<◌, ◌⊎◌, inl, inr, List, [], ◌∷◌, ◌++◌, codes, length, get_or, refl, sym, ap, ◌∙◌, arith, rules, lit≤}
-use Rattle.script_line.specs.Words.{IsTail, HasNoSpace, AreNumbers, numbers, class_named}
+use Rattle.script_line.specs.Words.{IsTail, HasNoSpace, AreNumbers, numbers, at_sector, class_named}
 use Rattle.script_line.specs.Line.{spelled, ended, named, Fits}
 use Rattle.script_line.specs.Look.{shown}
-use Rattle.script_line.specs.Plain.{IsWordAndNumbers, IsClassed, Reads}
+use Rattle.script_line.specs.Plain.{IsWordAndNumbers, IsMarked, Reads}
 use Rattle.std.specs.Prelude.{Option, None, Some, IfNone}
 use Rattle.script_line.specs.declared.line.Line.{Line}
 use Rattle.script_line.specs.declared.look.Look.{Look}
 use Rattle.script_line.specs.declared.line.Ending.{Ending}
 use Rattle.sector_core.specs.declared.config.Scheduler.{Scheduler}
 use Rattle.sector_core.specs.declared.config.Scheduler.TheVariants.{Plain, Bfq}
-use Rattle.script_line.specs.declared.line.Line.TheVariants.{Attach, ClassAttach, Read, Write, Discard, Reap, Leave, Dispatch, Finish, Work, Requeue, Hold, Release, Undo, Redo, Group, Drop, Weight, Freeze, Thaw, Switch, Tick, Sector, Queue, Cursor, Vtime, ClassVtime, Entity, Class, Show}
+use Rattle.script_line.specs.declared.line.Line.TheVariants.{Attach, ClassAttach, Read, Write, WriteFrom, Discard, Reap, Leave, Dispatch, Finish, Work, Requeue, Hold, Release, Undo, Redo, Group, Drop, Weight, Freeze, Thaw, Switch, Tick, Sector, Queue, Cursor, Vtime, ClassVtime, Entity, Class, Show}
 use Rattle.script_line.proofs.Cuts.{one_cut, one_numbers, IsTail-numbers}
 use Rattle.script_line.proofs.Looks.{IsTail-shown}
-use Rattle.script_line.proofs.Named.{ended_by, no_class_after}
+use Rattle.script_line.proofs.Sources.{not_numbers}
 
 pub record IsPlain (word given : List ℕ) (l : Line) : Type 0 where
   pub spelling : spelled l ≡ word ++ numbers given
@@ -41,7 +41,7 @@ pub record IsNamed (word rest : List ℕ) (l : Line) : Type 0 where
   pub spelling : spelled l ≡ word ++ rest
   pub space : HasNoSpace word
   pub tail : IsTail rest
-  pub is : (w t : List ℕ) → w ≡ word → t ≡ rest → IsClassed w t l
+  pub is : (w t : List ℕ) → w ≡ word → t ≡ rest → IsMarked w t l
 
 -- a line of a word and numbers
 abbrev pub PlainParts : Line → Type 0
@@ -51,7 +51,7 @@ PlainParts l = (word : List ℕ) × (given : List ℕ) × IsPlain word given l
 abbrev pub LedParts : Line → Type 0
 LedParts l = (word : List ℕ) × (rest : List ℕ) × IsLed word rest l
 
--- a line that ends in a class
+-- a line that ends in a class or at a sector of the payload
 abbrev pub NamedParts : Line → Type 0
 NamedParts l = (word : List ℕ) × (rest : List ℕ) × IsNamed word rest l
 
@@ -64,10 +64,11 @@ IsTail-named Bfq = refl
 
 pub parts : (l : Line) → Fits l → Parts l
 parts (Attach s g p) f = inl (codes "attach", s ∷ g ∷ p ∷ [], record { spelling = refl; space = search rules; fits = (omega arith, (omega arith, (omega arith, tt))); few = lit≤ tt; is = λ w ns e d. (e, d) })
-parts (ClassAttach s g p c) f = inr (inr (codes "attach", numbers (s ∷ g ∷ p ∷ []) ++ class_named c, record { spelling = refl; space = search rules; tail = refl; is = λ w t e d. (e, d) }))
+parts (ClassAttach s g p c) f = inr (inr (codes "attach", numbers (s ∷ g ∷ p ∷ []) ++ class_named c, record { spelling = refl; space = search rules; tail = refl; is = λ w t e d. inl (e, d) }))
 parts (Read s n a c) f = inl (codes "read", s ∷ n ∷ a ∷ c ∷ [], record { spelling = refl; space = search rules; fits = (omega arith, (f.1, (f.2, (omega arith, tt)))); few = lit≤ tt; is = λ w ns e d. (e, d) })
 parts (Discard s n a c) f = inl (codes "discard", s ∷ n ∷ a ∷ c ∷ [], record { spelling = refl; space = search rules; fits = (omega arith, (f.1, (f.2, (omega arith, tt)))); few = lit≤ tt; is = λ w ns e d. (e, d) })
 parts (Write s n a c b) f = inl (codes "write", s ∷ n ∷ a ∷ c ∷ b ∷ [], record { spelling = refl; space = search rules; fits = (omega arith, (f.1, (f.2, (omega arith, (omega arith, tt))))); few = lit≤ tt; is = λ w ns e d. (e, d) })
+parts (WriteFrom s n a c b) f = inr (inr (codes "write", numbers (s ∷ n ∷ a ∷ c ∷ []) ++ at_sector b, record { spelling = refl; space = search rules; tail = refl; is = λ w t e d. inr (e, d) }))
 parts (Reap s n) f = inl (codes "reap", s ∷ n ∷ [], record { spelling = refl; space = search rules; fits = (omega arith, (f.1, tt)); few = lit≤ tt; is = λ w ns e d. (e, d) })
 parts (Leave s) f = inl (codes "leave", s ∷ [], record { spelling = refl; space = search rules; fits = (omega arith, tt); few = lit≤ tt; is = λ w ns e d. (e, d) })
 parts Dispatch f = inl (codes "dispatch", [], record { spelling = refl; space = search rules; fits = tt; few = lit≤ tt; is = λ w ns e d. (e, d) })
@@ -89,7 +90,7 @@ parts (Sector n) f = inl (codes "sector", n ∷ [], record { spelling = refl; sp
 parts (Queue s) f = inl (codes "queue", s ∷ [], record { spelling = refl; space = search rules; fits = (omega arith, tt); few = lit≤ tt; is = λ w ns e d. (e, d) })
 parts Cursor f = inl (codes "line", [], record { spelling = refl; space = search rules; fits = tt; few = lit≤ tt; is = λ w ns e d. (e, d) })
 parts (Vtime g) f = inl (codes "vtime", g ∷ [], record { spelling = refl; space = search rules; fits = (omega arith, tt); few = lit≤ tt; is = λ w ns e d. (e, d) })
-parts (ClassVtime g c) f = inr (inr (codes "vtime", numbers (g ∷ []) ++ class_named c, record { spelling = refl; space = search rules; tail = refl; is = λ w t e d. (e, d) }))
+parts (ClassVtime g c) f = inr (inr (codes "vtime", numbers (g ∷ []) ++ class_named c, record { spelling = refl; space = search rules; tail = refl; is = λ w t e d. inl (e, d) }))
 parts (Entity n) f = inl (codes "entity", n ∷ [], record { spelling = refl; space = search rules; fits = (omega arith, tt); few = lit≤ tt; is = λ w ns e d. (e, d) })
 parts (Class n) f = inl (codes "class", n ∷ [], record { spelling = refl; space = search rules; fits = (omega arith, tt); few = lit≤ tt; is = λ w ns e d. (e, d) })
 parts (Show look) f = inr (inl (codes "show", shown look, record { spelling = refl; space = search rules; tail = IsTail-shown look; known = inr (inr refl); other = inr (inr (look, refl)) }))
@@ -129,6 +130,7 @@ too_many word given many (Switch s) fits is = is
 too_many word given many (Show look) fits is = is
 too_many word given many (ClassAttach s g p c) fits is = is
 too_many word given many (ClassVtime g c) fits is = is
+too_many word given many (WriteFrom s n a c b) fits is = is
 too_many word given many _ fits is = omega (arith, ap length is.1)
 
 -- a text cut into a word that is none of `finish`, `switch` and `show` and numbers is no line, where no line is that word and these numbers
@@ -153,16 +155,15 @@ no_plain text word rest given whole hw hr finish switch show hg is none l fits e
       | inr (inr p) ↦
           let same : word ++ rest ≡ p.0 ++ p.1 = sym whole ∙ e ∙ p.2.spelling in
           let cuts = one_cut word p.0 rest p.1 hw p.2.space hr p.2.tail same in
-          let ends = ended_by word rest l fits (p.2.is word rest cuts.0 cuts.1) in
-          no_class_after given ends.given ends.named hg ends.fits (sym is ∙ ends.ending)
+          not_numbers word rest given l fits (p.2.is word rest cuts.0 cuts.1) hg is
     ]
 
--- a text cut into a word that is none of `finish`, `switch` and `show` and what are no numbers, and no line that ends in a class, is no line
+-- a text cut into a word that is none of `finish`, `switch` and `show` and what are no numbers, and no line that ends in a class or at a sector of the payload, is no line
 pub no_numbers : (text word rest : List ℕ) → text ≡ word ++ rest → HasNoSpace word → IsTail rest → (word ≡ codes "finish" → ⊥) → (word ≡ codes "switch" → ⊥) → (word ≡ codes "show" → ⊥)
     → ((ns : List ℕ) → AreNumbers ns → length ns ≤ 5 → rest ≡ numbers ns → ⊥)
-    → ((l : Line) → Fits l → IsClassed word rest l → ⊥)
+    → ((l : Line) → Fits l → IsMarked word rest l → ⊥)
     → (l : Line) → Fits l → text ≡ spelled l → ⊥
-no_numbers text word rest whole hw hr finish switch show none unclassed l fits e =
+no_numbers text word rest whole hw hr finish switch show none unmarked l fits e =
     elim (parts l fits) [
       | inl p ↦
           let same : word ++ rest ≡ p.0 ++ numbers p.1 = sym whole ∙ e ∙ p.2.spelling in
@@ -179,7 +180,7 @@ no_numbers text word rest whole hw hr finish switch show none unclassed l fits e
       | inr (inr p) ↦
           let same : word ++ rest ≡ p.0 ++ p.1 = sym whole ∙ e ∙ p.2.spelling in
           let cuts = one_cut word p.0 rest p.1 hw p.2.space hr p.2.tail same in
-          unclassed l fits (p.2.is word rest cuts.0 cuts.1)
+          unmarked l fits (p.2.is word rest cuts.0 cuts.1)
     ]
 
 pub none_read : {Q : Type 0} (word given : List ℕ) (found : Option Line) → Reads word given found

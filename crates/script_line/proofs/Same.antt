@@ -4,9 +4,9 @@ use Rattle.script_line.specs.Words.{numbers}
 use Rattle.script_line.specs.Line.{spelled, ended, Fits, EndingFits}
 use Rattle.script_line.specs.Look.{shown, LookFits}
 use Rattle.std.specs.Prelude.{Option, None, Some}
-use Rattle.script_line.specs.Plain.{IsWordAndNumbers, IsClassed, Reads, FitsOrNone}
+use Rattle.script_line.specs.Plain.{IsWordAndNumbers, IsClassed, IsMarked, Reads, FitsOrNone}
 use Rattle.script_line.specs.declared.line.Line.{Line}
-use Rattle.script_line.specs.declared.line.Line.TheVariants.{Attach, ClassAttach, Read, Write, Discard, Reap, Leave, Dispatch, Finish, Work, Requeue, Hold, Release, Undo, Redo, Group, Drop, Weight, Freeze, Thaw, Switch, Tick, Sector, Queue, Cursor, Vtime, ClassVtime, Entity, Class, Show}
+use Rattle.script_line.specs.declared.line.Line.TheVariants.{Attach, ClassAttach, Read, Write, WriteFrom, Discard, Reap, Leave, Dispatch, Finish, Work, Requeue, Hold, Release, Undo, Redo, Group, Drop, Weight, Freeze, Thaw, Switch, Tick, Sector, Queue, Cursor, Vtime, ClassVtime, Entity, Class, Show}
 use Rattle.script_line.specs.declared.look.Look.{Look}
 use Rattle.script_line.specs.declared.line.Ending.{Ending}
 use Rattle.script_line.specs.declared.line.Ending.TheVariants.{Stored, Fill, Short, Fault}
@@ -17,7 +17,7 @@ use Rattle.std.specs.Fmt.{decimal}
 use Rattle.script_line.proofs.Finishes.{first_number, two_numbers, IsTail-ended}
 use Rattle.script_line.proofs.Plains.{IsLeader, IsOther, PlainParts, LedParts, NamedParts, parts}
 use Rattle.script_line.proofs.Looks.{one_look}
-use Rattle.script_line.proofs.Named.{ended_by, no_class_after, one_class_line}
+use Rattle.script_line.proofs.Sources.{one_marked, not_numbers}
 
 abbrev word_of : Line → List ℕ
 word_of (Attach s g p) = codes "attach"
@@ -25,6 +25,7 @@ word_of (ClassAttach s g p c) = codes "attach"
 word_of (Read s n a c) = codes "read"
 word_of (Discard s n a c) = codes "discard"
 word_of (Write s n a c b) = codes "write"
+word_of (WriteFrom s n a c f) = codes "write"
 word_of (Reap s n) = codes "reap"
 word_of (Leave s) = codes "leave"
 word_of Dispatch = codes "dispatch"
@@ -57,6 +58,7 @@ word_is w ns (Switch s) h = absurd h
 word_is w ns (Show look) h = absurd h
 word_is w ns (ClassAttach s g p c) h = absurd h
 word_is w ns (ClassVtime g c) h = absurd h
+word_is w ns (WriteFrom s n a c f) h = absurd h
 word_is w ns _ h = h.0
 
 -- a line that is a word and numbers begins with none of `finish`, `switch` and `show`
@@ -66,6 +68,7 @@ not_led w ns (Switch s) h k = h
 not_led w ns (Show look) h k = h
 not_led w ns (ClassAttach s g p c) h k = h
 not_led w ns (ClassVtime g c) h k = h
+not_led w ns (WriteFrom s n a c f) h k = h
 not_led w ns _ h (inl k) = omega (arith, ap mark (sym h.0 ∙ k))
 not_led w ns _ h (inr (inl k)) = omega (arith, ap mark (sym h.0 ∙ k))
 not_led w ns _ h (inr (inr k)) = omega (arith, ap mark (sym h.0 ∙ k))
@@ -126,6 +129,7 @@ one_plain w ns (Class n) m one two = absurd (omega (arith, ap mark (sym one.0 �
 one_plain w ns (Show look) m one two = absurd one
 one_plain w ns (ClassAttach s g p c) m one two = absurd one
 one_plain w ns (ClassVtime g c) m one two = absurd one
+one_plain w ns (WriteFrom s n a c f) m one two = absurd one
 
 -- the line that these words and numbers are, where its numbers fit, is what they are read to
 pub reads_fitted : (w ns : List ℕ) (line : Line) (found : Option Line) → IsWordAndNumbers w ns line → FitsOrNone line found → Reads w ns found
@@ -206,14 +210,21 @@ one_other l m (inr (inr a)) (inr (inr b)) f g same =
     a.1 ∙ one_show a.0 b.0 (subst F a.1 f) (subst F b.1 g) both ∙ sym b.1
 
 -- a line that ends in a class begins with none of `finish`, `switch` and `show`
-named_not_led : (w t : List ℕ) (l : Line) → IsClassed w t l → IsLeader w → ⊥
-named_not_led w t (ClassAttach s g p c) h (inl k) = omega (arith, ap mark (sym h.0 ∙ k))
-named_not_led w t (ClassAttach s g p c) h (inr (inl k)) = omega (arith, ap mark (sym h.0 ∙ k))
-named_not_led w t (ClassAttach s g p c) h (inr (inr k)) = omega (arith, ap mark (sym h.0 ∙ k))
-named_not_led w t (ClassVtime g c) h (inl k) = omega (arith, ap mark (sym h.0 ∙ k))
-named_not_led w t (ClassVtime g c) h (inr (inl k)) = omega (arith, ap mark (sym h.0 ∙ k))
-named_not_led w t (ClassVtime g c) h (inr (inr k)) = omega (arith, ap mark (sym h.0 ∙ k))
-named_not_led w t _ h k = h
+class_not_led : (w t : List ℕ) (l : Line) → IsClassed w t l → IsLeader w → ⊥
+class_not_led w t (ClassAttach s g p c) h (inl k) = omega (arith, ap mark (sym h.0 ∙ k))
+class_not_led w t (ClassAttach s g p c) h (inr (inl k)) = omega (arith, ap mark (sym h.0 ∙ k))
+class_not_led w t (ClassAttach s g p c) h (inr (inr k)) = omega (arith, ap mark (sym h.0 ∙ k))
+class_not_led w t (ClassVtime g c) h (inl k) = omega (arith, ap mark (sym h.0 ∙ k))
+class_not_led w t (ClassVtime g c) h (inr (inl k)) = omega (arith, ap mark (sym h.0 ∙ k))
+class_not_led w t (ClassVtime g c) h (inr (inr k)) = omega (arith, ap mark (sym h.0 ∙ k))
+class_not_led w t _ h k = h
+
+-- nor does a line that ends at a sector of the payload
+named_not_led : (w t : List ℕ) (l : Line) → IsMarked w t l → IsLeader w → ⊥
+named_not_led w t l (inl h) k = class_not_led w t l h k
+named_not_led w t l (inr h) (inl k) = omega (arith, ap mark (sym h.0 ∙ k))
+named_not_led w t l (inr h) (inr (inl k)) = omega (arith, ap mark (sym h.0 ∙ k))
+named_not_led w t l (inr h) (inr (inr k)) = omega (arith, ap mark (sym h.0 ∙ k))
 
 -- No two lines of different kinds are spelled alike.
 
@@ -227,8 +238,7 @@ plain_or_named : (l m : Line) → PlainParts l → NamedParts m → Fits m → s
 plain_or_named l m p q g same =
     let both : p.0 ++ numbers p.1 ≡ q.0 ++ q.1 = sym p.2.spelling ∙ same ∙ q.2.spelling in
     let cuts = one_cut p.0 q.0 (numbers p.1) q.1 p.2.space q.2.space (IsTail-numbers p.1) q.2.tail both in
-    let ends = ended_by q.0 q.1 m g (q.2.is q.0 q.1 refl refl) in
-    no_class_after p.1 ends.given ends.named p.2.fits ends.fits (cuts.1 ∙ ends.ending)
+    not_numbers q.0 q.1 p.1 m g (q.2.is q.0 q.1 refl refl) p.2.fits (sym cuts.1)
 
 led_or_named : (l m : Line) → LedParts l → NamedParts m → spelled l ≡ spelled m → ⊥
 led_or_named l m p q same =
@@ -246,7 +256,7 @@ both_named : (l m : Line) → NamedParts l → NamedParts m → Fits l → Fits 
 both_named l m p q f g same =
     let both : p.0 ++ p.1 ≡ q.0 ++ q.1 = sym p.2.spelling ∙ same ∙ q.2.spelling in
     let cuts = one_cut p.0 q.0 p.1 q.1 p.2.space q.2.space p.2.tail q.2.tail both in
-    one_class_line p.0 p.1 l m f g (p.2.is p.0 p.1 refl refl) (q.2.is p.0 p.1 cuts.0 cuts.1)
+    one_marked p.0 p.1 l m f g (p.2.is p.0 p.1 refl refl) (q.2.is p.0 p.1 cuts.0 cuts.1)
 
 pub one_spelling : (l m : Line) → Fits l → Fits m → spelled l ≡ spelled m → l ≡ m
 one_spelling l m f g same =

@@ -2,10 +2,10 @@
 use Rattle.std.specs.Prelude.{ℕ, ◌<◌, ◌^◌, List, [], ◌∷◌, ◌++◌, codes}
 use Rattle.sector_core.specs.declared.config.Scheduler.{Scheduler}
 use Rattle.sector_core.specs.declared.config.Scheduler.TheVariants.{Plain, Bfq}
-use Rattle.script_line.specs.Words.{numbers, class_named}
+use Rattle.script_line.specs.Words.{numbers, at_sector, class_named}
 use Rattle.script_line.specs.Look.{shown, LookFits}
 use Rattle.script_line.specs.declared.line.Line.{Line}
-use Rattle.script_line.specs.declared.line.Line.TheVariants.{Attach, ClassAttach, Read, Write, Discard, Reap, Leave, Dispatch, Finish, Work, Requeue, Hold, Release, Undo, Redo, Group, Drop, Weight, Freeze, Thaw, Switch, Tick, Sector, Queue, Cursor, Vtime, ClassVtime, Entity, Class, Show}
+use Rattle.script_line.specs.declared.line.Line.TheVariants.{Attach, ClassAttach, Read, Write, WriteFrom, Discard, Reap, Leave, Dispatch, Finish, Work, Requeue, Hold, Release, Undo, Redo, Group, Drop, Weight, Freeze, Thaw, Switch, Tick, Sector, Queue, Cursor, Vtime, ClassVtime, Entity, Class, Show}
 use Rattle.script_line.specs.declared.line.Ending.{Ending}
 use Rattle.script_line.specs.declared.line.Ending.TheVariants.{Stored, Fill, Short, Fault}
 
@@ -27,6 +27,7 @@ spelled (Attach seat group prio) = codes "attach" ++ numbers (seat ∷ group ∷
 spelled (ClassAttach seat group prio class) = codes "attach" ++ (numbers (seat ∷ group ∷ prio ∷ []) ++ class_named class)
 spelled (Read seat session start count) = codes "read" ++ numbers (seat ∷ session ∷ start ∷ count ∷ [])
 spelled (Write seat session start count byte) = codes "write" ++ numbers (seat ∷ session ∷ start ∷ count ∷ byte ∷ [])
+spelled (WriteFrom seat session start count from) = codes "write" ++ (numbers (seat ∷ session ∷ start ∷ count ∷ []) ++ at_sector from)
 spelled (Discard seat session start count) = codes "discard" ++ numbers (seat ∷ session ∷ start ∷ count ∷ [])
 spelled (Reap seat session) = codes "reap" ++ numbers (seat ∷ session ∷ [])
 spelled (Leave seat) = codes "leave" ++ numbers (seat ∷ [])
@@ -67,6 +68,7 @@ Fits (Attach seat group prio) = (seat < 2 ^ 8) × (group < 2 ^ 8) × (prio < 2 ^
 Fits (ClassAttach seat group prio class) = (seat < 2 ^ 8) × (group < 2 ^ 8) × (prio < 2 ^ 8)
 Fits (Read seat session start count) = (seat < 2 ^ 8) × (session < 2 ^ 64) × (start < 2 ^ 64) × (count < 2 ^ 16)
 Fits (Write seat session start count byte) = (seat < 2 ^ 8) × (session < 2 ^ 64) × (start < 2 ^ 64) × (count < 2 ^ 16) × (byte < 2 ^ 8)
+Fits (WriteFrom seat session start count from) = (seat < 2 ^ 8) × (session < 2 ^ 64) × (start < 2 ^ 64) × (count < 2 ^ 16) × (from < 2 ^ 64)
 Fits (Discard seat session start count) = (seat < 2 ^ 8) × (session < 2 ^ 64) × (start < 2 ^ 64) × (count < 2 ^ 16)
 Fits (Reap seat session) = (seat < 2 ^ 8) × (session < 2 ^ 64)
 Fits (Leave seat) = seat < 2 ^ 8

@@ -1,10 +1,10 @@
--- Lines that are a word and then numbers, and those that end in a class.
-use Rattle.std.specs.Prelude.{◌≡◌, ℕ, List, [], ◌∷◌, ◌++◌, codes, Option, MatchOption}
-use Rattle.script_line.specs.Words.{numbers, class_named}
+-- Lines that are a word and then numbers, and those that end in a class or at a sector of the payload.
+use Rattle.std.specs.Prelude.{◌≡◌, ℕ, List, [], ◌∷◌, ◌++◌, codes, Option, MatchOption, ◌⊎◌}
+use Rattle.script_line.specs.Words.{numbers, at_sector, class_named}
 use Rattle.sector_core.specs.declared.class.Class.{Class as ClassOf}
 use Rattle.script_line.specs.Line.{Fits}
 use Rattle.script_line.specs.declared.line.Line.{Line}
-use Rattle.script_line.specs.declared.line.Line.TheVariants.{Attach, ClassAttach, Read, Write, Discard, Reap, Leave, Dispatch, Finish, Work, Requeue, Hold, Release, Undo, Redo, Group, Drop, Weight, Freeze, Thaw, Switch, Tick, Sector, Queue, Cursor, Vtime, ClassVtime, Entity, Class, Show}
+use Rattle.script_line.specs.declared.line.Line.TheVariants.{Attach, ClassAttach, Read, Write, WriteFrom, Discard, Reap, Leave, Dispatch, Finish, Work, Requeue, Hold, Release, Undo, Redo, Group, Drop, Weight, Freeze, Thaw, Switch, Tick, Sector, Queue, Cursor, Vtime, ClassVtime, Entity, Class, Show}
 
 -- the line is this word and then these numbers
 abbrev pub IsWordAndNumbers : List ℕ → List ℕ → Line → Type 0
@@ -12,6 +12,7 @@ IsWordAndNumbers word given (Attach seat group prio) = (word ≡ codes "attach")
 IsWordAndNumbers word given (ClassAttach seat group prio class) = ⊥
 IsWordAndNumbers word given (Read seat session start count) = (word ≡ codes "read") × (given ≡ seat ∷ session ∷ start ∷ count ∷ [])
 IsWordAndNumbers word given (Write seat session start count byte) = (word ≡ codes "write") × (given ≡ seat ∷ session ∷ start ∷ count ∷ byte ∷ [])
+IsWordAndNumbers word given (WriteFrom seat session start count from) = ⊥
 IsWordAndNumbers word given (Discard seat session start count) = (word ≡ codes "discard") × (given ≡ seat ∷ session ∷ start ∷ count ∷ [])
 IsWordAndNumbers word given (Reap seat session) = (word ≡ codes "reap") × (given ≡ seat ∷ session ∷ [])
 IsWordAndNumbers word given (Leave seat) = (word ≡ codes "leave") × (given ≡ seat ∷ [])
@@ -62,6 +63,15 @@ abbrev pub IsClassed : List ℕ → List ℕ → Line → Type 0
 IsClassed word text (ClassAttach seat group prio class) = (word ≡ codes "attach") × (text ≡ numbers (seat ∷ group ∷ prio ∷ []) ++ class_named class)
 IsClassed word text (ClassVtime group class) = (word ≡ codes "vtime") × (text ≡ numbers (group ∷ []) ++ class_named class)
 IsClassed word text line = ⊥
+
+-- the line begins with `write`, and this is what stands after that word, which ends at a sector of the payload (our profile)
+abbrev pub IsSourced : List ℕ → Line → Type 0
+IsSourced text (WriteFrom seat session start count from) = text ≡ numbers (seat ∷ session ∷ start ∷ count ∷ []) ++ at_sector from
+IsSourced text line = ⊥
+
+-- the line is this word, and what stands after it, which ends in a class or at a sector of the payload (our profile)
+abbrev pub IsMarked : List ℕ → List ℕ → Line → Type 0
+IsMarked word text line = IsClassed word text line ⊎ ((word ≡ codes "write") × IsSourced text line)
 
 -- the line where its numbers are within their types, else none
 abbrev pub FitsOrNone : Line → Option Line → Type 0

@@ -42,13 +42,14 @@ abbrev pub IsSilent : List ℕ → Type 0
 IsSilent [] = Unit {0}
 IsSilent (b ∷ bs) = b ≡ 35
 
--- a line that prints nothing, at whatever console of this kind: it does not run there
-abbrev pub IsStrange : {C : Type 0} → (C → Line → List ℕ → C → Type 0) → Line → Type 0
-IsStrange {C} prints l = (before : C) (text : List ℕ) (after : C) → prints before l text after → ⊥
+-- a line that may print nothing at this console, whatever the console would be then: it does not run there. Of a kind of console at which
+-- the same lines run in each state this says what it would say of all states at once: `prints` alone decides it
+abbrev pub IsStrange : {C : Type 0} → (C → Line → List ℕ → C → Type 0) → C → Line → Type 0
+IsStrange {C} prints before l = (text : List ℕ) (after : C) → prints before l text after → ⊥
 
--- neither silent nor spelled as a line that runs
-abbrev pub IsBad : {C : Type 0} → (C → Line → List ℕ → C → Type 0) → List ℕ → Type 0
-IsBad prints line = (IsSilent line → ⊥) × ((l : Line) → Fits l → line ≡ spelled l → IsStrange prints l)
+-- neither silent nor spelled as a line that runs at this console
+abbrev pub IsBad : {C : Type 0} → (C → Line → List ℕ → C → Type 0) → C → List ℕ → Type 0
+IsBad prints before line = (IsSilent line → ⊥) × ((l : Line) → Fits l → line ≡ spelled l → IsStrange prints before l)
 
 -- a line runs: a silent one prints nothing and changes nothing, another prints what the console allows for it
 abbrev pub Step : {C : Type 0} → (C → Line → List ℕ → C → Type 0) → C → List ℕ → List ℕ → C → Type 0
@@ -83,11 +84,11 @@ pub record IsNext (left : Known) (lines : List (List ℕ)) (rest line : List ℕ
   pub is_line : IsLine line
   pub room : length lines < most_lines
 
--- the next line after these is bad: one line too many, one byte too many, or no line that runs
-pub data IsBadNext {C : Type 0} (prints : C → Line → List ℕ → C → Type 0) (left : Known) (lines : List (List ℕ)) (rest : List ℕ) : Type 0 where
-  too_many : 0 < length rest → length lines ≡ most_lines → IsBadNext prints left lines rest
-  too_long : (front more : List ℕ) → rest ≡ front ++ more → HasNoEnd front → length front ≡ most_bytes + 1 → IsBadNext prints left lines rest
-  no_line : (line : List ℕ) → IsNext left lines rest line → IsBad prints line → IsBadNext prints left lines rest
+-- the next line after these is bad: one line too many, one byte too many, or no line that runs at the console that they left
+pub data IsBadNext {C : Type 0} (prints : C → Line → List ℕ → C → Type 0) (last : C) (left : Known) (lines : List (List ℕ)) (rest : List ℕ) : Type 0 where
+  too_many : 0 < length rest → length lines ≡ most_lines → IsBadNext prints last left lines rest
+  too_long : (front more : List ℕ) → rest ≡ front ++ more → HasNoEnd front → length front ≡ most_bytes + 1 → IsBadNext prints last left lines rest
+  no_line : (line : List ℕ) → IsNext left lines rest line → IsBad prints last line → IsBadNext prints last left lines rest
 
 -- the end, after these lines ran and wrote their text: `rest` are the bytes read after them
 abbrev pub EndsBy : {C : Type 0} → (C → Line → List ℕ → C → Type 0) → Known → Known → Known
@@ -99,7 +100,7 @@ EndsBy prints left w0 w1 lines text rest last now Done =
     ⊎ ((printed : List ℕ) × IsNext left lines rest rest × Step prints last rest printed now × Appends w0 w1 (text ++ printed)))
 -- the next line is bad, its number is written, and the console is as the lines left it
 EndsBy prints left w0 w1 lines text rest last now (BadLine n) =
-    (n ≡ length lines + 1) × IsBadNext prints left lines rest × Appends w0 w1 (text ++ bad_text n) × (now ≡ last)
+    (n ≡ length lines + 1) × IsBadNext prints last left lines rest × Appends w0 w1 (text ++ bad_text n) × (now ≡ last)
 -- the bytes after the lines are no whole line yet
 EndsBy prints left w0 w1 lines text rest last now ReadFault =
     IsLine rest × (0 < length rest → length lines < most_lines) × Appends w0 w1 text × (now ≡ last)
@@ -109,7 +110,7 @@ EndsBy prints left w0 w1 lines text rest last now WriteFault =
     (Appends w0 w1 text × (now ≡ last))
     ⊎ ((front : List ℕ) × (unwritten : List ℕ) × Appends w0 w1 (text ++ front)
     × (((line : List ℕ) × IsNext left lines rest line × Step prints last line (front ++ unwritten) now)
-    ⊎ (IsBadNext prints left lines rest × (front ++ unwritten ≡ bad_text (length lines + 1)) × (now ≡ last))))
+    ⊎ (IsBadNext prints last left lines rest × (front ++ unwritten ≡ bad_text (length lines + 1)) × (now ≡ last))))
 -- a next line is there, of which nothing is written, and the console is as the lines left it, or as the next line may leave it
 EndsBy prints left w0 w1 lines text rest last now OutOfMemory =
     (0 < length rest) × Appends w0 w1 text

@@ -41,7 +41,7 @@ IsReadEnd why = (why ≡ WriteFault) ⊎ (why ≡ ReadFault)
 -- a line ran, or is bad, or there was no memory for what it prints, and then it may have run
 abbrev pub HasRun : {C : Type 0} → (C → Line → List ℕ → C → Type 0) → List ℕ → C → List ℕ → C → Ran → Type 0
 HasRun prints line before text after Printed = Step prints before line text after
-HasRun prints line before text after Bad = IsBad prints line × (after ≡ before)
+HasRun prints line before text after Bad = IsBad prints before line × (after ≡ before)
 HasRun prints line before text after NoMemory = (0 < length line) × MayHaveRun (Step prints) before line after
 
 -- the lines so far have run, one has begun, and `waiting` is read but not yet looked at

@@ -28,6 +28,10 @@ IsTail (c ∷ cs) = c ≡ 32
 abbrev pub IsPlain : List ℕ → Type 0
 IsPlain word = (0 < length word) × (slice_index word 0 ≢ 43) × (slice_index word 0 ≡ 48 → length word ≡ 1)
 
+-- a sector of the payload, in decimal behind `@`, after one space (our profile)
+abbrev pub at_sector : ℕ → List ℕ
+at_sector from = codes " @" ++ decimal from
+
 -- the name of a class, after one space (our profile)
 abbrev pub class_named : Class → List ℕ
 class_named RealTime = codes " rt"

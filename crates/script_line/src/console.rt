@@ -12,9 +12,9 @@ pub trait Console {
     /// What the line may print at a console, with its last byte 0A, and what the console is then.
     ghost prints: { Self → Line → List ℕ → Self → Type 0 };
 
-    /// Whether such a line runs here. If not it is a bad one, and prints nothing at whatever console of this kind.
-    fn runs(line: &Line) -> bool
-        ensures { IsFalse result → IsStrange prints line.now };
+    /// Whether the line runs here, as the console is now. If not it is a bad one, and may print nothing.
+    fn runs(&self, line: &Line) -> bool
+        ensures { IsFalse result → IsStrange prints self.now line.now };
 
     /// Runs the line, and appends what it prints.
     /// Where there is no memory the line is not run, or it is run and what it prints is lost.

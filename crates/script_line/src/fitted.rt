@@ -60,6 +60,22 @@ pub fn write(seat: u64, session: u64, start: u64, count: u64, byte: u64) -> Opti
     }
 }
 
+/// `write SEAT SESSION START COUNT @SECTOR`
+pub fn write_from(seat: u64, session: u64, start: u64, count: u64, from: u64) -> Option<Line>
+    ensures { FitsOrNone (Line.WriteFrom seat session start count from) result }
+{
+    match (u8::try_from(seat), u16::try_from(count)) {
+        (Ok(seat), Ok(count)) => Some(Line::WriteFrom {
+            seat,
+            session,
+            start,
+            count,
+            from,
+        }),
+        _ => None,
+    }
+}
+
 /// `discard SEAT SESSION START COUNT`
 pub fn discard(seat: u64, session: u64, start: u64, count: u64) -> Option<Line>
     ensures { FitsOrNone (Line.Discard seat session start count) result }

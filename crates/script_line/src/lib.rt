@@ -9,7 +9,7 @@
 //! | `number` | the one number that these bytes spell in decimal: no sign, no leading zero |
 //! | `run_lines` | the lines run in their order, each text written whole before the next line; the first bad line ends the run; the writer is flushed before each read and at the end |
 //! | `Console::run` | what a line may print, and what the console is then |
-//! | `Console::runs` | a line that does not run prints nothing at whatever console of that kind |
+//! | `Console::runs` | a line that does not run may print nothing at the console as it is |
 //!
 //! A line is words joined by one space, with nothing before the first or after the last, and its numbers are
 //! in decimal and within their types. So each line has one spelling, and anything else is no line.
@@ -50,6 +50,7 @@ mod read;
 mod run;
 mod run_line;
 mod show;
+mod sourced;
 mod switch;
 
 pub use console::Console;

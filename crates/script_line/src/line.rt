@@ -33,6 +33,14 @@ pub enum Line {
         count: u16,
         byte: u8,
     },
+    /// `write SEAT SESSION START COUNT @SECTOR`, with the bytes of the payload from that sector on
+    WriteFrom {
+        seat: u8,
+        session: u64,
+        start: u64,
+        count: u16,
+        from: u64,
+    },
     /// `discard SEAT SESSION START COUNT`
     Discard {
         seat: u8,

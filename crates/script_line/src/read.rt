@@ -2,12 +2,12 @@
 ghost use Rattle.std.specs.Prelude.{◌≡◌, IfSome, IfNone};
 ghost use Rattle.script_line.specs.Line.{spelled, Fits};
 
-use super::classed::classed;
 use super::fields::{cut, number_fields};
 use super::finish::finish;
 use super::line::Line;
 use super::plain::plain_line;
 use super::show::show;
+use super::sourced::marked;
 use super::switch::switch;
 
 /// The line that the text spells: its words joined by one space, its numbers in decimal and within their types.
@@ -27,6 +27,6 @@ pub fn line_of(text: &[u8]) -> Option<Line>
     }
     match number_fields(rest) {
         Some(given) => plain_line(word, given.as_slice()),
-        None => classed(word, rest),
+        None => marked(word, rest),
     }
 }

@@ -29,7 +29,7 @@ pub fn run_line<C: Console>(alloc: Global, line: &[u8], console: &mut C, text: &
     let Some(found) = line_of(line) else {
         return Ran::Bad;
     };
-    if !C::runs(&found) {
+    if !console.runs(&found) {
         return Ran::Bad;
     }
     match console.run(alloc, found, text) {

@@ -1,6 +1,6 @@
 use Rattle.std.proofs.Common.{rules}
 use Rattle.script_line.proofs.Plains.{no_plain, no_numbers, none_read}
-use Rattle.script_line.proofs.Named.{if_classed}
+use Rattle.script_line.proofs.Sources.{if_marked}
 use Rattle.script_line.proofs.read.line_of.Goals as goal
 
 pub returns-in-Some-clause-none : goal.returns-in-Some-clause-none
@@ -13,6 +13,6 @@ returns-in-Some-clause-none c =
 
 pub returns-in-None-clause-none : goal.returns-in-None-clause-none
 returns-in-None-clause-none c =
-    if_classed c.cut.result.0.now c.cut.result.1.now c.classed.result c.classed.ensures
+    if_marked c.cut.result.0.now c.cut.result.1.now c.marked.result c.marked.ensures
     (no_numbers c.args.text.now c.cut.result.0.now c.cut.result.1.now
     c.cut.ensures.whole c.cut.ensures.word c.cut.ensures.tail (search rules) (search rules) (search rules) c.in-None.ensures.none)

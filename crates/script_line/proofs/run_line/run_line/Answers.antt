@@ -1,4 +1,4 @@
-use Rattle.std.proofs.Common.{◌≡◌, ◌<◌, inl, inr, length, refl, rules, sym, ◌∙◌, subst}
+use Rattle.std.proofs.Common.{◌<◌, inl, inr, length, refl, rules, sym, ◌∙◌, subst}
 use Rattle.script_line.specs.Script.{IsSilent, IsStrange, MayHaveRun, Step}
 use Rattle.script_line.proofs.Same.{one_spelling}
 use Rattle.script_line.proofs.run_line.run_line.Goals as goal
@@ -7,11 +7,11 @@ use Rattle.script_line.proofs.run_line.run_line.Goals as goal
 pub returns-then-not-runs : goal.returns-then-not-runs
 returns-then-not-runs g c =
     let loud : IsSilent c.args.line.now → ⊥ = search rules in
-    let strange : IsStrange g.C.Console.prints c.in-Some.found = search rules in (
+    let strange : IsStrange g.C.Console.prints c.args.console.now c.in-Some.found = search rules in (
       (
         loud,
         λ l fits is.
-            subst (IsStrange g.C.Console.prints)
+            subst (IsStrange g.C.Console.prints c.args.console.now)
             (one_spelling c.in-Some.found l c.in-Some.ensures.found.0 fits (sym c.in-Some.ensures.found.1 ∙ is))
             strange,
       ),
