@@ -5,7 +5,7 @@ import collections
 import grammar
 from host import BadInput, BadLine, Ended, Host, bad_line, read_lines
 from logs import MOST_SECTORS
-from payload import size_of, why_no_bytes
+from payload import size_of, why_lacking
 from shown import SEATS
 
 FORMS = [form.split() for form in ["seat SEAT", "write START COUNT BYTE", "write START COUNT @SECTOR", "read START COUNT", "discard START COUNT", "reap", "sync"]]
@@ -71,7 +71,7 @@ class Client:
         last = int(start) + int(count) - 1
         if last >= 2**64 or host.ask(f"sector {last}").endswith(" none"):
             raise bad_line(self.path, number, f"past the end of the device: sector {last}")
-        if source and (why := why_no_bytes(int(count), source[0], self.payload)):
+        if source and source[0].startswith(grammar.SIGN) and (why := why_lacking(int(count), source[0], self.payload)):
             raise bad_line(self.path, number, why)
         return Item(word, int(start), int(count), source[0] if source else None)
 

@@ -3,7 +3,7 @@
 from __future__ import annotations
 
 import os
-from typing import Optional, Sequence
+from typing import Dict, Optional, Sequence
 
 import grammar
 from host import BadInput, told_with
@@ -37,15 +37,30 @@ def why_no_bytes(line: str, size: Optional[int]) -> Optional[str]:
     """Why a payload of so many bytes has not those that a good line takes; None if it has, or if the line takes none."""
     if not grammar.takes_bytes(line):
         return None
+    _, _, _, _, count, source = line.split(" ")
+    return why_lacking(int(count), source, size)
+
+
+def why_lacking(count: int, source: str, size: Optional[int]) -> Optional[str]:
+    """Why a payload of so many bytes, or none, has not those of a write of so many sectors from a source on, as `@SECTOR`."""
     if size is None:
         return "there is no payload: --payload FILE names one"
-    _, _, _, _, count, source = line.split(" ")
-    begin, brought = int(source.removeprefix(grammar.SIGN)), int(count) if int(count) <= MOST_SECTORS else 0
+    begin, brought = int(source.removeprefix(grammar.SIGN)), count if count <= MOST_SECTORS else 0
     if SECTOR * begin > size:
         return f"the payload has {size} bytes, and ends before {source}"
     if SECTOR * (begin + brought) > size:
         return f"the payload has {size} bytes, and not so many from {source} on as COUNT sectors have"
     return None
+
+
+def places_in(options: Sequence[str]) -> Dict[bytes, int]:
+    """Where in the payload that options name each block stands, the first time. Without one there is none."""
+    path, places = path_of(options), {}
+    if path is not None:
+        with told_with(path), open(path, "rb") as file:
+            for sector, block in enumerate(iter(lambda: file.read(SECTOR), b"")):
+                places.setdefault(block, sector)
+    return places
 
 
 def block_at(options: Sequence[str], sector: int) -> bytes:
