@@ -121,8 +121,8 @@ def known_faults(program, it):
     with tempfile.TemporaryDirectory() as folder:
         written(folder, "clients", text)
         words = [os.path.join(TOOLS, "futures"), "--program", program, "clients", "--payload", os.path.join(FUTURES, "transfer", f"{it.trace}.payload"),
-                 "--image", os.path.join(FUTURES, "transfer", "disk.img"), "--check", os.path.join(FUTURES, "accounts.py")]
-        with started([*words, "--", "--scheduler", "none"], folder) as ran:
+                 "--image", os.path.join(FUTURES, "transfer", f"{it.trace}.img"), "--check", os.path.join(FUTURES, "accounts.py")]
+        with started([*words, "--", "--scheduler", "none", "--tags", "8"], folder) as ran:
             stdout, stderr = (text.decode() for text in ran.communicate(timeout=4 * SECONDS))
     line = f"\n{it.contents} contents checked: {it.fail} fail"
     yield from [] if line in stdout and ran.returncode == bool(it.fail) else [f"{stdout!r} and {stderr!r}, with status {ran.returncode}, and not {line!r}"]

@@ -34,7 +34,7 @@ def why_bad(path):
     database = sqlite3.connect(path)
     try:
         (sound,), (money, least) = database.execute("pragma integrity_check").fetchone(), database.execute(
-            "select sum(money), min(money) from accounts").fetchone()
+            "select sum(n), min(n) from t where id < 3").fetchone()
     except sqlite3.DatabaseError as fault:
         return str(fault)
     finally:
