@@ -3,7 +3,7 @@
 from __future__ import annotations
 
 import os
-from typing import Dict, Optional, Sequence
+from typing import Dict, List, Optional, Sequence
 
 import grammar
 from host import BadInput, told_with
@@ -22,6 +22,14 @@ def path_of(options: Sequence[str]) -> Optional[str]:
         if word.startswith(f"{OPTION}="):
             return word.removeprefix(f"{OPTION}=")
     return None
+
+
+def with_whole_path(options: Sequence[str]) -> List[str]:
+    """The options, with the payload's path from the root on, so that they serve in any folder."""
+    path = path_of(options)
+    others = [word for at, word in enumerate(options)
+              if word != OPTION and not word.startswith(f"{OPTION}=") and (at == 0 or options[at - 1] != OPTION)]
+    return list(options) if path is None else [*others, OPTION, os.path.abspath(path)]
 
 
 def size_of(options: Sequence[str]) -> Optional[int]:

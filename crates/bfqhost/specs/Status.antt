@@ -17,10 +17,11 @@ status_of OutOfMemory = 5
 abbrev pub IsRefused : ConfigDraft → ℕ → Type 0
 IsRefused draft sectors = IsSome (fault_of draft) ⊎ (65536 < sectors)
 
--- a run is refused for a field; over a file it is refused for the file too, of which no more can be said
-abbrev pub IsSimStatus : ConfigDraft → ℕ → Bool → ℕ → Type 0
-IsSimStatus draft sectors false status = status ≡ 6 ↔ IsRefused draft sectors
-IsSimStatus draft sectors true status = IsSome (fault_of draft) → status ≡ 6
+-- a run is refused for a field; over an image in a file or a payload it is refused for the file too, of which no more can be said
+abbrev pub IsSimStatus : ConfigDraft → ℕ → Bool → Bool → ℕ → Type 0
+IsSimStatus draft sectors false false status = status ≡ 6 ↔ IsRefused draft sectors
+IsSimStatus draft sectors false true status = IsRefused draft sectors → status ≡ 6
+IsSimStatus draft sectors true payload status = IsSome (fault_of draft) → status ≡ 6
 
 -- a status of a run: it is refused, or has come to an end
 abbrev pub IsStatus : ℕ → Type 0

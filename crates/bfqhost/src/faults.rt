@@ -21,7 +21,7 @@ pub const WRITE_FAULT: u8 = 4;
 /// No memory.
 pub const NO_MEMORY: u8 = 5;
 
-/// Bad words, configuration, image, or record that is to be replayed.
+/// Bad words, configuration, image, payload, or record that is to be replayed.
 pub const REFUSED: u8 = 6;
 
 /// A socket, a thread or the file of a record cannot be had.
@@ -113,6 +113,21 @@ pub fn no_image(rt: &impl Eprint, path: &str, error: io::Error, at_terminal: boo
             (ErrorKind::InvalidData, None) => eprintln!(rt;
                 "{path}: its size has changed meanwhile"
             ),
+            _ => eprintln!(rt; "{path}: {error}"),
+        };
+    }
+    REFUSED
+}
+
+/// Says that the payload cannot be had, and to a person why.
+pub fn no_payload(rt: &impl Eprint, path: &str, error: io::Error, at_terminal: bool) -> u8
+    ensures { result ≡ REFUSED }
+{
+    let _ = rt.eprintln("payload: cannot be read");
+    if at_terminal {
+        let _ = match (error.kind(), error.raw_os_error()) {
+            (ErrorKind::InvalidInput, None) => eprintln!(rt; "{path}: no regular file"),
+            (ErrorKind::FileTooLarge, None) => eprintln!(rt; "{path}: longer than 64 MiB"),
             _ => eprintln!(rt; "{path}: {error}"),
         };
     }

@@ -5,6 +5,7 @@
 //! ```text
 //! bfqhost sim < SCRIPT
 //! bfqhost sim --image FILE < SCRIPT
+//! bfqhost sim --payload FILE < SCRIPT
 //! bfqhost serve --image FILE --dir DIR
 //! bfqhost replay RECORD < SCRIPT
 //! ```
@@ -16,12 +17,13 @@
 //! | 3 | a read of standard input failed |
 //! | 4 | a write to standard output failed |
 //! | 5 | no memory |
-//! | 6 | bad words, configuration, image, or record that is to be replayed; standard output is empty |
+//! | 6 | bad words, configuration, image, payload, or record that is to be replayed; standard output is empty |
 //! | 7 | a socket, a thread or the file of a record cannot be had |
 //!
 //! Of each fault one line is told. If standard error is a terminal a second line says more of it.
 
 mod faults;
+mod payload;
 mod replaying;
 mod serving;
 mod start;

@@ -4,8 +4,10 @@ ghost use Rattle.script_line.specs.declared.ending.ScriptEnd.{ScriptEnd};
 ghost use Rattle.bfqhost.specs.Status.{status_of, IsStatus};
 
 use crate::faults::{Field, bad_entry, bad_field, no_image, no_memory, other_image, unread_record};
+use crate::payload::payload_of;
 use crate::start::{OUTPUT_BYTES, status};
 use base_image::{Image, ZeroImage, file_image};
+use bytes::Bytes;
 use host_rings::Book;
 use run_replay::{Asked, ReplayFault, Replayed, load};
 use script_host::run_script_at;
@@ -25,6 +27,8 @@ pub struct Replaying<'a> {
     pub file: &'a str,
     /// The file that is the image of the script's device.
     pub image: Option<&'a str>,
+    /// The file whose bytes a write of the script may take.
+    pub payload: Option<&'a str>,
     /// The history, the end and the lines that are asked for.
     pub asked: Asked,
 }
@@ -38,7 +42,9 @@ pub fn replay(
 ) -> u8
     ensures { IsStatus result }
 {
-    let Replaying { file, asked, image } = replaying;
+    let Replaying {
+        file, asked, image, ..
+    } = replaying;
     let loaded = match File::open(rt, file) {
         Ok(mut reader) => load(rt.alloc(), &mut reader, asked),
         Err(error) if error.kind() == ErrorKind::OutOfMemory => Err(ReplayFault::OutOfMemory),
@@ -54,9 +60,9 @@ pub fn replay(
     }
     let sectors = replayed.header.sectors;
     match image {
-        Some(path) => over_file(rt, replayed, asked.list, path, at_terminal),
+        Some(path) => over_file(rt, replayed, replaying, path, at_terminal),
         None if sectors < TOO_MANY_SECTORS => {
-            finish(rt, replayed, asked.list, ZeroImage::new(sectors))
+            finish(rt, replayed, replaying, ZeroImage::new(sectors), at_terminal)
         }
         None => bad_entry(rt, 0, at_terminal),
     }
@@ -78,7 +84,7 @@ fn bad_record(rt: &impl Eprint, file: &str, fault: ReplayFault, at_terminal: boo
 fn over_file(
     rt: &(impl Files<File = File> + AllocGlobal + Input + Print + Eprint),
     replayed: Replayed,
-    list: bool,
+    replaying: Replaying<'_>,
     path: &str,
     at_terminal: bool,
 ) -> u8
@@ -88,7 +94,7 @@ fn over_file(
     match file_image(rt, path) {
         Ok(image) => {
             if image.sectors() == sectors {
-                finish(rt, replayed, list, image)
+                finish(rt, replayed, replaying, image, at_terminal)
             } else {
                 other_image(rt, path, sectors, at_terminal)
             }
@@ -98,20 +104,26 @@ fn over_file(
     }
 }
 
-// Prints the lines of a record's entries, or runs the script of standard input on its keeper, over an image.
+// Prints the lines of a record's entries, or runs the script of standard input on its keeper, over an image; if the payload can be had,
+// where one is named.
 fn finish<I: Image + Drop>(
-    rt: &(impl AllocGlobal + Input + Print + Eprint),
+    rt: &(impl Files<File = File> + AllocGlobal + Input + Print + Eprint),
     replayed: Replayed,
-    list: bool,
+    replaying: Replaying<'_>,
     image: I,
+    at_terminal: bool,
 ) -> u8
     requires { (I.disk image).faults < 2 ^ 63 }
     ensures { IsStatus result }
 {
-    if list {
+    let payload = match payload_of(rt, replaying.payload, at_terminal) {
+        Ok(payload) => payload,
+        Err(status) => return status,
+    };
+    if replaying.asked.list {
         return print_lines(rt, replayed.lines.as_slice());
     }
-    run_over(rt, replayed.book, image)
+    run_over(rt, replayed.book, image, payload)
 }
 
 // Prints the lines of a record's entries.
@@ -125,11 +137,12 @@ fn print_lines(rt: &(impl Print + Eprint), lines: &[u8]) -> u8
     status(rt, end)
 }
 
-// Runs the script of standard input on the keeper of a record, over an image.
+// Runs the script of standard input on the keeper of a record, over an image and a payload.
 fn run_over<I: Image + Drop>(
     rt: &(impl AllocGlobal + Input + Print + Eprint),
     book: Book,
     image: I,
+    payload: Option<Bytes>,
 ) -> u8
     requires { (I.disk image).faults < 2 ^ 63 }
     ensures { (end : ScriptEnd) × (result ≡ status_of end) }
@@ -139,6 +152,13 @@ fn run_over<I: Image + Drop>(
         Err(_) => return no_memory(rt),
     };
     let keeper = book.into_keeper();
-    let end = run_script_at(rt.alloc(), keeper, &mut rt.reader(), &mut output, image);
+    let end = run_script_at(
+        rt.alloc(),
+        keeper,
+        &mut rt.reader(),
+        &mut output,
+        image,
+        payload,
+    );
     status(rt, end)
 }

@@ -1,5 +1,5 @@
 // From the words of the command line to the status.
-ghost use Rattle.std.specs.Prelude.{◌≡◌, ◌≤◌, ◌<◌, ◌^◌, ◌↔◌, IsSome, is_some};
+ghost use Rattle.std.specs.Prelude.{◌≡◌, ◌≤◌, ◌<◌, ◌^◌, ◌↔◌, None, IsSome, is_some};
 ghost use Rattle.sector_core.specs.Config.{fault_of};
 ghost use Rattle.script_line.specs.declared.ending.ScriptEnd.{ScriptEnd};
 ghost use Rattle.bfqhost.specs.Status.{status_of, IsRefused, IsSimStatus, IsStatus};
@@ -8,12 +8,14 @@ use crate::faults::{
     BAD_LINE, DONE, Field, NO_MEMORY, READ_FAULT, WRITE_FAULT, bad_field, bad_words, no_image,
     no_memory,
 };
+use crate::payload::payload_of;
 use crate::replaying::{Replaying, replay};
 use crate::serving::{Serving, serve};
 use base_image::{Image, ZeroImage, file_image};
+use bytes::Bytes;
 use host_options::{Request, WordFault, help_text, reason_of, request_of, version_line};
 use run_replay::Asked;
-use script_host::run_script;
+use script_host::run_script_over;
 use script_line::ScriptEnd;
 use sector_core::{Config, ConfigDraft};
 use std::env;
@@ -30,6 +32,15 @@ const MOST_SECTORS: u64 = 65_536;
 
 /// Standard output is written in pieces of this size.
 pub const OUTPUT_BYTES: usize = 65_536;
+
+// The files that a run of a script names.
+#[derive(Clone, Copy)]
+struct Named<'a> {
+    // The image of the device.
+    image: Option<&'a str>,
+    // The file whose bytes a write may take.
+    payload: Option<&'a str>,
+}
 
 /// Does what the words ask for, and gives the status. At a terminal a fault is told to a person, too.
 pub fn start<R>(rt: &R, at_terminal: bool) -> u8
@@ -50,8 +61,15 @@ where
                 draft,
                 sectors,
                 image,
+                payload,
             },
-        ) => sim(rt, draft, sectors, image, at_terminal),
+        ) => {
+            let files = Named {
+                image: text_in(&image),
+                payload: text_in(&payload),
+            };
+            sim(rt, draft, sectors, files, at_terminal)
+        }
         Ok(
             Request::Serve {
                 draft,
@@ -81,6 +99,7 @@ where
             Request::Replay {
                 file,
                 image,
+                payload,
                 history,
                 to,
                 list,
@@ -89,6 +108,7 @@ where
             let replaying = Replaying {
                 file: file.as_str(),
                 image: text_in(&image),
+                payload: text_in(&payload),
                 asked: Asked { history, to, list },
             };
             replay(rt, replaying, at_terminal)
@@ -136,24 +156,28 @@ fn write_flushed(rt: &impl Print, text: &str) -> io::Result<()> {
     output.flush()
 }
 
-// Runs the script, where the configuration is within its limits and then the image can be had: the file that is named,
-// or sectors of zeros, where they are not too many.
+// Runs the script, where the configuration is within its limits, then the image can be had: the file that is named,
+// or sectors of zeros, where they are not too many; and then the payload can be had, where one is named.
 fn sim(
     rt: &(impl Files<File = File> + AllocGlobal + Input + Print + Eprint),
     draft: ConfigDraft,
     sectors: u64,
-    image: Option<String>,
+    files: Named<'_>,
     at_terminal: bool,
 ) -> u8
-    ensures field { IsSimStatus draft sectors (is_some image) result }
+    ensures field { IsSimStatus draft sectors (is_some files.entry.image) (is_some files.entry.payload) result }
     ensures status { IsStatus result }
 {
-    match (Config::check(draft), image) {
+    match (Config::check(draft), files.image) {
         (Err(fault), _) => bad_field(rt, Field::Config(fault), at_terminal),
-        (Ok(config), Some(path)) => over_file(rt, config, path.as_str(), at_terminal),
-        (Ok(config), None) if sectors <= MOST_SECTORS => {
-            simulate(rt, config, ZeroImage::new(sectors))
-        }
+        (Ok(config), Some(path)) => over_file(rt, config, path, files.payload, at_terminal),
+        (Ok(config), None) if sectors <= MOST_SECTORS => simulate(
+            rt,
+            config,
+            ZeroImage::new(sectors),
+            files.payload,
+            at_terminal,
+        ),
         (Ok(_), None) => bad_field(rt, Field::Sectors, at_terminal),
     }
 }
@@ -163,22 +187,42 @@ fn over_file(
     rt: &(impl Files<File = File> + AllocGlobal + Input + Print + Eprint),
     config: Config,
     path: &str,
+    payload: Option<&str>,
     at_terminal: bool,
 ) -> u8
     ensures { IsStatus result }
 {
     match file_image(rt, path) {
-        Ok(image) => simulate(rt, config, image),
+        Ok(image) => simulate(rt, config, image, payload, at_terminal),
         Err(error) if error.kind() == ErrorKind::OutOfMemory => no_memory(rt),
         Err(error) => no_image(rt, path, error, at_terminal),
     }
 }
 
-// Runs the script over the image, from standard input to standard output.
+// Runs the script over the image and the payload that is named, if one is.
 fn simulate<I: Image + Drop>(
+    rt: &(impl Files<File = File> + AllocGlobal + Input + Print + Eprint),
+    config: Config,
+    image: I,
+    payload: Option<&str>,
+    at_terminal: bool,
+) -> u8
+    requires { (I.disk image).faults < 2 ^ 63 }
+    ensures status { IsStatus result }
+    ensures few { payload.entry ≡ None → result ≤ NO_MEMORY }
+{
+    match payload_of(rt, payload, at_terminal) {
+        Ok(payload) => run(rt, config, image, payload),
+        Err(status) => status,
+    }
+}
+
+// Runs the script over the image and the payload, from standard input to standard output.
+fn run<I: Image + Drop>(
     rt: &(impl AllocGlobal + Input + Print + Eprint),
     config: Config,
     image: I,
+    payload: Option<Bytes>,
 ) -> u8
     requires { (I.disk image).faults < 2 ^ 63 }
     ensures status { (end : ScriptEnd) × (result ≡ status_of end) }
@@ -188,7 +232,14 @@ fn simulate<I: Image + Drop>(
         Ok(output) => output,
         Err(_) => return no_memory(rt),
     };
-    let end = run_script(rt.alloc(), config, &mut rt.reader(), &mut output, image);
+    let end = run_script_over(
+        rt.alloc(),
+        config,
+        &mut rt.reader(),
+        &mut output,
+        image,
+        payload,
+    );
     status(rt, end)
 }
 
