@@ -13,7 +13,7 @@ pub fn others_read_no_payload()
         → takes_bytes line ≡ false
         → Prints (record { keeper = k; disk = disk; payload = one }) line text after
         → Prints (record { keeper = k; disk = disk; payload = other }) line text
-            (record { keeper = after.keeper; disk = after.disk; payload = other }) }
+        (record { keeper = after.keeper; disk = after.disk; payload = other }) }
 {}
 
 /// No line changes the payload.

@@ -26,8 +26,8 @@ loop-call-preserved g c = (
       c.args.calls.items (into_iter_items c.loop-call.call-iterator) (into_iter_items c.next.new.self) c.in-Some.call c.answer.result c.loop-call.invariant.2 c.in-Some.ensures.steps.0 c.answer.ensures.one
       c.if-not-answer.false,
   (let counted = c.loop-call.invariant.3 in
-   let one = asked_whole_count _ _ _ _ _ _ c.answer.ensures.one c.if-not-answer.false in
-   omega (arith, counted, one)),
+      let one = asked_whole_count _ _ _ _ _ _ c.answer.ensures.one c.if-not-answer.false in
+      omega (arith, counted, one)),
 )
 
 pub returns-then-not-answer-clause-few : goal.returns-then-not-answer-clause-few

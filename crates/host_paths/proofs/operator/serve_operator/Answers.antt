@@ -71,8 +71,8 @@ loop-preserved g c = (
   goes_behind _ _ _ _ _ _ _ _ _ c.loop.feeder c.feed.new.self (take c.in-Ok.count c.read.new.buf) c.in-Ok-feed.fed.values.items c.answer_all.result c.in-Ok-feed.fed.fault c.loop.invariant.3
       c.in-Ok.ensures.bytes.0 c.in-Ok-feed.ensures.came c.answer_all.ensures.asked c.if-not-answer_all.false c.in-Ok-feed.ensures.fault (sym c.if-is_some.ensures),
   (let counted = c.loop.invariant.4 in
-   let all = c.answer_all.ensures.counted c.if-not-answer_all.false in
-   omega (arith, counted, all)),
+      let all = c.answer_all.ensures.counted c.if-not-answer_all.false in
+      omega (arith, counted, all)),
 )
 
 pub returns-then-left-eq0-clause-few : goal.returns-then-left-eq0-clause-few
