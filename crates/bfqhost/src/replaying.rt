@@ -43,7 +43,10 @@ pub fn replay(
     ensures { IsStatus result }
 {
     let Replaying {
-        file, asked, image, ..
+        file,
+        asked,
+        image,
+        ..
     } = replaying;
     let loaded = match File::open(rt, file) {
         Ok(mut reader) => load(rt.alloc(), &mut reader, asked),
@@ -62,7 +65,13 @@ pub fn replay(
     match image {
         Some(path) => over_file(rt, replayed, replaying, path, at_terminal),
         None if sectors < TOO_MANY_SECTORS => {
-            finish(rt, replayed, replaying, ZeroImage::new(sectors), at_terminal)
+            finish(
+                rt,
+                replayed,
+                replaying,
+                ZeroImage::new(sectors),
+                at_terminal,
+            )
         }
         None => bad_entry(rt, 0, at_terminal),
     }

@@ -17,11 +17,7 @@ fn two_and_a_byte(alloc: Global) -> Result<Bytes, Fail> {
 }
 
 // How a script ends over a payload, and what it prints.
-fn run(
-    alloc: Global,
-    script: &str,
-    payload: Option<Bytes>,
-) -> Result<(ScriptEnd, Vec<u8>), Fail> {
+fn run(alloc: Global, script: &str, payload: Option<Bytes>) -> Result<(ScriptEnd, Vec<u8>), Fail> {
     let mut reader = script.as_bytes();
     let mut written = Vec::new(alloc);
     let image = ZeroImage::new(1024);
@@ -80,7 +76,10 @@ fn the_length_decides(rt: HostRuntime) -> Result<(), Fail> {
         assert_eq!(rt; found.as_slice(), wanted.as_bytes(), "{line}");
     }
     for line in PAST.lines() {
-        assert!(rt; told(alloc, line, Some(payload.clone()?))?.is_none(), "{line}");
+        assert!(rt;
+            told(alloc, line, Some(payload.clone()?))?.is_none(),
+            "{line}"
+        );
     }
     Ok(())
 }
