@@ -112,6 +112,7 @@ fn teller_of(alloc: Global) -> Result<Teller<Host<Keeper>, ZeroImage>, AllocErro
     let mut teller = Teller {
         keeper: Host { keeper },
         image: ZeroImage::new(SECTORS),
+        payload: None,
     };
     let mut answers = Vec::new(alloc);
     match run_keeper(alloc, &mut { CALLS }, &mut answers, &mut teller) {

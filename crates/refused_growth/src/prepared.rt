@@ -107,10 +107,15 @@ fn calls_of<R: Read>(
             is_lacking: false,
         },
         image: ZeroImage::new(sectors),
+        payload: None,
     };
     let mut text = Vec::new(alloc);
     let end = run_keeper(alloc, reader, &mut text, &mut teller);
-    let Teller { keeper, image: _ } = teller;
+    let Teller {
+        keeper,
+        image: _,
+        payload: _,
+    } = teller;
     let Recorder {
         host: _,
         calls,
