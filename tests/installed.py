@@ -22,7 +22,7 @@ TOOLS = ["bfq-compare", "bfq-crashes", "bfq-expect", "bfq-export", "bfq-futures"
 PAGES = ["man1/bfqctl.1", "man1/bfqhost.1", "man5/bfqhost-script.5", "man7/bfqhost-protocol.7", "man7/bfqhost-serve.7"]
 # What the tools share.
 MODULES = ("dials drawn driving future_checks future_clients future_contents future_observers future_search future_states grammar host image "
-           "live live_stepper logs measured narrow reasons recorded room sentences shares shown stepper traced ways").split()
+           "live live_stepper logs measured narrow payload reasons recorded room sentences shares shown stepper traced ways").split()
 # What must stand under PREFIX, but for the client's modules.
 FILES = {*(f"bin/{name}" for name in [*COMMANDS, *TOOLS]), "libexec/bfqhost/bfqhost", "libexec/bfqhost/bfqctl",
          *(f"libexec/bfqhost/tools/{name}" for name in [*TOOLS, *(f"{name}.py" for name in MODULES)]),
@@ -100,7 +100,7 @@ def what_stands_there(programs):
             yield from [] if (there / "libexec/bfqhost" / name).read_bytes() == Path(path).read_bytes() else [f"{name} is another program"]
         for page in PAGES:
             text = (there / "share/man" / page).read_text(encoding="utf-8")
-            yield from [] if f'"bfqhost {VERSION}"' in text and "@" not in text else [f"{page} has no version, or not all of it"]
+            yield from [] if f'"bfqhost {VERSION}"' in text and "@VERSION@" not in text else [f"{page} has no version, or not all of it"]
 
 
 def commands_run(programs):
