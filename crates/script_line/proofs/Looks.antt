@@ -4,7 +4,7 @@ use Rattle.script_line.specs.Words.{HasNoSpace, IsTail, AreNumbers, numbers}
 use Rattle.script_line.specs.Look.{shown, LookFits, IsLook}
 use Rattle.script_line.specs.Line.{spelled, Fits}
 use Rattle.script_line.specs.declared.look.Look.{Look}
-use Rattle.script_line.specs.declared.look.Look.TheVariants.{Seat, Outbox, Queue, Requeued, Flight, Service, Tree, Host, Stored, Step}
+use Rattle.script_line.specs.declared.look.Look.TheVariants.{Seat, Outbox, Queue, Requeued, Flight, Service, Tree, Host, State, Stored, Step}
 use Rattle.script_line.specs.declared.line.Line.{Line}
 use Rattle.script_line.specs.declared.line.Line.TheVariants.{Show}
 use Rattle.script_line.proofs.Cuts.{one_cut, one_numbers, IsTail-numbers, mark}
@@ -29,6 +29,7 @@ look_parts Flight f = (codes "flight", [], record { spelling = refl; space = sea
 look_parts Service f = (codes "service", [], record { spelling = refl; space = search rules; fits = tt; few = lit≤ tt; is = λ w ns e d. (e, d) })
 look_parts (Tree g) f = (codes "tree", g ∷ [], record { spelling = refl; space = search rules; fits = (omega arith, tt); few = lit≤ tt; is = λ w ns e d. (e, d) })
 look_parts Host f = (codes "host", [], record { spelling = refl; space = search rules; fits = tt; few = lit≤ tt; is = λ w ns e d. (e, d) })
+look_parts State f = (codes "state", [], record { spelling = refl; space = search rules; fits = tt; few = lit≤ tt; is = λ w ns e d. (e, d) })
 look_parts (Stored n) f = (codes "stored", n ∷ [], record { spelling = refl; space = search rules; fits = (f, tt); few = lit≤ tt; is = λ w ns e d. (e, d) })
 look_parts (Step k) f = (codes "step", k ∷ [], record { spelling = refl; space = search rules; fits = (omega arith, tt); few = lit≤ tt; is = λ w ns e d. (e, d) })
 
@@ -79,6 +80,7 @@ look_word Flight = codes "flight"
 look_word Service = codes "service"
 look_word (Tree g) = codes "tree"
 look_word Host = codes "host"
+look_word State = codes "state"
 look_word (Stored n) = codes "stored"
 look_word (Step k) = codes "step"
 
@@ -95,6 +97,7 @@ one_look_word w ns Flight Flight one two = refl
 one_look_word w ns Service Service one two = refl
 one_look_word w ns (Tree g) (Tree g') one two = let same : g ∷ [] ≡ g' ∷ [] = sym one.1 ∙ two.1 in cc
 one_look_word w ns Host Host one two = refl
+one_look_word w ns State State one two = refl
 one_look_word w ns (Stored n) (Stored n') one two = let same : n ∷ [] ≡ n' ∷ [] = sym one.1 ∙ two.1 in cc
 one_look_word w ns (Step k) (Step k') one two = let same : k ∷ [] ≡ k' ∷ [] = sym one.1 ∙ two.1 in cc
 one_look_word w ns _ m one two = absurd (omega (arith, ap mark (sym one.0 ∙ look_word_is w ns m two)))

@@ -2,7 +2,7 @@
 use Rattle.std.specs.Prelude.{◌≡◌, ℕ, ◌<◌, ◌^◌, List, [], ◌∷◌, ◌++◌, codes, Option, MatchOption}
 use Rattle.script_line.specs.Words.{numbers}
 use Rattle.script_line.specs.declared.look.Look.{Look}
-use Rattle.script_line.specs.declared.look.Look.TheVariants.{Seat, Outbox, Queue, Requeued, Flight, Service, Tree, Host, Stored, Step}
+use Rattle.script_line.specs.declared.look.Look.TheVariants.{Seat, Outbox, Queue, Requeued, Flight, Service, Tree, Host, State, Stored, Step}
 
 -- what stands after the word `show` (our profile)
 abbrev pub shown : Look → List ℕ
@@ -14,6 +14,7 @@ shown Flight = codes " flight"
 shown Service = codes " service"
 shown (Tree group) = codes " tree" ++ numbers (group ∷ [])
 shown Host = codes " host"
+shown State = codes " state"
 shown (Stored from) = codes " stored" ++ numbers (from ∷ [])
 shown (Step k) = codes " step" ++ numbers (k ∷ [])
 
@@ -27,6 +28,7 @@ LookFits Flight = Unit {0}
 LookFits Service = Unit {0}
 LookFits (Tree group) = group < 2 ^ 8
 LookFits Host = Unit {0}
+LookFits State = Unit {0}
 LookFits (Stored from) = from < 2 ^ 64
 LookFits (Step k) = k < 2 ^ 32
 
@@ -40,6 +42,7 @@ IsLook word given Flight = (word ≡ codes "flight") × (given ≡ [])
 IsLook word given Service = (word ≡ codes "service") × (given ≡ [])
 IsLook word given (Tree group) = (word ≡ codes "tree") × (given ≡ group ∷ [])
 IsLook word given Host = (word ≡ codes "host") × (given ≡ [])
+IsLook word given State = (word ≡ codes "state") × (given ≡ [])
 IsLook word given (Stored from) = (word ≡ codes "stored") × (given ≡ from ∷ [])
 IsLook word given (Step k) = (word ≡ codes "step") × (given ≡ k ∷ [])
 

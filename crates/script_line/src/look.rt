@@ -19,6 +19,8 @@ pub enum Look {
     Tree { group: u8 },
     /// `show host`
     Host,
+    /// `show state`
+    State,
     /// `show stored FROM`
     Stored { from: u64 },
     /// `show step K`

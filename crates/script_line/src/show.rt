@@ -52,6 +52,8 @@ fn look_with_none(word: &[u8]) -> Option<Look>
         Some(Look::Service)
     } else if word == b"host".as_slice() {
         Some(Look::Host)
+    } else if word == b"state".as_slice() {
+        Some(Look::State)
     } else {
         None
     }

@@ -1,0 +1,36 @@
+-- The sum CRC-32 of bytes, as zip, PNG and Ethernet have it (RFC 1952, section 8).
+use Rattle.std.specs.Prelude.{ℕ, ◌+◌, ◌-◌, ◌/◌, ◌%◌, ◌^◌, ◌==◌, Bool, true, false, List, [], ◌∷◌, bit_xor, if◌then◌else◌}
+
+-- the polynomial, its bits from the lowest up (RFC 1952)
+abbrev pub polynomial : ℕ
+polynomial = 3988292384
+
+-- all 32 bits
+abbrev pub ones : ℕ
+ones = 2 ^ 32 - 1
+
+-- a sum without its lowest bit, which brings in the polynomial if it is set (RFC 1952)
+abbrev pub shifted : ℕ → ℕ
+shifted sum = if sum % 2 == 1 then bit_xor polynomial (sum / 2) else sum / 2
+
+-- what the lowest byte of a sum brings in: eight bits, one after the other (RFC 1952)
+abbrev pub entry : ℕ → ℕ
+entry byte = shifted (shifted (shifted (shifted (shifted (shifted (shifted (shifted byte)))))))
+
+-- numbers are what each byte brings in, from one on
+abbrev pub are_entries : ℕ → List ℕ → Bool
+are_entries from [] = true
+are_entries from (number ∷ numbers) = if number == entry from then are_entries (from + 1) numbers else false
+
+-- a sum with one byte more (RFC 1952)
+abbrev pub with_byte : ℕ → ℕ → ℕ
+with_byte sum byte = bit_xor (entry (bit_xor sum byte % 256)) (sum / 256)
+
+-- a sum with these bytes more, one after the other (RFC 1952)
+abbrev pub with_bytes : ℕ → List ℕ → ℕ
+with_bytes sum [] = sum
+with_bytes sum (byte ∷ bytes) = with_bytes (with_byte sum byte) bytes
+
+-- the sum of bytes: it begins with all bits, and all are turned at the end (RFC 1952)
+abbrev pub crc32 : List ℕ → ℕ
+crc32 bytes = bit_xor (with_bytes ones bytes) ones
