@@ -121,6 +121,7 @@ module _ (names : Names) (tags : ℕ) (m other : Plain) (h : IsNamed names tags 
     ∙ ap (λ b. seated_text seat (m.seat seat) (group_of m.bfq seat) (m.head seat) (flat_map waiting_text (m.queue seat)) b) (outbox_named seat)))))
 
   group_told : (group : ℕ) → group_text other group ≡ group_text m group
+  unfolding group_text
   group_told group = ap (λ b. group_text (record m { bfq = b }) group) h.bfq
 
   -- the parts of a line, one behind the other

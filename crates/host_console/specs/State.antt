@@ -147,7 +147,7 @@ times_text m group =
     ++ (decimal group ++ 32 ∷ (parent_text (m.bfq.parent (16 + group)) ++ 32 ∷ (decimal (vtime_of m.bfq group RealTime) ++ 32 ∷ (decimal (vtime_of m.bfq group BestEffort) ++ 32 ∷ decimal (vtime_of m.bfq group Idle)))))
 
 -- a group with its members, and nothing if no such group stands
-abbrev pub group_text : Plain → ℕ → List ℕ
+unfoldable pub group_text : Plain → ℕ → List ℕ
 group_text m group = if stands m.bfq group then times_text m group ++ flat_map (member_text m group) (numbers 0 48) else []
 
 -- The whole.

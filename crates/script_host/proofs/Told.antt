@@ -1,5 +1,5 @@
 -- Lists that are told item by item.
-use Rattle.std.proofs.Common.{◌≡◌, ℕ, zero, suc, ◌+◌, ◌-◌, ◌<◌, ◌≤◌, List, [], ◌∷◌, ◌++◌, length, drop, slice_get, Option, None, Some, true, false, cond, is_some, true≢false, ◌==◌, rules, refl, sym, ap, ◌∙◌, arith, append_assoc, append-nil}
+use Rattle.std.proofs.Common.{◌≡◌, ℕ, zero, suc, ◌+◌, ◌-◌, ◌<◌, ◌≤◌, List, [], ◌∷◌, ◌++◌, length, drop, slice_get, None, Some, true, false, cond, is_some, true≢false, ◌==◌, rules, refl, sym, ap, ◌∙◌, arith, append_assoc, append-nil}
 use Rattle.std.specs.Prelude.{Result, Ok, Err, OnOk}
 use Rattle.std.specs.List.{flat_map}
 use Rattle.std.proofs.lemmas.List.Concat.{flat_map-cons}
@@ -41,7 +41,7 @@ done f [] (suc i) h = refl
 done f (y ∷ xs) zero h = absurd (omega arith)
 done f (y ∷ xs) (suc i) h = done f xs i (omega arith)
 
-numbers-cons : (i n : ℕ) → 0 < n → numbers i n ≡ i ∷ numbers (i + 1) (n - 1)
+pub numbers-cons : (i n : ℕ) → 0 < n → numbers i n ≡ i ∷ numbers (i + 1) (n - 1)
 numbers-cons i zero h = absurd (omega arith)
 numbers-cons i (suc n) h = let e : suc n - 1 ≡ n = omega arith in rw e refl
 

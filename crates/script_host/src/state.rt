@@ -13,7 +13,7 @@ use crate::steps::scheduler_word;
 use dispatch_core::View;
 use flight::put_flying;
 use groups::{put_groups, put_served};
-use requests::put_owned;
+use requests::put_again;
 use seats::put_seats;
 use std::io::{self, Write};
 
@@ -62,10 +62,7 @@ fn put_list(view: &View<'_>, out: &mut Vec<u8>) -> io::Result<()>
 {
     for place in 0..MOST_REQUESTS {
         match view.requeued(place) {
-            Some(request) => {
-                write!(out, " ")?;
-                put_owned(view, &request, out)?;
-            }
+            Some(request) => put_again(view, &request, out)?,
             None => return Ok(()),
         }
     }

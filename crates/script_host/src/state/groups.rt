@@ -1,11 +1,13 @@
 // The queue in service, and groups with their members, each with all that is known of it.
-ghost use Rattle.std.specs.Prelude.{◌≡◌, ◌∷◌, ◌++◌, OnOk, Option, codes};
+ghost use Rattle.std.specs.Prelude.{◌≡◌, ◌∷◌, ◌++◌, MatchOption, OnOk, Option, codes, false};
 ghost use Rattle.std.specs.List.{flat_map};
 ghost use Rattle.std.specs.Fmt.{decimal};
 ghost use Rattle.plain.specs.Lists.{numbers};
+ghost use Rattle.plain.specs.Rules.{stands};
 ghost use Rattle.plain.specs.declared.seat.InService.{InService as InServiceOf};
 ghost use Rattle.dispatch_core.specs.Running.{plain_of};
 ghost use Rattle.host_console.specs.Views.{parent_text};
+ghost use Rattle.script_host.specs.Times.{HasTimes};
 ghost use Rattle.host_console.specs.State.{group_text, known_text, member_text, served_text};
 
 use crate::entities::{ENTITIES, is_in, other_class, parent_of, state_word};
@@ -19,10 +21,13 @@ const GROUPS: u8 = 32;
 
 /// The virtual times of a group.
 #[derive(Clone, Copy)]
-struct Times {
-    real_time: u64,
-    best_effort: u64,
-    idle: u64,
+pub struct Times {
+    /// That of real time.
+    pub real_time: u64,
+    /// That of best effort.
+    pub best_effort: u64,
+    /// That of the idle class.
+    pub idle: u64,
 }
 
 /// Appends the queue in service. It fails only for want of memory.
@@ -57,7 +62,9 @@ fn put_group(view: &View<'_>, group: u8, out: &mut Vec<u8>) -> io::Result<()>
 }
 
 // The virtual times of a group, if it stands.
-fn times_of(view: &View<'_>, group: u8) -> Option<Times> {
+fn times_of(view: &View<'_>, group: u8) -> Option<Times>
+    ensures { MatchOption result (stands (plain_of view.now).bfq group ≡ false) (λ times. HasTimes (plain_of view.now).bfq group times) }
+{
     Some(Times {
         real_time: view.vtime(group, Class::RealTime)?,
         best_effort: view.vtime(group, Class::BestEffort)?,

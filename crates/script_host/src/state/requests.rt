@@ -2,7 +2,7 @@
 ghost use Rattle.std.specs.Prelude.{◌≡◌, ◌++◌, drop, OnOk};
 ghost use Rattle.std.specs.List.{flat_map};
 ghost use Rattle.dispatch_core.specs.Running.{plain_of};
-ghost use Rattle.host_console.specs.State.{bios_text, next_text, owned_text, request_text, waiting_text};
+ghost use Rattle.host_console.specs.State.{again_text, bios_text, next_text, owned_text, request_text, waiting_text};
 
 use super::bios::put_bio;
 use crate::requests::{MOST_BIOS, op_word, put_owner, seat_of};
@@ -16,6 +16,14 @@ pub fn put_waiting(request: &Listed<'_>, out: &mut Vec<u8>) -> io::Result<()>
 {
     write!(out, " ")?;
     put_request(request, out)
+}
+
+/// Appends a request with the seat of its session after one space. It fails only for want of memory.
+pub fn put_again(view: &View<'_>, request: &Listed<'_>, out: &mut Vec<u8>) -> io::Result<()>
+    ensures { OnOk result (out.new.items ≡ out.old.items ++ again_text (plain_of view.now) request.now) }
+{
+    write!(out, " ")?;
+    put_owned(view, request, out)
 }
 
 /// Appends a request with the seat of its session. It fails only for want of memory.

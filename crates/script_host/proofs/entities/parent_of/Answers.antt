@@ -1,6 +1,5 @@
 use Rattle.script_host.proofs.Told.{none_stands}
 use Rattle.script_host.proofs.entities.parent_of.Goals as goal
-use Rattle.plain.specs.Machine.{Bfq}
 use Rattle.dispatch_core.specs.Running.{plain_of}
 
 pub returns-then-group-ge32 : goal.returns-then-group-ge32

@@ -1,4 +1,4 @@
-use Rattle.std.proofs.Common.{◌≡◌, ℕ, ◌+◌, List, [], ◌∷◌, ◌++◌, codes, cond, sym, ap, ◌∙◌, append_assoc, rules}
+use Rattle.std.proofs.Common.{◌≡◌, ℕ, ◌+◌, List, ◌∷◌, ◌++◌, codes, cond, sym, ap, ◌∙◌, append_assoc, rules}
 use Rattle.std.specs.List.{flat_map}
 use Rattle.std.specs.Fmt.{decimal}
 use Rattle.sector_core.specs.declared.class.Class.TheVariants.{BestEffort}
@@ -6,7 +6,7 @@ use Rattle.plain.specs.Lists.{numbers}
 use Rattle.plain.specs.Machine.{Plain}
 use Rattle.dispatch_core.specs.Running.{plain_of}
 use Rattle.plain.specs.Rules.{vtime_of}
-use Rattle.host_console.specs.Views.{parent_text, member_text, tree_look}
+use Rattle.host_console.specs.Views.{parent_text, member_text}
 use Rattle.script_host.proofs.Told.{on_ok, stands_of}
 use Rattle.script_host.proofs.entities.put_tree.Goals as goal
 

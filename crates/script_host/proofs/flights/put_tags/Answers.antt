@@ -1,5 +1,4 @@
-use Rattle.std.proofs.Common.{◌≡◌, ◌++◌, sym, ap, ◌∙◌, arith}
-use Rattle.std.specs.List.{flat_map}
+use Rattle.std.proofs.Common.{◌++◌, sym, ap, ◌∙◌, arith}
 use Rattle.dispatch_core.specs.Running.{plain_of}
 use Rattle.host_console.specs.Views.{tag_text}
 use Rattle.script_host.proofs.Told.{more_numbers, no_numbers, one_more, all_told}

@@ -1,4 +1,4 @@
-use Rattle.std.proofs.Common.{◌≡◌, ◌++◌, ◌<◌, ◌≤◌, ◌^◌, length, drop}
+use Rattle.std.proofs.Common.{◌≡◌, ◌++◌, ◌<◌, ◌^◌, length, drop}
 use Rattle.std.specs.List.{flat_map}
 use Rattle.dispatch_core.specs.Running.{plain_of}
 use Rattle.host_console.specs.Views.{again_text}

@@ -1,4 +1,4 @@
-use Rattle.std.proofs.Common.{◌≡◌, ◌++◌, ◌<◌, ◌≤◌, ◌^◌, length, drop}
+use Rattle.std.proofs.Common.{◌≡◌, ◌++◌, ◌<◌, ◌≤◌, length, drop}
 use Rattle.std.specs.List.{flat_map}
 use Rattle.host_console.specs.Views.{next_text}
 use Rattle.script_host.proofs.requests.put_others.Given as goal

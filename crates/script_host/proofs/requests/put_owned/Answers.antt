@@ -1,4 +1,4 @@
-use Rattle.std.proofs.Common.{◌≡◌, ℕ, List, [], ◌∷◌, ◌++◌, sym, ap, ◌∙◌, append_assoc, rules}
+use Rattle.std.proofs.Common.{◌≡◌, ℕ, List, [], ◌∷◌, ◌++◌, ap, ◌∙◌, append_assoc, rules}
 use Rattle.dispatch_core.specs.Running.{plain_of}
 use Rattle.plain.specs.Steps.Finish.{seat_of}
 use Rattle.host_console.specs.Views.{owner_text, listed_text, owned_text}

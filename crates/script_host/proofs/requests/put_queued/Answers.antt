@@ -1,6 +1,4 @@
-use Rattle.std.proofs.Common.{◌≡◌, ◌++◌, ◌≤◌, drop, length, Some, None, sym, ap, ◌∙◌, arith}
-use Rattle.std.specs.List.{flat_map}
-use Rattle.std.specs.Option.{option_copied}
+use Rattle.std.proofs.Common.{◌++◌, sym, ap, ◌∙◌, arith}
 use Rattle.dispatch_core.specs.Running.{plain_of}
 use Rattle.host_console.specs.Views.{queued_text}
 use Rattle.script_host.proofs.Told.{more, none, done, one_more, all_told}

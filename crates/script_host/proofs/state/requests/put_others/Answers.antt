@@ -1,0 +1,22 @@
+use Rattle.std.proofs.Common.{◌++◌, sym, ap, ◌∙◌, arith}
+use Rattle.std.specs.Option.{option_copied}
+use Rattle.host_console.specs.State.{next_text}
+use Rattle.script_host.proofs.Told.{more, none, done, one_more, all_told}
+use Rattle.script_host.proofs.state.requests.put_others.Goals as goal
+
+pub returns-in-None : goal.returns-in-None
+returns-in-None c =
+    all_told c.loop-place.out.items _ _ (none next_text c.args.request.now.bios c.loop-place.place (sym c.bio.ensures.bio ∙ ap option_copied c.in-None.is)) c.loop-place.invariant.whole
+
+pub loop-place-preserved : goal.loop-place-preserved
+loop-place-preserved c =
+    let next = more next_text c.args.request.now.bios c.loop-place.place c.in-Some.bio.now (sym c.bio.ensures.bio ∙ ap option_copied c.in-Some.is) in
+    record {
+      whole = one_more c.loop-place.out.items c.put_next.new.out.items _ _ _ c.in_ok-put_next-in-Some.ensures (ap (λ ys. c.loop-place.out.items ++ ys) (sym next) ∙ c.loop-place.invariant.whole);
+      few = λ h. c.in-Some.ensures.few;
+    }
+
+pub returns : goal.returns
+returns c =
+    let few = c.loop-place.invariant.few (omega (arith, c.loop-place-test.false)) in
+    all_told c.loop-place.out.items _ _ (done next_text c.args.request.now.bios c.loop-place.place (omega (arith, few, c.loop-place-test.false))) c.loop-place.invariant.whole

@@ -1,0 +1,23 @@
+use Rattle.std.proofs.Common.{◌++◌, sym, ap, ◌∙◌, arith}
+use Rattle.std.specs.Option.{option_copied}
+use Rattle.dispatch_core.specs.Running.{plain_of}
+use Rattle.host_console.specs.State.{done_text}
+use Rattle.script_host.proofs.Told.{more, none, done, one_more, all_told}
+use Rattle.script_host.proofs.state.seats.put_outbox.Goals as goal
+
+pub returns-in-None : goal.returns-in-None
+returns-in-None c =
+    all_told c.loop-place.out.items _ _ (none done_text ((plain_of c.args.view.now).outbox c.args.seat) c.loop-place.place (sym c.completed.ensures.bio ∙ ap option_copied c.in-None.is)) c.loop-place.invariant.whole
+
+pub loop-place-preserved : goal.loop-place-preserved
+loop-place-preserved c =
+    let next = more done_text ((plain_of c.args.view.now).outbox c.args.seat) c.loop-place.place c.in-Some.bio.now (sym c.completed.ensures.bio ∙ ap option_copied c.in-Some.is) in
+    record {
+      whole = one_more c.loop-place.out.items c.put_done.new.out.items _ _ _ c.in_ok-put_done-in-Some.ensures (ap (λ ys. c.loop-place.out.items ++ ys) (sym next) ∙ c.loop-place.invariant.whole);
+      few = λ h. c.in-Some.ensures.few;
+    }
+
+pub returns : goal.returns
+returns c =
+    let few = c.loop-place.invariant.few (omega (arith, c.loop-place-test.false)) in
+    all_told c.loop-place.out.items _ _ (done done_text ((plain_of c.args.view.now).outbox c.args.seat) c.loop-place.place (omega (arith, few, c.loop-place-test.false))) c.loop-place.invariant.whole
