@@ -12,7 +12,6 @@ mod laws;
 mod listing;
 mod loading;
 mod reel;
-mod sum;
 mod text;
 
 pub use laws::{more_room, record_is_replayed};

@@ -1,6 +1,6 @@
 // Calls and names as text.
 
-use crate::sum::crc32;
+use checksum::{crc32, put_sum};
 use host_calls::SeatName;
 use plain::{Call, Step};
 use script_host::put_step;
@@ -47,8 +47,9 @@ fn put_step_with_sum(step: &Step, out: &mut Vec<u8>) -> io::Result<()> {
 // How many bytes they are, and their sum.
 fn put_sum(bytes: &[u8], out: &mut Vec<u8>) -> io::Result<()> {
     let count = bytes.len();
-    let sum = crc32(bytes);
-    write!(out, "<{count} bytes, crc32 {sum:08x}>")
+    write!(out, "<{count} bytes, crc32 ")?;
+    put_sum(crc32(bytes), out)?;
+    write!(out, ">")
 }
 
 // Whether all bytes are the same one.
