@@ -40,7 +40,7 @@ def read_record(path, sectors):
 def sent(file, left, sectors):
     """The next one, for which so many bytes are left."""
     if left < HEAD.size:
-        raise ValueError(f"the file ends {left} bytes behind its begin")
+        raise ValueError(f"the file ends behind {left} of its first {HEAD.size} bytes")
     kind, forced, zeros, length, offset = HEAD.unpack(file.read(HEAD.size))
     if kind not in KINDS:
         raise ValueError(f"its first byte is {kind[0]:#04x}, and not W, T, Z or F")
@@ -58,7 +58,7 @@ def sent(file, left, sectors):
     if offset + length > sectors * SECTOR:
         raise ValueError(f"past the end of the image, which has {sectors} sectors: bytes {offset} to {offset + length}")
     if kind == b"W" and left - HEAD.size < length:
-        raise ValueError(f"the file ends {left - HEAD.size} bytes behind its head, and LENGTH is {length}")
+        raise ValueError(f"the file ends behind {left - HEAD.size} of the {length} bytes that are written")
     data = file.read(length) if kind == b"W" else b""
     return Sent(KINDS[kind], offset // SECTOR, length // SECTOR, bool(forced), data)
 

@@ -16,6 +16,8 @@ not. The record is a new file. It begins with MAGIC, whose last byte is the vers
 and then, of a write alone, the LENGTH bytes. All numbers have their least byte first.
 """
 
+import errno
+import functools
 import os
 import struct
 
@@ -28,6 +30,18 @@ HEAD = struct.Struct("<cBHIQ")
 PIECE = 1 << 20
 
 given = {}
+
+
+def told(act):
+    """What the system refuses is told to the client by its number."""
+    @functools.wraps(act)
+    def called(*words):
+        try:
+            return act(*words)
+        except OSError as fault:
+            nbdkit.set_error(fault.errno or errno.EIO)
+            raise
+    return called
 
 
 def config(key, value):
@@ -63,32 +77,37 @@ def get_size(handle):
     return os.stat(handle["disk"]).st_size
 
 
+@told
 def pread(handle, buf, offset, flags):
     view = memoryview(buf).cast("B")
     while view:
         part = os.pread(handle["disk"], len(view), offset)
         if not part:
-            raise EOFError("past the end of the disk")
+            raise OSError(errno.EIO, "past the end of the disk")
         view[:len(part)] = part
         view, offset = view[len(part):], offset + len(part)
 
 
+@told
 def pwrite(handle, buf, offset, flags):
     put(handle["disk"], buf, offset)
     record(handle, b"W", offset, len(buf), flags, buf)
 
 
+@told
 def trim(handle, count, offset, flags):
     """What was trimmed is zeros, as it is where the record is searched."""
     clear(handle, count, offset)
     record(handle, b"T", offset, count, flags)
 
 
+@told
 def zero(handle, count, offset, flags):
     clear(handle, count, offset)
     record(handle, b"Z", offset, count, flags)
 
 
+@told
 def flush(handle, flags):
     os.fdatasync(handle["disk"])
     record(handle, b"F", 0, 0, 0)
