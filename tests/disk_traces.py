@@ -29,7 +29,7 @@ RECORDER, CHECK = os.path.join(FUTURES, "recorder.py"), os.path.join(FUTURES, "e
 CHECK_NEEDS = ["e2fsck", "debugfs"]
 SECTOR = 512
 MAGIC = b"bfqdisk1"
-# What a block of the journal of an ext4 begins with that is a commit record: the magic of JBD2, and the kind 2. Its most significant byte is first.
+# What a commit record in the journal of an ext4 begins with: the magic of JBD2, and the kind 2.
 COMMIT = bytes.fromhex("c03b399800000002")
 NONE = ["--scheduler", "none"]
 
@@ -112,12 +112,11 @@ BAD_WORDS = [
     (["nbd", "log", "--image", ".", "--into", "told"], ".: neither a file nor a block device\n"),
     (["nbd", "log", "--image", "image", "--into", "."], ".: Directory not empty\n"),
 ]
-# What is on record in examples/futures/ext4: which sync is left out, how many contents there are, and how many of them break a promise.
-Known = namedtuple("Known", "forgotten contents fail")
-KNOWN = [Known(None, 59, 0), Known(3, 74, 1)]
-# With all: the last sync of all but the journal's own, and the same by blocks of the file system.
-KNOWN_LONG = [Known(5, 62, 1), Known(4, 62, 0)]
-BY_BLOCKS = Known(None, 3587, 0)
+# What is on record in examples/futures/ext4: which sync is left out, how many sectors a line has at most, how many contents there are, and how
+# many of them break a promise.
+Known = namedtuple("Known", "forgotten split contents fail")
+KNOWN = [Known(None, 64, 59, 0), Known(3, 64, 74, 1)]
+KNOWN_LONG = [Known(4, 64, 62, 0), Known(5, 64, 62, 1), Known(None, 4, 352, 0), Known(3, 4, 562, 12)]
 
 
 def tool(folder, *words):
@@ -266,15 +265,15 @@ def failing_faults(program, folder, into):
     yield from differences("the check of the failure", subprocess.run([CHECK, image], capture_output=True, check=False).returncode, 1)
 
 
-def known_faults(program, it, words=()):
+def known_faults(program, it):
     """The futures of the record that is there are as the count by copies has them, and the check finds the known failures."""
     with tempfile.TemporaryDirectory() as folder:
         for name, packed in (("image", "disk.img.xz"), ("log", "disk.log.xz")):
             written(folder, name, lzma.decompress(content_of(FUTURES, "ext4", packed)))
         forget = ["--forget", str(it.forgotten)] if it.forgotten else []
-        yield from differences("the trace", tool(folder, "trace", *GOOD, *forget, *words), ("86 sectors written, 21 syncs\n", "", 0))
+        yield from differences("the trace", tool(folder, "trace", *GOOD, *forget, "--split", str(it.split)), ("86 sectors written, 21 syncs\n", "", 0))
         (stdout, stderr, status), into = futures_of(program, folder)
-        line = f"\n{it.contents} contents checked: {it.fail} fail\n"
+        line = f"\n{it.contents} contents checked: {it.fail} fail"
         yield from [] if line in stdout and status == bool(it.fail) else [f"{stdout!r} and {stderr!r}, with status {status}, and not {line!r}"]
         copies, found = copies_of(os.path.join(folder, "told")), searched(os.path.join(folder, "told"), into)
         yield from differences("how many contents a count by copies has", len(copies), it.contents)
@@ -333,9 +332,8 @@ def disk_trace_runs(program, has_all):
         print(f"skipped: trace nbd: the record of an ext4: no {' and no '.join(lacks)} here")
         return
     for it in [*KNOWN, *(KNOWN_LONG if has_all else [])]:
-        yield f"trace nbd: an ext4{f' without sync {it.forgotten}' if it.forgotten else ''}", faults_of(known_faults(program, it))
-    if has_all:
-        yield "trace nbd: an ext4 by its blocks", faults_of(known_faults(program, BY_BLOCKS, ["--split", "2"]))
+        name = f"an ext4 by {it.split}{f' without sync {it.forgotten}' if it.forgotten else ''}"
+        yield f"trace nbd: {name}", faults_of(known_faults(program, it))
     if lacks := lacking(MOUNT_NEEDS, True):
         print(f"skipped: trace nbd: an ext4 that is mounted: no {' and no '.join(lacks)} here")
     else:
