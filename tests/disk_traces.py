@@ -9,6 +9,7 @@ import csv
 import errno
 import lzma
 import os
+import re
 import shlex
 import shutil
 import struct
@@ -16,12 +17,12 @@ import subprocess
 import tempfile
 from collections import namedtuple
 
-from ext4_mounted import NEEDS as MOUNT_NEEDS, recorded
+from ext4_mounted import NEEDS as MOUNT_NEEDS, made, mounted
 from futures_by_copies import counted
 from lessons import PATH, can_mount, unmount_below
 from played_nbdkit import Played, Refused
 from served import Wrong
-from tools import BAD_INPUT, SECONDS, TOOLS, differences, started, written
+from tools import BAD_INPUT, NOT_WANTED, SECONDS, TOOLS, differences, started, written
 
 TOP = os.path.dirname(os.path.dirname(os.path.abspath(__file__)))
 FUTURES = os.path.join(TOP, "examples", "futures")
@@ -53,15 +54,19 @@ Case = namedtuple("Case", "name record words clients payload told")
 CASES = [
     Case("two writes and a flush", write(3, block("a") + block("b")) + write(9, block("c")) + FLUSH, [],
          "write 3 2 @0\nwrite 9 1 @2\n# sync 1, of a flush\nsync\n", block("a") + block("b") + block("c"), "3 sectors written, 1 syncs\n"),
-    Case("what is not flushed", FLUSH + write(0, block("a")), [], "# sync 1, of a flush\nsync\nwrite 0 1 @0\n", block("a"), "1 sectors written, 1 syncs\n"),
+    Case("what is not flushed", FLUSH + write(0, block("a")), [], "# sync 1, of a flush\nsync\nwrite 0 1 @0\n", block("a"),
+         "1 sectors written, 1 syncs\n"),
     Case("with FUA", write(1, block("a"), 1) + sent("Z", 0, SECTOR, 1) + sent("T", SECTOR, SECTOR, 1), [],
          "write 1 1 @0\n# sync 1, of a write with FUA\nsync\nwrite 0 1 0\n# sync 2, of a zeroing with FUA\nsync\n"
          "discard 1 1\n# sync 3, of a trim with FUA\nsync\n", block("a"), "2 sectors written, 1 discarded, 3 syncs\n"),
-    Case("more than 64 sectors", write(0, block("a", 64) + block("b")) + sent("Z", 70 * SECTOR, 65 * SECTOR) + sent("T", 70 * SECTOR, 130 * SECTOR), [],
+    Case("more than 64 sectors",
+         write(0, block("a", 64) + block("b")) + sent("Z", 70 * SECTOR, 65 * SECTOR) + sent("T", 70 * SECTOR, 130 * SECTOR), [],
          "write 0 64 @0\nwrite 64 1 @64\nwrite 70 64 0\nwrite 134 1 0\ndiscard 70 64\ndiscard 134 64\ndiscard 198 2\n", block("a", 64) + block("b"),
          "130 sectors written, 130 discarded, 0 syncs\n"),
-    Case("by three sectors", write(5, block("a", 3) + block("b", 3) + block("c")) + sent("Z", 0, 4 * SECTOR) + sent("T", 0, 4 * SECTOR), ["--split", "3"],
-         "write 5 3 @0\nwrite 8 3 @3\nwrite 11 1 @6\nwrite 0 3 0\nwrite 3 1 0\ndiscard 0 3\ndiscard 3 1\n", block("a", 3) + block("b", 3) + block("c"),
+    Case("by three sectors",
+         write(5, block("a", 3) + block("b", 3) + block("c")) + sent("Z", 0, 4 * SECTOR) + sent("T", 0, 4 * SECTOR), ["--split", "3"],
+         "write 5 3 @0\nwrite 8 3 @3\nwrite 11 1 @6\nwrite 0 3 0\nwrite 3 1 0\ndiscard 0 3\ndiscard 3 1\n",
+         block("a", 3) + block("b", 3) + block("c"),
          "11 sectors written, 4 discarded, 0 syncs\n"),
     Case("flushes that are forgotten", write(0, block("a")) + FLUSH + write(1, block("b"), 1) + FLUSH, ["--forget", "1,2"],
          "write 0 1 @0\n# sync 1, of a flush, is forgotten\nwrite 1 1 @1\n# sync 2, of a write with FUA, is forgotten\n# sync 3, of a flush\nsync\n",
@@ -77,8 +82,8 @@ CASES = [
 BAD = [
     (b"", "no record of a disk: it does not begin with bfqdisk1"),
     (b"bfqdisk2" + FLUSH, "no record of a disk: it does not begin with bfqdisk1"),
-    (MAGIC, "the disk was written nothing"),
-    (MAGIC + FLUSH, "the disk was written nothing"),
+    (MAGIC, "no write, trim or zeroing is on record"),
+    (MAGIC + FLUSH, "no write, trim or zeroing is on record"),
     *((MAGIC + write(0, block("a")) + more, f"bad record 2: {why}") for more, why in [
         (FLUSH[:15], "the file ends behind 15 of its first 16 bytes"),
         (write(0, block("a", 2))[:-1], "the file ends behind 1023 of the 1024 bytes that are written"),
@@ -116,7 +121,23 @@ BAD_WORDS = [
 # many of them break a promise.
 Known = namedtuple("Known", "forgotten split contents fail")
 KNOWN = [Known(None, 64, 59, 0), Known(3, 64, 74, 1)]
-KNOWN_LONG = [Known(4, 64, 62, 0), Known(5, 64, 62, 1), Known(None, 4, 352, 0), Known(3, 4, 562, 12)]
+KNOWN_LONG = [Known(4, 64, 62, 0), Known(5, 64, 62, 1), Known(None, 4, 352, 0), Known(3, 4, 562, 55)]
+
+
+# What a crash has left in an ext4: the texts of files by their names, what debugfs is asked besides, and what the check says of it.
+Left = namedtuple("Left", "files more said")
+LEFT = [
+    Left({}, [], "sound"), Left({"a": 3000 * "A"}, [], "sound"), Left({"a": 7 * "A"}, [], "sound"), Left({"a": ""}, [], "sound"),
+    Left({"a": 3000 * "A", "b.tmp": 2999 * "B"}, [], "sound"), Left({"a": 3000 * "A", "b": 3000 * "B"}, [], "sound"),
+    Left({"a": 3000 * "B"}, [], "a has bytes that nobody wrote"), Left({"a": 3001 * "A"}, [], "a has bytes that nobody wrote"),
+    Left({"a": 3000 * "A", "b.tmp": "\0"}, [], "b.tmp has bytes that nobody wrote"),
+    Left({"b": 3000 * "B"}, [], "a was synced before b.tmp came, and is not whole"),
+    Left({"a": 2999 * "A", "b.tmp": ""}, [], "a was synced before b.tmp came, and is not whole"),
+    Left({"a": 3000 * "A", "b": 2999 * "B"}, [], "b has its name, and is not whole, or has its old name too"),
+    Left({"a": 3000 * "A", "b": 3000 * "B", "b.tmp": 3000 * "B"}, [], "b has its name, and is not whole, or has its old name too"),
+    # A block that nobody has is marked; and block 1, the superblock, is zeros.
+    Left({}, ["setb 2000"], "Block bitmap differences"), Left({}, ["zap_block -p 0 1"], "no replay of its journal"),
+]
 
 
 def tool(folder, *words):
@@ -240,12 +261,30 @@ def searched(folder, into):
     return found
 
 
-def futures_of(program, folder, *words):
+def futures_of(program, folder):
     """A search of what is told in a folder, and the check of each content: what it prints, its status, and its folder."""
     into = tempfile.mkdtemp(dir=folder)
-    told = [os.path.join(folder, "told", name) for name in ("clients", "payload", "disk.img")]
-    ran = tool(folder, "futures", "--program", program, told[0], "--payload", told[1], "--image", told[2], "--into", into, *words, "--check", CHECK, "--", *NONE)
-    return ran, into
+    clients, payload, image = (os.path.join(folder, "told", name) for name in ("clients", "payload", "disk.img"))
+    words = [clients, "--payload", payload, "--image", image, "--into", into, "--check", CHECK, "--", *NONE]
+    return tool(folder, "futures", "--program", program, *words), into
+
+
+def check_faults():
+    """The check finds what is wrong with an ext4, and nothing else."""
+    for it in LEFT:
+        with tempfile.TemporaryDirectory() as folder:
+            image = written(folder, "image", lzma.decompress(content_of(FUTURES, "ext4", "disk.img.xz")))
+            for at, (name, text) in enumerate(it.files.items()):
+                debugfs(image, f"write {written(folder, f'file{at}', text)} {name}")
+            for command in it.more:
+                debugfs(image, command)
+            ran = subprocess.run([CHECK, image], capture_output=True, text=True, timeout=SECONDS, check=False)
+        yield from differences(f"the status of {it.said}", ran.returncode, 0 if it.said == "sound" else 1)
+        yield from [] if it.said in ran.stdout else [f"{it.said} is not said, but {ran.stdout}"]
+
+
+def debugfs(image, command):
+    subprocess.run(["debugfs", "-w", "-R", command, image], capture_output=True, env={**os.environ, "PATH": PATH}, timeout=SECONDS, check=True)
 
 
 def failing_faults(program, folder, into):
@@ -271,10 +310,12 @@ def known_faults(program, it):
         for name, packed in (("image", "disk.img.xz"), ("log", "disk.log.xz")):
             written(folder, name, lzma.decompress(content_of(FUTURES, "ext4", packed)))
         forget = ["--forget", str(it.forgotten)] if it.forgotten else []
-        yield from differences("the trace", tool(folder, "trace", *GOOD, *forget, "--split", str(it.split)), ("86 sectors written, 21 syncs\n", "", 0))
+        made_of_it = tool(folder, "trace", *GOOD, *forget, "--split", str(it.split))
+        yield from differences("the trace", made_of_it, ("86 sectors written, 21 syncs\n", "", 0))
         (stdout, stderr, status), into = futures_of(program, folder)
-        line = f"\n{it.contents} contents checked: {it.fail} fail"
-        yield from [] if line in stdout and status == bool(it.fail) else [f"{stdout!r} and {stderr!r}, with status {status}, and not {line!r}"]
+        # Of many failures it is told behind a semicolon that they are not shown.
+        found = stdout.rpartition("\n")[0].rpartition("\n")[2].partition(";")[0], stderr, status
+        yield from differences("the search", found, (f"{it.contents} contents checked: {it.fail} fail", "", int(bool(it.fail))))
         copies, found = copies_of(os.path.join(folder, "told")), searched(os.path.join(folder, "told"), into)
         yield from differences("how many contents a count by copies has", len(copies), it.contents)
         yield from differences("whether they are the same, in as few steps", copies == found, True)
@@ -282,21 +323,52 @@ def known_faults(program, it):
             yield from failing_faults(program, folder, into)
 
 
-def kernel_faults(program):
-    """What the kernel's ext4 sends now keeps its promises, but not if the flush before a commit record is forgotten."""
+def mounted_faults(program, folder):
+    """What the kernel's ext4 sends keeps its promises, but not if the flush before a commit record is forgotten."""
+    mounted(folder, RECORDER)
+    yield from differences("the trace", tool(folder, "trace", *GOOD)[1:], ("", 0))
+    yield from end_faults(program, folder)
+    (stdout, stderr, status), _ = futures_of(program, folder)
+    yield from differences("the search", (stdout.endswith(" contents checked: 0 fail\n"), stderr, status), (True, "", 0))
+    forgotten = before_commit(os.path.join(folder, "told"))
+    shutil.rmtree(os.path.join(folder, "told"))
+    yield from differences("the trace", tool(folder, "trace", *GOOD, "--forget", str(forgotten))[1:], ("", 0))
+    (stdout, stderr, status), into = futures_of(program, folder)
+    yield from differences(f"the status without sync {forgotten}, and what is said", (status, stderr), (NOT_WANTED, ""))
+    if status == NOT_WANTED:
+        yield from failing_faults(program, folder, into)
+
+
+def made_faults(program, folder):
+    """A new ext4 is made by writes, trims and zeroings, and the client has them all."""
+    made(folder, RECORDER)
+    yield from differences("the trace", tool(folder, "trace", *GOOD)[1:], ("", 0))
+    rows = content_of(folder, "told", "clients").decode().splitlines()
+    for what, form in (("trim", r"discard \d+ \d+"), ("zeroing", r"write \d+ \d+ 0"), ("write", r"write \d+ \d+ @\d+"), ("flush", "sync")):
+        yield from [] if any(re.fullmatch(form, row) for row in rows) else [f"there is no {what}"]
+    yield from end_faults(program, folder)
+
+
+def end_faults(program, folder):
+    """If each request of a client is done before the next one is made, the host has the disk that the recorder has at the end."""
+    rows, serial = ["attach 0 0 4"], 1
+    for row in content_of(folder, "told", "clients").decode().splitlines():
+        word, _, words = row.partition(" ")
+        if word in ("write", "discard"):
+            # The request is the second step from here on, and is alone in the device.
+            rows += [f"{word} 0 1 {words}", "dispatch", f"work 0 {serial + 2}", "reap 0 1"]
+            serial += 4
+    written(folder, "script", "".join(f"{row}\n" for row in rows))
+    ran = tool(folder, "export", "--program", program, "told/disk.img", "end.img", "--script", "script", "--", *NONE, "--payload", "told/payload")
+    yield from differences("tools/export", (ran[0].partition(", ")[2], *ran[1:]), (f"{serial} of {serial} steps stand\n", "", 0))
+    yield from differences("whether its image is the disk", content_of(folder, "end.img") == content_of(folder, "disk.img"), True)
+
+
+def in_a_folder(act, program):
+    """The faults of a run with a disk that is mounted in a folder, which is gone at the end."""
     folder = tempfile.mkdtemp(prefix="bfq-")
     try:
-        recorded(folder, RECORDER)
-        yield from differences("the trace", tool(folder, "trace", *GOOD)[1:], ("", 0))
-        (stdout, stderr, status), _ = futures_of(program, folder)
-        yield from [] if (status, stderr) == (0, "") and stdout.endswith(" contents checked: 0 fail\n") else [f"{stdout!r} and {stderr!r}"]
-        forgotten = before_commit(os.path.join(folder, "told"))
-        shutil.rmtree(os.path.join(folder, "told"))
-        yield from differences("the trace", tool(folder, "trace", *GOOD, "--forget", str(forgotten))[1:], ("", 0))
-        (stdout, stderr, status), into = futures_of(program, folder)
-        yield from [] if (status, stderr) == (1, "") else [f"without sync {forgotten}: {stdout!r} and {stderr!r}, with status {status}"]
-        if status == 1:
-            yield from failing_faults(program, folder, into)
+        yield from act(program, folder)
     finally:
         unmount_below(folder)
         shutil.rmtree(folder, ignore_errors=True)
@@ -331,13 +403,15 @@ def disk_trace_runs(program, has_all):
     if lacks := lacking(CHECK_NEEDS, False):
         print(f"skipped: trace nbd: the record of an ext4: no {' and no '.join(lacks)} here")
         return
+    yield "trace nbd: the check of an ext4", faults_of(check_faults())
     for it in [*KNOWN, *(KNOWN_LONG if has_all else [])]:
         name = f"an ext4 by {it.split}{f' without sync {it.forgotten}' if it.forgotten else ''}"
         yield f"trace nbd: {name}", faults_of(known_faults(program, it))
     if lacks := lacking(MOUNT_NEEDS, True):
-        print(f"skipped: trace nbd: an ext4 that is mounted: no {' and no '.join(lacks)} here")
-    else:
-        yield "trace nbd: an ext4 that is mounted", faults_of(kernel_faults(program))
+        print(f"skipped: trace nbd: an ext4 that the kernel makes and mounts: no {' and no '.join(lacks)} here")
+        return
+    yield "trace nbd: an ext4 that is mounted", faults_of(in_a_folder(mounted_faults, program))
+    yield "trace nbd: an ext4 that is made", faults_of(in_a_folder(made_faults, program))
 
 
 def faults_of(found):

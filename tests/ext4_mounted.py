@@ -73,26 +73,18 @@ class Served:
         unmount_below(os.path.dirname(self.place))
 
 
-def recorded(folder, plugin):
-    """Writes to a new ext4 in a folder. Leaves there the disk before it was mounted, as `image`, and the record of all that it was sent, as
-    `log`."""
-    disk, tree = os.path.join(folder, "disk.img"), os.path.join(folder, "tree")
-    os.mkdir(tree)
-    with open(disk, "wb") as file:
-        file.truncate(SIZE)
-    subprocess.run(["mkfs.ext4", *OPTIONS, disk], env=ENVIRONMENT, timeout=SECONDS, check=True)
-    shutil.copyfile(disk, os.path.join(folder, "image"))
+@contextlib.contextmanager
+def looped(folder, plugin):
+    """The disk `disk.img` of a folder as a loop device, with what serves it; all that it is sent is recorded as `log`. It is kept as it was
+    before as `image`."""
+    shutil.copyfile(os.path.join(folder, "disk.img"), os.path.join(folder, "image"))
     served, device = Served(folder, plugin), None
     try:
         device = served.run("losetup", "--show", "--find", "--direct-io=on", served.place)
         # 1 if nothing stands between the loop device and its file.
         if (told := served.run("losetup", "--noheadings", "--output", "DIO", device)) != "1":
             raise Wrong(f"the loop device has a cache: {told}")
-        served.run("mount", device, tree)
-        try:
-            served.run(sys.executable, "-c", WRITER, tree)
-        finally:
-            served.run("umount", tree)
+        yield served, device
     finally:
         if device is not None:
             subprocess.run(["losetup", "--detach", device], env=ENVIRONMENT, timeout=SECONDS, check=False)
@@ -100,3 +92,26 @@ def recorded(folder, plugin):
     left = subprocess.run(["losetup", "--associated", served.place], capture_output=True, env=ENVIRONMENT, timeout=SECONDS, check=False)
     if left.stdout:
         raise Wrong(f"a loop device is left: {left.stdout.decode()}")
+
+
+def mounted(folder, plugin):
+    """Writes to a new ext4 in a folder, which is then unmounted."""
+    disk, tree = os.path.join(folder, "disk.img"), os.path.join(folder, "tree")
+    os.mkdir(tree)
+    with open(disk, "wb") as file:
+        file.truncate(SIZE)
+    subprocess.run(["mkfs.ext4", *OPTIONS, disk], env=ENVIRONMENT, timeout=SECONDS, check=True)
+    with looped(folder, plugin) as (served, device):
+        served.run("mount", device, tree)
+        try:
+            served.run(sys.executable, "-c", WRITER, tree)
+        finally:
+            served.run("umount", tree)
+
+
+def made(folder, plugin):
+    """Makes an ext4 on a disk that is full of other bytes, which it trims and zeroes."""
+    with open(os.path.join(folder, "disk.img"), "wb") as file:
+        file.write(b"\xee" * SIZE)
+    with looped(folder, plugin) as (served, device):
+        served.run("mkfs.ext4", *OPTIONS, device)

@@ -22,7 +22,8 @@ MAJOR, MINOR = 7, 31
 ROOT = 1
 # What the kernel asks. To the first three there is no answer.
 FORGET, INTERRUPT, BATCH_FORGET = 2, 36, 42
-GETATTR, SETATTR, OPEN, READ, WRITE, STATFS, RELEASE, FSYNC, FLUSH, INIT, ACCESS, DESTROY, FALLOCATE = 3, 4, 14, 15, 16, 17, 18, 20, 25, 26, 34, 38, 43
+GETATTR, SETATTR, OPEN, READ, WRITE, STATFS, RELEASE, FSYNC, FLUSH = 3, 4, 14, 15, 16, 17, 18, 20, 25
+INIT, ACCESS, DESTROY, FALLOCATE = 26, 34, 38, 43
 HEAD, ANSWER = struct.Struct("<IIQQIIIHH"), struct.Struct("<IiQ")
 RANGE = struct.Struct("<QQI")
 # Where the bytes of a write begin, behind its head.

@@ -30,7 +30,8 @@ def content_of(image, name):
 
 def why_bad(image):
     """What is wrong with a file system, or nothing."""
-    status, said = ran("e2fsck", "-fy", "-E", "journal_only", image)
+    # With -f it would go on and repair what is to be found.
+    status, said = ran("e2fsck", "-y", "-E", "journal_only", image)
     if status >= UNCORRECTED:
         return f"no replay of its journal: {said.decode(errors='replace')}"
     status, said = ran("e2fsck", "-fn", image)
