@@ -150,7 +150,8 @@ def served_lessons(*programs):
         yield f"documents: the command lines of {path}", [*not_run(path)]
     for head, commands, differs in found:
         text = " ".join(command for command, _ in commands)
-        wanted = [it for it in NOT_EVERYWHERE if it in text or any(it in names for example, names in OF_EXAMPLES.items() if example in text)]
+        of_examples = {name for example, names in OF_EXAMPLES.items() if example in text for name in names}
+        wanted = [it for it in NOT_EVERYWHERE if it in text or it in of_examples]
         lacking = [it for it in wanted if not shutil.which(it, path=PATH)]
         if MOUNTS in text and not can_mount():
             lacking.append("root with FUSE and loop devices")
