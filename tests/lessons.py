@@ -25,7 +25,9 @@ SHOWN = "FOLDER"
 PAGES = ("README.md", "docs/GUIDE.md", "docs/NBD.md", "docs/OWN_RULE.md", "docs/FUTURES.md")
 DIFFERS = "The numbers differ from run to run."
 # What not every machine has; some of it stands where only root looks. A mount needs root besides, and FUSE with loop devices.
-NOT_EVERYWHERE = ("mkfs.ext4", "e2fsck", "debugfs", "nbdcopy", "nbdfuse", "nbdkit", "qemu-io", "fio", "sqlite3", "parallel")
+NOT_EVERYWHERE = ("mkfs.ext4", "e2fsck", "debugfs", "nbdcopy", "nbdfuse", "nbdkit", "qemu-io", "fio", "sqlite3", "parallel", "xz")
+# What a script of examples/ runs that not every machine has.
+OF_EXAMPLES = {"futures/ext4": ("e2fsck", "debugfs")}
 MOUNTS = "mount -o loop"
 # A row that calls a program of this repository; and what tests/documents.py runs of such rows.
 CALL = re.compile(r"(?:^|[\s|;])(?:\./bfq(?:host|ctl)|(?:clients|tests|tools)/\w[\w.]*)\s")
@@ -148,7 +150,9 @@ def served_lessons(*programs):
         yield f"documents: the command lines of {path}", [*not_run(path)]
     for head, commands, differs in found:
         text = " ".join(command for command, _ in commands)
-        lacking = [it for it in NOT_EVERYWHERE if it in text and not shutil.which(it, path=PATH)]
+        of_examples = {name for example, names in OF_EXAMPLES.items() if example in text for name in names}
+        wanted = [it for it in NOT_EVERYWHERE if it in text or it in of_examples]
+        lacking = [it for it in wanted if not shutil.which(it, path=PATH)]
         if MOUNTS in text and not can_mount():
             lacking.append("root with FUSE and loop devices")
         if lacking:

@@ -12,6 +12,8 @@ OPTION = "--payload"
 SECTOR = 512
 # A write of more sectors brings no bytes.
 MOST_SECTORS = 64
+# A longer payload the program does not read.
+MOST_BYTES = 64 << 20
 
 
 def path_of(options: Sequence[str]) -> Optional[str]:
