@@ -15,7 +15,7 @@ use sector_core::Class;
 use std::alloc::{AllocError, Global};
 
 // One of each kind: what is stored, a queue, a group, an entity, a whole step, and lists.
-const QUERIES: [Line; 12] = [
+const QUERIES: [Line; 13] = [
     Line::Cursor,
     Line::Sector { number: 5 },
     Line::Queue { seat: 0 },
@@ -35,6 +35,7 @@ const QUERIES: [Line; 12] = [
         look: Look::Tree { group: 0 },
     },
     Line::Show { look: Look::Host },
+    Line::Show { look: Look::State },
     Line::Show {
         look: Look::Stored { from: 0 },
     },
@@ -48,7 +49,7 @@ const CALLS: &[u8] =
     b"attach 0 0 4\nwrite 0 1 5 1 65\nread 0 1 9 2\ndispatch\nfinish 0 4 stored\ndispatch\n";
 
 const LOOKS: &[u8] =
-    b"line\nsector 5\nqueue 0\nentity 0\nshow seat 0\nshow outbox 0\nshow flight\nshow tree 0\nshow step 2\n";
+    b"line\nsector 5\nqueue 0\nentity 0\nshow seat 0\nshow outbox 0\nshow flight\nshow tree 0\nshow state\nshow step 2\n";
 
 // A text that was told.
 fn told(alloc: Global, served: &Served, line: Line) -> Option<Vec<u8>> {
