@@ -20,6 +20,9 @@ import grammar  # noqa: E402
 from host import Host, Stop  # noqa: E402
 
 SECTOR, SEATS, GROUPS = 512, 16, 32
+# The looks that are asked each time.
+ALWAYS = ["show host", "show requeued", "show flight", "show service", *(f"show seat {seat}" for seat in range(SEATS)),
+          *(f"show tree {group}" for group in range(GROUPS))]
 # How many random scripts there are, and with `./test --all`.
 FEW, MANY = 16, 200
 # What a random script that is played has to show somewhere, or it tries nothing of it.
@@ -87,25 +90,38 @@ class Followed:
 
     # The line, by the single looks.
 
+    def shown(self):
+        """The single looks of this moment, each with its answer; those at what is not there are left out."""
+        told = dict(zip(ALWAYS, self.host.ask_each(ALWAYS)))
+        more = [f"show {what} {seat}" for seat in range(SEATS) if not told[f"show seat {seat}"].endswith(" none") for what in ("queue", "outbox")]
+        for group in range(GROUPS):
+            _, _, parent, *rest = told[f"show tree {group}"].split(" ")
+            if parent != "none":
+                more += [f"vtime {group} {name}" for name in grammar.CLASSES]
+                more += [f"entity {item.partition(':')[0]}" for item in rest[1:]]
+        return {**told, **dict(zip(more, self.host.ask_each(more)))}
+
     def worked_out(self):
         """What `show state` has to print."""
-        host = self.host.ask("show host").split(" ")
-        seats = [(seat, answer.split(" ")) for seat, answer in enumerate(self.host.ask_each(f"show seat {seat}" for seat in range(SEATS)))]
-        text = ["state", host[1], host[2], host[4]]
-        for seat, (_, _, session, *words) in seats:
-            if session != "none":
-                text += ["seat", str(seat), *words, "queue", *self.items(f"show queue {seat}", 2, self.request),
-                         "outbox", *self.items(f"show outbox {seat}", 2, self.done)]
-        text += ["requeued", *self.items("show requeued", 1, self.owned), "flight", *sorted(self.items("show flight", 1, self.borne))]
-        # Of the queue in service a look tells the budget besides, which stands at its entity here.
-        text += self.host.ask("show service").split(" ")[:4]
-        for group in range(GROUPS):
-            text += self.tree(group)
-        return " ".join(text)
+        told = self.shown()
 
-    def items(self, look, place, told):
-        """The items of a look, each told without names."""
-        return [told(item.split(":")) for item in self.host.ask(look).split(" ")[place:]]
+        def items(look, place, form):
+            """The items of a look, each told without names."""
+            return [form(item.split(":")) for item in told[look].split(" ")[place:]]
+
+        host = told["show host"].split(" ")
+        text = ["state", host[1], host[2], host[4]]
+        for seat in range(SEATS):
+            _, _, session, *words = told[f"show seat {seat}"].split(" ")
+            if session != "none":
+                text += ["seat", str(seat), *words, "queue", *items(f"show queue {seat}", 2, self.request),
+                         "outbox", *items(f"show outbox {seat}", 2, self.done)]
+        text += ["requeued", *items("show requeued", 1, self.owned), "flight", *sorted(items("show flight", 1, self.borne))]
+        # Of the queue in service a look tells the budget besides, which stands at its entity here.
+        text += told["show service"].split(" ")[:4]
+        for group in range(GROUPS):
+            text += tree(group, told)
+        return " ".join(text)
 
     def bio(self, serial):
         """A bio by its range, and the sum of its bytes if it has some."""
@@ -128,18 +144,18 @@ class Followed:
         serial, result = parts
         return f"{self.bio(serial)}:{result}" + (sum_of(self.past[self.cursor][serial]) if result == "read" else "")
 
-    def tree(self, group):
-        """A group with its times and its members; nothing if there is no such group."""
-        _, number, parent, *rest = self.host.ask(f"show tree {group}").split(" ")
-        if parent == "none":
-            return []
-        times = [answer.split(" ")[3] for answer in self.host.ask_each(f"vtime {group} {name}" for name in grammar.CLASSES)]
-        return ["tree", number, parent, *times, *map(self.member, rest[1:])]
 
-    def member(self, item):
+def tree(group, told):
+    """A group with its times and its members, by the looks of a moment; nothing if there is no such group."""
+    _, number, parent, *rest = told[f"show tree {group}"].split(" ")
+    if parent == "none":
+        return []
+    words = ["tree", number, parent, *(told[f"vtime {group} {name}"].split(" ")[3] for name in grammar.CLASSES)]
+    for item in rest[1:]:
         entity, state, start, finish, weight, pending, *class_name = item.split(":")
-        budget = self.host.ask(f"entity {entity}").split(" ")[6]
-        return ":".join([entity, state, start, finish, weight, pending, budget, *class_name])
+        budget = told[f"entity {entity}"].split(" ")[6]
+        words.append(":".join([entity, state, start, finish, weight, pending, budget, *class_name]))
+    return words
 
 
 def block_of(answer):

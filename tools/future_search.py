@@ -14,6 +14,7 @@ import time
 
 import grammar
 from future_clients import REAP, act_of
+from future_states import request_of
 from host import Ended
 from reasons import limits_of
 
@@ -216,10 +217,9 @@ class Search:
             return False
         if sum(map(len, view.queues)) + len(view.flight) + len(view.returned) < self.room:
             return True
-        for of, extent, bios in view.queues[place]:
-            start, count = map(int, extent.split("+"))
+        for operation, start, count, bios in map(request_of, view.queues[place]):
             is_beside = start + count == item.start or item.start + item.count == start
-            if of == OPERATIONS[item.word] and is_beside and count + item.count <= MOST_OF_REQUEST and len(bios) < MOST_BIOS:
+            if operation == OPERATIONS[item.word] and is_beside and count + item.count <= MOST_OF_REQUEST and bios < MOST_BIOS:
                 return True
         return False
 
@@ -238,6 +238,7 @@ class Search:
         """The state where the opening ends."""
         self.live.lines += self.reader.lines
         node = Node(None, None, 0, self.reader.view(self.live.answers(), (0,) * len(self.clients), self.contents.first, (0, 0)))
+        self.reader.take_apart(node.view)
         if self.observer:
             self.observe(node.view, self.observer.first)
         self.note(node)
@@ -272,9 +273,11 @@ class Search:
             self.edges += 1
             view = self.view(node.view, move, answers[at + 1:at + 1 + count])
             if self.observer:
+                self.reader.take_apart(view)
                 self.observe(view, self.observer.step(Edge(node, move, answers[at], view)))
             if view.key not in self.keys:
                 self.bounds.look(self.states)
+                self.reader.take_apart(view)
                 found.append(Node(node, move, node.depth + 1, view))
                 self.note(found[-1])
         for node in nodes:
