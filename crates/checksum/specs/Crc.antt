@@ -1,5 +1,6 @@
 -- The sum CRC-32 of bytes, as zip, PNG and Ethernet have it (RFC 1952, section 8).
 use Rattle.std.specs.Prelude.{ℕ, ◌+◌, ◌-◌, ◌/◌, ◌%◌, ◌^◌, ◌==◌, Bool, true, false, List, [], ◌∷◌, bit_xor, if◌then◌else◌}
+use Rattle.std.specs.Fmt.{digit_glyph}
 
 -- the polynomial, its bits from the lowest up (RFC 1952)
 abbrev pub polynomial : ℕ
@@ -34,3 +35,13 @@ with_bytes sum (byte ∷ bytes) = with_bytes (with_byte sum byte) bytes
 -- the sum of bytes: it begins with all bits, and all are turned at the end (RFC 1952)
 abbrev pub crc32 : List ℕ → ℕ
 crc32 bytes = bit_xor (with_bytes ones bytes) ones
+
+-- the digit of the lowest four bits, in lower case
+abbrev pub digit : ℕ → ℕ
+digit n = digit_glyph false (n % 16)
+
+-- a sum as eight hexadecimal digits, the highest first
+abbrev pub sum_digits : ℕ → List ℕ
+sum_digits sum =
+    digit (sum / 2 ^ 28) ∷ digit (sum / 2 ^ 24) ∷ digit (sum / 2 ^ 20) ∷ digit (sum / 2 ^ 16)
+    ∷ digit (sum / 2 ^ 12) ∷ digit (sum / 2 ^ 8) ∷ digit (sum / 2 ^ 4) ∷ digit sum ∷ []

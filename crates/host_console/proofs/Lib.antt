@@ -1,3 +1,5 @@
 pub mod Payloads
+pub mod Placing
+pub mod Renaming
 pub mod Queues
 pub mod Sectors

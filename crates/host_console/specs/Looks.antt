@@ -16,6 +16,7 @@ use Rattle.plain.specs.declared.call.Stamped.{Stamped}
 use Rattle.plain.specs.Keeper.{State, machine_of}
 use Rattle.script_line.specs.declared.look.Look.{Look}
 use Rattle.script_line.specs.declared.look.Look.TheVariants as look
+use Rattle.host_console.specs.State.{state_look, run_text}
 use Rattle.host_console.specs.Views.{seat_look, outbox_look, queue_look, requeued_look, flight_look, service_look, tree_look, scheduler_text, stored_look}
 
 -- the byte that all of these are, or that they are not alike
@@ -78,9 +79,6 @@ step_look number (Some s) = codes "step " ++ (decimal number ++ 32 ∷ (decimal 
 abbrev pub step_at : State → ℕ → Option Stamped
 step_at k number = if nat_lt 0 number then slice_get k.line (number - 1) else None
 
-abbrev pub run_text : Bool → List ℕ
-run_text frozen = if frozen then codes "frozen" else codes "running"
-
 abbrev pub hold_text : Bool → List ℕ
 hold_text held = if held then codes "held" else codes "free"
 
@@ -102,5 +100,6 @@ Looked k look.Flight text = text ≡ flight_look (machine_of k) k.limits.tags
 Looked k look.Service text = text ≡ service_look (machine_of k)
 Looked k (look.Tree group) text = text ≡ tree_look (machine_of k) group
 Looked k look.Host text = text ≡ host_look k
+Looked k look.State text = text ≡ state_look k.limits.tags (machine_of k)
 Looked k (look.Stored from) text = (run : Option Range) × IsNextRun (machine_of k).overlay from 65536 run × (text ≡ stored_look run)
 Looked k (look.Step number) text = text ≡ step_look number (step_at k number)

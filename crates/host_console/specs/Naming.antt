@@ -1,5 +1,5 @@
 -- Machines that differ in names alone (our profile): sessions, serials, issues and tags.
-use Rattle.std.specs.Prelude.{◌≡◌, ℕ, List, [], ◌∷◌, Option, map}
+use Rattle.std.specs.Prelude.{◌≡◌, ℕ, List, [], ◌∷◌, map}
 use Rattle.std.specs.Option.{option_map}
 use Rattle.sector_core.specs.declared.bio.Bio.{Bio}
 use Rattle.plain.specs.declared.seat.Seat.{Seat}

@@ -1,16 +1,15 @@
 -- What `show state` prints: a machine in one line, without names (our profile). No session, serial, issue or tag stands there: a session is
 -- told by its seat, and bytes by their sum. What is stored is not told.
-use Rattle.std.specs.Prelude.{ℕ, ◌+◌, ◌/◌, ◌%◌, ◌^◌, Bool, List, [], ◌∷◌, ◌++◌, codes, Option, None, Some, if◌then◌else◌, map}
+use Rattle.std.specs.Prelude.{ℕ, ◌+◌, Bool, List, [], ◌∷◌, ◌++◌, codes, Option, None, Some, if◌then◌else◌, map}
 use Rattle.std.specs.List.{flat_map}
 use Rattle.std.specs.Ordering.{nat_cmp, is_lt}
-use Rattle.std.specs.Cmp.{slice_cmp}
+use Rattle.std.specs.Cmp.Lexicographic.{slice_cmp}
 use Rattle.std.specs.Fmt.{decimal}
 use Rattle.sector_core.specs.declared.bio.Bio.{Bio}
 use Rattle.sector_core.specs.declared.bio.BioResult.{BioResult}
 use Rattle.sector_core.specs.declared.bio.BioResult.TheVariants.{Read}
 use Rattle.sector_core.specs.declared.class.Class.TheVariants.{RealTime, BestEffort, Idle}
-use Rattle.sector_text.specs.Hex.{hex_byte}
-use Rattle.checksum.specs.Crc.{crc32}
+use Rattle.checksum.specs.Crc.{crc32, sum_digits}
 use Rattle.plain.specs.Lists.{numbers, seats}
 use Rattle.plain.specs.declared.seat.Seat.{Seat}
 use Rattle.plain.specs.declared.seat.InService.{InService}
@@ -24,10 +23,6 @@ use Rattle.host_console.specs.Texts.{state_text}
 use Rattle.host_console.specs.Views.{presence_text, result_text, op_text, owner_text, other_class_text, parent_text, scheduler_text}
 
 -- Bios.
-
--- a sum of 32 bits as eight hexadecimal digits, the highest first
-abbrev pub sum_digits : ℕ → List ℕ
-sum_digits sum = hex_byte (sum / 2 ^ 24) ++ (hex_byte (sum / 2 ^ 16 % 256) ++ (hex_byte (sum / 2 ^ 8 % 256) ++ hex_byte (sum % 256)))
 
 -- the sum of bytes behind `=`, and nothing if there are none
 abbrev pub bytes_text : List ℕ → List ℕ
@@ -112,14 +107,15 @@ sitting_text seat s group head =
     codes " seat "
     ++ (decimal seat ++ 32 ∷ (decimal group ++ 32 ∷ (decimal s.prio ++ 32 ∷ (decimal s.unreaped ++ 32 ∷ (decimal head ++ 32 ∷ presence_text s.leaving)))))
 
--- a seat with its queue and its outbox, and nothing if it is free
+-- a seat with the texts of its queue and its outbox, and nothing if it is free
+abbrev pub seated_text : ℕ → Option Seat → ℕ → ℕ → List ℕ → List ℕ → List ℕ
+seated_text seat None group head queue outbox = []
+seated_text seat (Some s) group head queue outbox = sitting_text seat s group head ++ (codes " queue" ++ (queue ++ (codes " outbox" ++ outbox)))
+
+-- the same of a seat of the machine
 abbrev pub taken_text : Plain → ℕ → List ℕ
-taken_text m seat = elim (m.seat seat) [
-  | None ↦ []
-  | Some s ↦
-      sitting_text seat s (group_of m.bfq seat) (m.head seat)
-      ++ (codes " queue" ++ (flat_map waiting_text (m.queue seat) ++ (codes " outbox" ++ flat_map done_text (m.outbox seat))))
-]
+taken_text m seat =
+    seated_text seat (m.seat seat) (group_of m.bfq seat) (m.head seat) (flat_map waiting_text (m.queue seat)) (flat_map done_text (m.outbox seat))
 
 -- Entities.
 
@@ -161,7 +157,7 @@ run_text frozen = if frozen then codes "frozen" else codes "running"
 
 -- the scheduler, whether submits wait, and the seat that the round robin served last; then seats, the dispatch list, what is in flight,
 -- the queue in service, and the groups
-abbrev pub state_look : ℕ → Plain → List ℕ
+unfoldable pub state_look : ℕ → Plain → List ℕ
 state_look tags m =
     codes "state "
     ++ (scheduler_text m.scheduler ++ 32 ∷ (run_text m.frozen ++ 32 ∷ (decimal m.served ++ (flat_map (taken_text m) seats ++ (codes " requeued"

@@ -8,6 +8,7 @@
 //! | `run_keeper` | the lines of a script run at a keeper over an image, one after the other |
 //! | `others_read_no_payload`, `payload_stays` | a line that takes no bytes from the payload does not read it, and no line changes it |
 //! | `bad_by_length` | a line that does not run over a payload of that length may print nothing |
+//! | `one_state` | machines that differ in names alone print one line for `show state` |
 //! | `put_answer` | the text of an answer |
 //! | `tell` | what a query prints at a keeper, which is not changed |
 //! | `Shows`, `Keeps` | what a keeper must offer to be looked at, and to be run from a script |
@@ -45,7 +46,7 @@ mod work;
 
 pub use host_calls::put_answer;
 pub use keeps::{Keeps, Shows};
-pub use law::{bad_by_length, others_read_no_payload, payload_stays};
+pub use law::{bad_by_length, one_state, others_read_no_payload, payload_stays};
 pub use run::run_keeper;
 pub use teller::Teller;
 pub use telling::tell;

@@ -50,6 +50,7 @@ fn is_same_look(one: Look, other: Look) -> bool
         (Look::Service, Look::Service) => true,
         (Look::Tree { group }, Look::Tree { group: its }) => group == its,
         (Look::Host, Look::Host) => true,
+        (Look::State, Look::State) => true,
         (Look::Stored { from }, Look::Stored { from: its }) => from == its,
         (Look::Step { k }, Look::Step { k: its }) => k == its,
         _ => false,

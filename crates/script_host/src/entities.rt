@@ -16,8 +16,8 @@ use plain::{InService, State};
 use sector_core::{Class, Entity, Range};
 use std::io::{self, Write};
 
-// Entities are numbered from 0: 16 seats and 32 groups.
-const ENTITIES: u8 = 48;
+/// Entities are numbered from 0: 16 seats and 32 groups.
+pub const ENTITIES: u8 = 48;
 
 /// Appends the queue in service. It fails only for want of memory.
 pub fn put_service(view: &View<'_>, out: &mut Vec<u8>) -> io::Result<()>
@@ -44,8 +44,8 @@ pub fn put_tree(view: &View<'_>, group: u8, out: &mut Vec<u8>) -> io::Result<()>
     put_members(view, group, out)
 }
 
-// The group that a group is in.
-fn parent_of(view: &View<'_>, group: u8) -> Option<u8>
+/// The group that a group is in.
+pub fn parent_of(view: &View<'_>, group: u8) -> Option<u8>
     ensures { stands (plain_of view.now).bfq group ≡ true → result ≡ (plain_of view.now).bfq.parent (16 + group) }
 {
     // A group that stands has a number up to 31.
@@ -88,8 +88,8 @@ fn put_member(view: &View<'_>, group: u8, entity: Entity, out: &mut Vec<u8>) -> 
     }
 }
 
-// Whether the group is this one.
-fn is_in(group: u8, parent: Option<u8>) -> bool
+/// Whether the group is this one.
+pub fn is_in(group: u8, parent: Option<u8>) -> bool
     ensures { result ≡ is_in group parent }
 {
     match parent {
@@ -118,8 +118,8 @@ fn put_known(entity: Entity, known: EntityView, pending: u32, out: &mut Vec<u8>)
     )
 }
 
-// The class of a member after a colon, if it is not best effort.
-fn other_class(class: Class) -> &'static str
+/// The class of a member after a colon, if it is not best effort.
+pub fn other_class(class: Class) -> &'static str
     ensures { result.now ≡ other_class_text class }
 {
     match class {
@@ -129,8 +129,8 @@ fn other_class(class: Class) -> &'static str
     }
 }
 
-// The word for a state.
-fn state_word(state: State) -> &'static str
+/// The word for a state.
+pub fn state_word(state: State) -> &'static str
     ensures { result.now ≡ state_text state }
 {
     match state {

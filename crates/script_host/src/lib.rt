@@ -22,6 +22,7 @@
 //! show outbox 0       // outbox 0
 //! show flight         // flight
 //! show tree 0         // tree 0 - 0 0:active:0:107374182:40:40
+//! show state          // state bfq running 15 seat 0 0 4 1 0 here queue fetch:5+1 outbox requeued ..
 //! show host           // host bfq running free 15 2 2 2 2
 //! show step 2         // step 2 2 read 0 1 5 1
 //! ```
@@ -33,6 +34,7 @@ mod looks;
 mod requests;
 mod script;
 mod seats;
+mod state;
 mod steps;
 
 pub use host::{Host, Seen};

@@ -1,12 +1,14 @@
 // What a look prints.
 ghost use Rattle.std.specs.Prelude.{◌≡◌, ◌++◌, List, ℕ, OnOk};
 ghost use Rattle.std.specs.Option.{option_copied};
-ghost use Rattle.host_console.specs.Looks.{Looked, host_look, step_look, step_at, run_text, hold_text};
+ghost use Rattle.host_console.specs.Looks.{Looked, host_look, step_look, step_at, hold_text};
+ghost use Rattle.host_console.specs.State.{run_text};
 
 use crate::entities::{put_service, put_stored, put_tree};
 use crate::flights::put_flight;
 use crate::requests::{put_queue, put_requeued};
 use crate::seats::{put_outbox, put_seat};
+use crate::state::put_state;
 use crate::steps::{put_numbered, scheduler_word};
 use history::KeeperView;
 use plain::Stamped;
@@ -27,6 +29,7 @@ pub fn put_look(view: &KeeperView<'_>, look: Look, out: &mut Vec<u8>) -> io::Res
         Look::Service => put_service(&machine, out),
         Look::Tree { group } => put_tree(&machine, group, out),
         Look::Host => put_host(view, out),
+        Look::State => put_state(&machine, out),
         Look::Stored { from } => put_stored(&machine, from, out),
         Look::Step { k } => put_step(view, k, out),
     }
@@ -51,8 +54,8 @@ fn put_host(view: &KeeperView<'_>, out: &mut Vec<u8>) -> io::Result<()>
     )
 }
 
-// Whether submits wait.
-fn run_word(frozen: bool) -> &'static str
+/// Whether submits wait.
+pub fn run_word(frozen: bool) -> &'static str
     ensures { result.now ≡ run_text frozen }
 {
     if frozen { "frozen" } else { "running" }

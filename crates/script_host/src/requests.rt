@@ -10,11 +10,11 @@ use dispatch_core::{Listed, View};
 use sector_core::{Bio, Op};
 use std::io::{self, Write};
 
-// No request has more bios.
-const MOST_BIOS: usize = 32;
+/// No request has more bios.
+pub const MOST_BIOS: usize = 32;
 
-// No list has as many requests.
-const MOST_REQUESTS: usize = 65536;
+/// No list has as many requests.
+pub const MOST_REQUESTS: usize = 65536;
 
 /// Appends the requests of a seat's queue, in order of insertion. It fails only for want of memory.
 pub fn put_queue(view: &View<'_>, seat: u8, out: &mut Vec<u8>) -> io::Result<()>
@@ -91,8 +91,8 @@ pub fn put_owned(view: &View<'_>, request: &Listed<'_>, out: &mut Vec<u8>) -> io
     put_request(request, out)
 }
 
-// Appends the seat of a session, if it has one, and a colon.
-fn put_owner(owner: Option<u8>, out: &mut Vec<u8>) -> io::Result<()>
+/// Appends the seat of a session, if it has one, and a colon. It fails only for want of memory.
+pub fn put_owner(owner: Option<u8>, out: &mut Vec<u8>) -> io::Result<()>
     ensures { OnOk result (out.new.items ≡ out.old.items ++ (owner_text owner ++ 58 ∷ [])) }
 {
     match owner {
@@ -101,8 +101,8 @@ fn put_owner(owner: Option<u8>, out: &mut Vec<u8>) -> io::Result<()>
     }
 }
 
-// The seat of a session.
-fn seat_of(view: &View<'_>, session: u64) -> Option<u8>
+/// The seat of a session.
+pub fn seat_of(view: &View<'_>, session: u64) -> Option<u8>
     ensures { result ≡ seat_of (plain_of view.now) session }
 {
     for seat in 0..16u8 {
@@ -136,8 +136,8 @@ fn start_of(request: &Listed<'_>) -> u64
     }
 }
 
-// The word for what a request does.
-fn op_word(op: Op) -> &'static str
+/// The word for what a request does.
+pub fn op_word(op: Op) -> &'static str
     ensures { result.now ≡ op_text op }
 {
     match op {

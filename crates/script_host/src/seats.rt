@@ -10,8 +10,8 @@ use plain::Seat;
 use sector_core::{Bio, BioResult, FailKind};
 use std::io::{self, Write};
 
-// No outbox has more bios.
-const MOST_BIOS: usize = 32;
+/// No outbox has more bios.
+pub const MOST_BIOS: usize = 32;
 
 /// Appends who sits at a seat. It fails only for want of memory.
 pub fn put_seat(view: &View<'_>, seat: u8, out: &mut Vec<u8>) -> io::Result<()>
@@ -23,8 +23,8 @@ pub fn put_seat(view: &View<'_>, seat: u8, out: &mut Vec<u8>) -> io::Result<()>
     }
 }
 
-// The group of the session at a seat.
-fn group_of(view: &View<'_>, seat: u8) -> u8
+/// The group of the session at a seat.
+pub fn group_of(view: &View<'_>, seat: u8) -> u8
     ensures { result ≡ group_of (plain_of view.now).bfq seat }
 {
     view.parent(seat).unwrap_or(0)
@@ -47,8 +47,8 @@ fn put_sitting(seat: u8, entry: Seat, group: u8, head: u64, out: &mut Vec<u8>) -
     )
 }
 
-// Whether a session is there or leaves.
-fn presence(leaving: bool) -> &'static str
+/// Whether a session is there or leaves.
+pub fn presence(leaving: bool) -> &'static str
     ensures { result.now ≡ presence_text leaving }
 {
     if leaving { "leaving" } else { "here" }
@@ -89,8 +89,8 @@ fn put_bio(bio: &Bio, out: &mut Vec<u8>) -> io::Result<()>
     write!(out, " {serial}:{word}")
 }
 
-// What became of a bio.
-fn result_word(bio: &Bio) -> &'static str
+/// What became of a bio.
+pub fn result_word(bio: &Bio) -> &'static str
     ensures { result.now ≡ result_text bio.now.result }
 {
     match &bio.result {
