@@ -12,9 +12,9 @@ import re
 from grammar import CLASSES
 from shown import BEST_EFFORT
 
-# A bio in an outbox, with its result.
-IN_OUTBOX = re.compile(r" \d+\+\d+(?:=[0-9a-f]{8})?:([a-z]+)(?:=[0-9a-f]{8})?")
-SERVICE, TREE = " service ", " tree "
+# A bio in an outbox, before what has become of it; and the sum of what a read found.
+IN_OUTBOX, READ_SUM = re.compile(r" \d+\+\d+(?:=[0-9a-f]{8})?:"), re.compile(r"(?<=read)=[0-9a-f]{8}")
+REQUEUED, SERVICE, TREE = " requeued", " service ", " tree "
 # So many groups with their members are kept as they were told.
 MOST_KEPT = 1 << 16
 
@@ -63,7 +63,7 @@ class Reader:
         line = host.ask("show state")
         _, self.scheduler, run, *_ = line.split(" ")
         self.is_frozen = run == "frozen"
-        self.seats = [part.partition(" ")[0] for part in line.split(" requeued")[0].split(" seat ")[1:]]
+        self.seats = [part.partition(" ")[0] for part in line.partition(REQUEUED)[0].split(" seat ")[1:]]
         self.lines = ["show state", "show flight"]
         if has_names:
             self.lines += ["show requeued", *(f"show queue {seat}" for seat in self.seats)]
@@ -83,16 +83,18 @@ class Reader:
 
     def key_of(self, line):
         """The parts of a key that a line has."""
-        line = IN_OUTBOX.sub(r" \1", line)
+        seats, _, rest = line.partition(REQUEUED)
+        seats = IN_OUTBOX.sub(" ", seats)
+        if "read=" in seats:
+            seats = READ_SUM.sub("", seats)
         if self.is_whole or self.scheduler == "none":
-            return (line,)
-        # Nothing stands between a service and the first tree.
-        before, *trees = line.split(TREE)
-        return (before, *map(shifted, trees))
+            return seats, rest
+        before, *trees = rest.split(TREE)
+        return (seats, before, *map(shifted, trees))
 
     def take_apart(self, view):
         """What decides which moves a state has."""
-        seats, _, rest = view.looks[0].partition(" requeued")
+        seats, _, rest = view.looks[0].partition(REQUEUED)
         returned, _, rest = rest.partition(" flight")
         view.returned = returned.split()
         view.has_service = not rest.partition(SERVICE)[2].startswith("none")
