@@ -182,7 +182,7 @@ def look(words, answer, text, status=DONE, stderr=b"", **more):
 
 LOOKS = [look(words, [f"{words} is told\n".encode()], f"{words} is told\n".encode()) for words in [
     "sector 18446744073709551615", "queue 255", "vtime 0", "vtime 0 rt", "entity 3", "class 3", "line", "show seat 0", "show outbox 1",
-    "show queue 2", "show requeued", "show flight", "show service", "show tree 31", "show host", "show stored 0", "show step 4294967295",
+    "show queue 2", "show requeued", "show flight", "show service", "show tree 31", "show host", "show state", "show stored 0", "show step 4294967295",
 ]] + [
     look("line", [b"line ", b"1 2 3", b"\n"], b"line 1 2 3\n"),
     look("line", [b"line 1 2 3\nline 4 5 6\n"], b"line 1 2 3\n"),

@@ -20,7 +20,7 @@ CLIENT = os.path.join(os.path.dirname(os.path.dirname(os.path.abspath(__file__))
 # Each kind of query once or more, at seats, groups and sectors that are there and that are not.
 LOOKS = ["line", "sector 5", "sector 6", "sector 64", "queue 0", "queue 3", "vtime 0", "vtime 0 rt", "vtime 7 idle", "entity 0", "entity 17",
          "class 0", "class 16", "show seat 0", "show seat 1", "show outbox 0", "show queue 0", "show requeued", "show flight", "show service",
-         "show tree 0", "show tree 1", "show host", "show stored 0", "show step 1", "show step 2", "show step 9"]
+         "show tree 0", "show tree 1", "show host", "show state", "show stored 0", "show step 1", "show step 2", "show step 9"]
 HOST = LOOKS.index("show host")
 # Nobody may wait longer for those before him.
 MOST_WAIT = 2.0
@@ -102,7 +102,7 @@ def as_a_script(program, image, folder):
         work_of(host, client)
         known = printed(program, image, *SCRIPT, *LOOKS)[len(SCRIPT):]
         same("the looks", told(host, *LOOKS), known)
-        same("some of them", (known[0], known[1], known[22], known[23]),
+        same("some of them", (known[0], known[1], known[HOST], known[LOOKS.index("show stored 0")]),
              ("line 10 10 10", "sector 5 overlay 41", "host bfq frozen free 15 10 10 10 10", "stored 5+1"))
         host.operates((HOLD, moved(10, 10)), (undo(8), moved(2, 10)))
         # The script's own `undo` is as long a way back.

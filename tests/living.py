@@ -219,7 +219,7 @@ def under_load(place):
                 time.sleep(0.2)
 
 
-ALL_LOOKS = ["line", "show flight", "show requeued", "show service", *(f"show {what} {at}" for at in range(16) for what in
+ALL_LOOKS = ["line", "show state", "show flight", "show requeued", "show service", *(f"show {what} {at}" for at in range(16) for what in
                                                                       ("seat", "queue", "outbox")), "show tree 0", "show stored 0",
              *(f"sector {number}" for number in range(64)), *(f"entity {number}" for number in range(17))]
 

@@ -30,8 +30,8 @@ SCRIPTS_AT_RANDOM, MANY_AT_RANDOM = 50, 500
 LOOK_AFTER = 20
 SEATS, GROUPS, SECONDS = 16, 32, 30
 LOOKS = [*(f"show {what} {seat}" for what in ("seat", "outbox", "queue") for seat in range(SEATS)), "show requeued", "show flight",
-         "show service", *(f"show tree {group}" for group in range(GROUPS)), "show host", "show stored 0", "show stored 100", "show step 1",
-         "show step 20"]
+         "show service", *(f"show tree {group}" for group in range(GROUPS)), "show host", "show state", "show stored 0", "show stored 100",
+         "show step 1", "show step 20"]
 
 # Changes of one rule each, which must be found: a file, a text of it, and what stands in its place.
 CHANGES = [

@@ -49,7 +49,7 @@ AT_ONCE = 500
 # All that a machine shows of each seat, group, entity and sector, and of one more that there is not.
 MACHINE = [
     *(f"{what} {seat}" for what in ("show seat", "show outbox", "show queue", "queue") for seat in range(17)),
-    "show requeued", "show flight", "show service",
+    "show requeued", "show flight", "show service", "show state",
     *(f"{what} {group}" for what in ("show tree", "vtime") for group in range(33)),
     *(f"vtime {group} {name}" for group in range(33) for name in ("rt", "be", "idle")),
     *(f"{what} {entity}" for what in ("entity", "class") for entity in range(49)),

@@ -21,7 +21,7 @@ from served import (ATTACH, CLOSED, DONE, FREEZE, HOLD, IDLE, LEAVE, LEFT, RELEA
 
 CLIENT = os.path.join(os.path.dirname(os.path.dirname(os.path.abspath(__file__))), "clients", "bfqclient.py")
 HEADER = b"bfqhost record 1 bfq 64 4 1024 4096 8 65536 0 64\n"
-SHOWN = ["line", "show host", *(f"show seat {seat}" for seat in range(16)), *(f"show outbox {seat}" for seat in range(16)),
+SHOWN = ["line", "show host", "show state", *(f"show seat {seat}" for seat in range(16)), *(f"show outbox {seat}" for seat in range(16)),
          *(f"show queue {seat}" for seat in range(16)), "show requeued", "show flight", "show service", *(f"show tree {group}" for group in range(3)),
          "show stored 0", *(f"vtime {group} {name}" for group in range(3) for name in ("rt", "be", "idle")), *(f"entity {number}" for number in range(20)),
          *(f"sector {number}" for number in range(64))]

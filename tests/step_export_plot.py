@@ -579,7 +579,7 @@ def help_of_step(program, folder):
     yield from compared(("", *rest))
     for wanted in ("to SERIAL ", "b [K]", "f [K]", "steps ", "work last", "finish last stored", "write SEAT SESSION START COUNT BYTE,",
                    "discard SEAT SESSION START COUNT,",
-                   "finish TAG ISSUE fill BYTE,", "show step K\n"):
+                   "finish TAG ISSUE fill BYTE,", "show state,", "show step K\n"):
         if wanted not in stdout:
             yield f"help has no {wanted!r}"
     yield from (f"too wide: {line!r}" for line in stdout.splitlines() if len(line) > COLUMNS)

@@ -5,6 +5,7 @@ if nothing were stored.
 """
 
 import os
+import zlib
 
 import payload
 from future_clients import act_of
@@ -24,6 +25,8 @@ class Contents:
         self.all, self.numbers = [], {}
         # What each of them stores: sectors with their blocks, which are None if the image has these bytes.
         self.writes = {}
+        # The bytes of each sum that one of them has; and whether others have this sum, too, so that it does not tell them apart.
+        self.of_sums, self.has_one_sum = {}, False
         self.after = {}
         self.first = self.number(self.over_image(stored))
 
@@ -65,6 +68,8 @@ class Contents:
             blocks = [payload.block_at(self.options, int(byte.removeprefix(SIGN)) + at) for at in range(count)]
         else:
             blocks = [bytes([int(byte)]) * SECTOR] * count
+        data = b"".join(blocks)
+        self.has_one_sum |= self.of_sums.setdefault(zlib.crc32(data), data) != data
         self.writes[name] = [(sector, None if block == self.of_image(sector) else block) for sector, block in enumerate(blocks, start)]
 
     def stored(self, before, bios):

@@ -56,11 +56,9 @@ class Wait:
         """Each queued bio with its dispatches."""
         seen, went = dict(edge.node.view.seen), isinstance(edge.move, Dispatch)
         found = []
-        for queue in edge.view.queues:
-            for *_, bios in queue:
-                for bio in bios:
-                    # One that was queued at the start has seen none.
-                    count = seen.get(bio, 0) + went
-                    found.append((bio, count))
-                    self.worst.meet(count, self.search.steps_to(edge.node) + 1, edge)
+        for bio in self.search.reader.queued(edge.view):
+            # One that was queued at the start has seen none.
+            count = seen.get(bio, 0) + went
+            found.append((bio, count))
+            self.worst.meet(count, self.search.steps_to(edge.node) + 1, edge)
         return tuple(found)

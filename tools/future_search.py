@@ -14,6 +14,7 @@ import time
 
 import grammar
 from future_clients import REAP, act_of
+from future_states import request_of
 from host import Ended
 from reasons import limits_of
 
@@ -26,6 +27,8 @@ NR_REQUESTS = 64
 # What a device may answer to a read, and what it answers to all else.
 FILLED, FAULTS = "fill 0", ("short", "fault")
 STORED = "stored"
+# What an answer begins with to a step that was not made.
+REFUSED = ("refused ", "notyet ")
 # What a queue calls what a client does.
 OPERATIONS = {"read": "fetch", "write": "store", "discard": "discard"}
 
@@ -96,6 +99,8 @@ class Live:
     def __init__(self, opening, names):
         self.opening, self.names = opening, names
         self.host, self.lines = None, []
+        # Each call that was made so far as a line, with the name of its bio, if it has one.
+        self.calls = {}
         self.begin()
 
     def begin(self):
@@ -104,6 +109,8 @@ class Live:
         self.host = self.opening.host()
         # The nodes on the way to where it stands, with the serials of their steps.
         self.way, self.serials, self.serial, self.asked = [], [], self.opening.serial, 0
+        # How many steps it will go back before it takes another one.
+        self.behind = 0
         self.names.forget()
         for line, answer in zip(self.opening.lines, self.opening.answers):
             word, *words = answer.split(" ")
@@ -127,31 +134,41 @@ class Live:
         self.end(*fault)
 
     def take(self, move):
-        """It will take a step."""
-        self.lines.append(line_of(move, self.opening.clients, self.serials))
+        """It will take a step. Gives the place of its line among those that it will be asked."""
+        if self.behind:
+            self.lines += ["hold", f"undo {self.behind}", "release"]
+            self.behind = 0
+        place = len(self.lines)
         self.serial += 1
-        if isinstance(move, Dispatch):
-            self.names.issues[str(self.serial)] = len(self.serials)
-        elif isinstance(move, Call):
-            client = self.opening.clients[move.client]
-            item = client.items[move.place]
-            if item is not REAP:
-                self.names.bios[str(self.serial)] = self.names.of(item.act(), (move.client, move.place))
+        kind = type(move)
+        if kind is Call:
+            line, name = self.calls.get(move) or self.called(move)
+            if name is not None:
+                self.names.bios[str(self.serial)] = name
+        else:
+            line = line_of(move, self.opening.clients, self.serials)
+            if kind is Dispatch:
+                self.names.issues[str(self.serial)] = len(self.serials)
+        self.lines.append(line)
+        return place
 
-    def back(self, steps):
-        """It will go back."""
-        self.lines += ["hold", f"undo {steps}", "release"]
+    def called(self, move):
+        """A call as a line, with the name of its bio, which is kept."""
+        item = self.opening.clients[move.client].items[move.place]
+        name = None if item is REAP else self.names.of(item.act(), (move.client, move.place))
+        self.calls[move] = line_of(move, self.opening.clients, self.serials), name
+        return self.calls[move]
 
     def go_to(self, node):
         """It will go to a state: back to where both ways part, and on."""
-        way = node.way()
-        common = 0
-        while common < min(len(way), len(self.way)) and way[common] is self.way[common]:
-            common += 1
-        if len(self.way) > common:
-            self.back(len(self.way) - common)
-            del self.way[common:], self.serials[common:]
-        for one in way[common:]:
+        way = []
+        while node.parent is not None and (node.depth > len(self.way) or self.way[node.depth - 1] is not node):
+            way.append(node)
+            node = node.parent
+        if len(self.way) > node.depth:
+            self.behind += len(self.way) - node.depth
+            del self.way[node.depth:], self.serials[node.depth:]
+        for one in reversed(way):
             self.take(one.move)
             self.way.append(one)
             self.serials.append(self.serial)
@@ -160,9 +177,9 @@ class Live:
         """The answers to all lines. A step that is refused has made all that follows another one."""
         lines, self.lines = self.lines, []
         self.asked += len(lines)
-        answers = list(self.host.ask_each(lines)) if lines else []
+        answers = self.host.ask_many(lines)
         for line, answer in zip(lines, answers):
-            if grammar.is_refusal(answer):
+            if answer.startswith(REFUSED):
                 raise Ended(f"the search cannot go on: {line!r} is answered {grammar.named(answer)}")
         return answers
 
@@ -216,10 +233,9 @@ class Search:
             return False
         if sum(map(len, view.queues)) + len(view.flight) + len(view.returned) < self.room:
             return True
-        for of, extent, bios in view.queues[place]:
-            start, count = map(int, extent.split("+"))
+        for operation, start, count, bios in map(request_of, view.queues[place]):
             is_beside = start + count == item.start or item.start + item.count == start
-            if of == OPERATIONS[item.word] and is_beside and count + item.count <= MOST_OF_REQUEST and len(bios) < MOST_BIOS:
+            if operation == OPERATIONS[item.word] and is_beside and count + item.count <= MOST_OF_REQUEST and bios < MOST_BIOS:
                 return True
         return False
 
@@ -238,6 +254,7 @@ class Search:
         """The state where the opening ends."""
         self.live.lines += self.reader.lines
         node = Node(None, None, 0, self.reader.view(self.live.answers(), (0,) * len(self.clients), self.contents.first, (0, 0)))
+        self.reader.take_apart(node.view)
         if self.observer:
             self.observe(node.view, self.observer.first)
         self.note(node)
@@ -263,18 +280,19 @@ class Search:
         for node in nodes:
             self.live.go_to(node)
             for move in self.moves(node.view):
-                jobs.append((node, move, len(self.live.lines)))
-                self.live.take(move)
+                jobs.append((node, move, self.live.take(move)))
                 self.live.lines += self.reader.lines
-                self.live.back(1)
+                self.live.behind = 1
         answers = self.live.answers()
         for node, move, at in jobs:
             self.edges += 1
             view = self.view(node.view, move, answers[at + 1:at + 1 + count])
             if self.observer:
+                self.reader.take_apart(view)
                 self.observe(view, self.observer.step(Edge(node, move, answers[at], view)))
             if view.key not in self.keys:
                 self.bounds.look(self.states)
+                self.reader.take_apart(view)
                 found.append(Node(node, move, node.depth + 1, view))
                 self.note(found[-1])
         for node in nodes:

@@ -1,22 +1,32 @@
-"""What a state is: what the looks of a host say, with its serials left out.
+"""What a state is: the line of a host that has no names, and which tag bears which request.
 
-Two states that differ in serials alone, or in which tag bears which request, go on alike. So each bio has the name of what it does, and
-each issue that of the step that made it. What a read found is left out too, as nothing depends on it.
+Two states that differ in serials alone, or in which tag bears which request, go on alike. So the line `show state` is all that a state is, but
+for three things. What has become of a bio stands there, and not which one it was: nothing depends on that once it is in an outbox, nor on what a
+read found. Virtual times may be told from that of their class, on whose difference alone rules stand. And bytes are told by a sum. If
+bios of one sum store other bytes, or if each bio must have a name of its own, their names are a part of the state, too.
 """
 
-import itertools
+import functools
+import re
 
-from logs import SEATS
-from shown import BEST_EFFORT, tree_of
+from grammar import CLASSES
+from shown import BEST_EFFORT
 
-GROUPS = 32
-NONE = ["none"]
+# A bio in an outbox, before what has become of it; and the sum of what a read found.
+IN_OUTBOX, READ_SUM = re.compile(r" \d+\+\d+(?:=[0-9a-f]{8})?:"), re.compile(r"(?<=read)=[0-9a-f]{8}")
+REQUEUED, SERVICE, TREE = " requeued", " service ", " tree "
+# So many groups with their members are kept as they were told.
+MOST_KEPT = 1 << 16
 
 
 class View:
-    """A state. Its key is all of it that decides what can come of it."""
+    """A state: how far each client is, what is stored, what the search has used up, and what the looks say. Its key is all of it that decides
+    what can come of it. The rest is taken apart where somebody goes on from here."""
 
-    __slots__ = ("flight", "returned", "queues", "outboxes", "pcs", "content", "used", "seen", "has_service", "key")
+    __slots__ = ("looks", "flight", "returned", "queues", "outboxes", "pcs", "content", "used", "seen", "has_service", "key")
+
+    def __init__(self, looks, pcs, content, used):
+        self.looks, self.pcs, self.content, self.used, self.seen = looks, pcs, content, used, ()
 
 
 class Names:
@@ -36,89 +46,91 @@ class Names:
         """Another host gives its serials anew."""
         self.bios, self.issues = {}, {}
 
+    def in_item(self, item):
+        """The names of the bios of a request, which stand last in its item."""
+        return tuple(self.bios[bio] for bio in item.rpartition(":")[2].split(","))
+
 
 class Reader:
-    """Reads states from the looks of a host, all of which have the seats and the groups of this one."""
+    """Reads states from the looks of a host, all of which have the seats of this one."""
 
-    def __init__(self, host, names, is_whole):
+    def __init__(self, host, names, is_whole, has_names=False):
         self.names = names
-        # Whether virtual times are told as they are; else they are told from that of their group, on whose difference alone rules stand.
+        # Whether virtual times are told as they are; else they are told from that of their class, on whose difference alone rules stand.
         self.is_whole = is_whole
-        _, self.scheduler, run, *_ = host.ask("show host").split(" ")
+        # Whether the names of bios are a part of a state.
+        self.has_names = has_names
+        line = host.ask("show state")
+        _, self.scheduler, run, *_ = line.split(" ")
         self.is_frozen = run == "frozen"
-        answers = host.ask_all([f"show seat {seat}" for seat in range(SEATS)])
-        self.seats = [answer.split(" ")[1] for answer in answers if answer.split(" ")[2:] != NONE]
-        trees = {group: tree_of(answer) for group, answer in
-                 enumerate(host.ask_each(f"show tree {group}" for group in range(GROUPS)))}
-        self.trees = {group: tree for group, tree in trees.items() if tree and tree.members}
-        self.lines = ["show flight", "show requeued", *itertools.chain.from_iterable(
-            (f"show queue {seat}", f"show outbox {seat}") for seat in self.seats), *self.of_scheduler()]
-
-    def of_scheduler(self):
-        """The looks at what the scheduler knows."""
-        if self.scheduler == "none":
-            # Whose turn it is matters if there are two.
-            return ["show host"] if len(self.seats) > 1 else []
-        # No member comes or goes to another class, so only these classes have times.
-        self.places = sorted({(group, it.class_name) for group, tree in self.trees.items() for it in tree.members} |
-                             {(group, BEST_EFFORT) for group in self.trees})
-        seats = [line for seat in self.seats for line in (f"show seat {seat}", f"entity {seat}")]
-        return ["show service", *(f"show tree {group}" for group in self.trees), *(f"vtime {group} {name}" for group, name in self.places),
-                *seats]
-
-    def requests(self, items):
-        """The requests of a queue, or of the dispatch list: each with its seat, if the look has it, operation, extent and bios."""
-        return tuple(self.request(item.split(":")) for item in items)
-
-    def request(self, parts):
-        """A request by the parts of its item, of which its bios are the last."""
-        *others, bios = parts
-        names = self.names.bios
-        return (*others, tuple(names[bio] for bio in bios.split(",")))
+        self.seats = [part.partition(" ")[0] for part in line.partition(REQUEUED)[0].split(" seat ")[1:]]
+        self.lines = ["show state", "show flight"]
+        if has_names:
+            self.lines += ["show requeued", *(f"show queue {seat}" for seat in self.seats)]
 
     def view(self, looks, pcs, content, used):
         """The state that looks tell, with how far each client is, what is stored, and what the search has used up."""
-        view = View()
-        view.pcs, view.content, view.used, view.seen = pcs, content, used, ()
-        view.flight = []
-        for item in looks[0].split(" ")[1:]:
-            tag, issue, *parts = item.split(":")
-            view.flight.append((tag, self.names.issues[issue], self.request(parts)))
-        view.returned = self.requests(looks[1].split(" ")[1:])
-        view.queues, view.outboxes, at = [], [], 2
-        for _ in self.seats:
-            queue, outbox = looks[at].split(" ")[2:], looks[at + 1].split(" ")[2:]
-            view.queues.append(() if queue == NONE else self.requests(queue))
-            view.outboxes.append(() if outbox == NONE else tuple(item.split(":")[1] for item in outbox))
-            at += 2
-        rest = looks[at:]
-        view.has_service = self.scheduler == "bfq" and rest[0] != "service none"
-        view.key = (pcs, content, used, tuple(sorted(request for _, _, request in view.flight)), view.returned, tuple(view.queues),
-                    tuple(view.outboxes), self.rest_of(rest))
+        view = View(looks, pcs, content, used)
+        view.key = (pcs, content, used, *self.key_of(looks[0]))
+        if self.has_names:
+            self.take_apart(view)
+            view.key += (tuple(sorted(request for _, _, request in view.flight)), tuple(map(self.named, looks[2:])))
         return view
 
-    def rest_of(self, looks):
-        """What the scheduler knows, as a part of a key."""
-        if self.scheduler == "none":
-            return looks[0].split(" ")[4] if looks else ""
-        if self.is_whole:
-            return tuple(looks)
-        after_trees = 1 + len(self.trees)
-        after_times = after_trees + len(self.places)
-        vtimes = {place: int(look.rpartition(" ")[2]) for place, look in zip(self.places, looks[after_trees:after_times])}
-        shifted = [self.shifted(group, look, vtimes) for group, look in zip(self.trees, looks[1:after_trees])]
-        # Of a seat its head and whether it is here, of its entity its budget and its service.
-        return (looks[0], *shifted, *(tuple(look.split(" ")[6:]) for look in looks[after_times:]))
+    def named(self, look):
+        """The names of the bios of the dispatch list, or of a queue."""
+        return tuple(self.names.in_item(item) for item in look.split(" ") if ":" in item)
 
-    @staticmethod
-    def shifted(group, look, vtimes):
-        """The members of a tree, with times told from that of their class. The finish of an idle one counts while it is ahead, and its
-        start never."""
-        found = []
-        for item in look.split(" ")[4:]:
-            entity, state, start, finish, weight, pending, *class_name = item.split(":")
-            vtime = vtimes[group, class_name[0] if class_name else BEST_EFFORT]
-            ahead = int(finish) - vtime
-            found.append((entity, state, None if state == "idle" else int(start) - vtime, max(ahead, 0) if state == "idle" else ahead,
-                          weight, pending))
-        return tuple(found)
+    def key_of(self, line):
+        """The parts of a key that a line has."""
+        seats, _, rest = line.partition(REQUEUED)
+        seats = IN_OUTBOX.sub(" ", seats)
+        if "read=" in seats:
+            seats = READ_SUM.sub("", seats)
+        if self.is_whole or self.scheduler == "none":
+            return seats, rest
+        before, *trees = rest.split(TREE)
+        return (seats, before, *map(shifted, trees))
+
+    def take_apart(self, view):
+        """What decides which moves a state has."""
+        seats, _, rest = view.looks[0].partition(REQUEUED)
+        returned, _, rest = rest.partition(" flight")
+        view.returned = returned.split()
+        view.has_service = not rest.partition(SERVICE)[2].startswith("none")
+        view.queues, view.outboxes = [], []
+        for seat in seats.split(" seat ")[1:]:
+            queue, _, outbox = seat.partition(" queue")[2].partition(" outbox")
+            view.queues.append(queue.split())
+            view.outboxes.append(outbox.split())
+        view.flight = []
+        for item in view.looks[1].split(" ")[1:]:
+            tag, issue, seat, operation, _ = item.split(":", 4)
+            view.flight.append((tag, self.names.issues[issue], (seat, operation, self.names.in_item(item))))
+
+    def queued(self, view):
+        """The names of all queued bios, which are known if names are a part of a state."""
+        return [bio for look in view.looks[3:] for request in self.named(look) for bio in request]
+
+
+def request_of(text):
+    """The operation of a request, its first sector, how many it has, and how many bios."""
+    operation, _, bios = text.partition(":")
+    extents = [tuple(map(int, bio.partition("=")[0].split("+"))) for bio in bios.split(",")]
+    return operation, extents[0][0], sum(count for _, count in extents), len(extents)
+
+
+@functools.lru_cache(MOST_KEPT)
+def shifted(tree):
+    """A group, its parent and its members, with times told from that of their class. The finish of an idle one counts while it is ahead, and
+    its start never."""
+    group, parent, *rest = tree.split(" ")
+    vtimes = dict(zip(CLASSES, map(int, rest)))
+    found = [group, parent]
+    for item in rest[len(CLASSES):]:
+        entity, state, start, finish, weight, pending, budget, *class_name = item.split(":")
+        vtime = vtimes[class_name[0] if class_name else BEST_EFFORT]
+        ahead = int(finish) - vtime
+        times = (None, max(ahead, 0)) if state == "idle" else (int(start) - vtime, ahead)
+        found.append((entity, state, *times, weight, pending, budget, *class_name))
+    return tuple(found)

@@ -29,7 +29,7 @@ FORMS = [form.split() for form in [
     "weight GROUP WEIGHT", "freeze", "thaw", "switch none", "switch bfq", "tick", "hold", "release", "undo K", "redo K",
     "sector NUMBER", "queue SEAT", "vtime GROUP", "vtime GROUP CLASS", "class N", "entity N", "line",
     "show seat SEAT", "show outbox SEAT", "show queue SEAT", "show requeued", "show flight", "show service", "show tree GROUP",
-    "show host", "show stored FROM", "show step K",
+    "show host", "show state", "show stored FROM", "show step K",
 ]]
 # A number behind this sign is a sector of the payload. Without a payload no line has one.
 SIGN = "@"

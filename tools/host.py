@@ -12,8 +12,10 @@ A tool ends with one of these statuses. It never shows a trace of Python.
 from __future__ import annotations
 
 import argparse
+import bisect
 import contextlib
 import io
+import itertools
 import os
 import re
 import signal
@@ -39,6 +41,8 @@ TOGETHER = 4_096
 INSTALLED = "bfq-"
 # Why a line is bad that takes bytes from the payload.
 NO_BYTES = "there is no payload, or it has not so many bytes from there on: --payload FILE names one"
+# What the answer to a bad line begins with.
+BAD_LINE = b"bad line "
 # How long a program may take to end when its input has ended.
 SECONDS = 5
 
@@ -121,14 +125,30 @@ class Host:
 
     def ask_all(self, lines: Sequence[str]) -> List[str]:
         """The answers to lines that are written together, of at most 4,096 bytes."""
-        text = "".join(f"{line}\n" for line in lines).encode(errors="surrogateescape")
+        text = ("\n".join(lines) + "\n").encode(errors="surrogateescape")
         assert len(lines) == 1 or len(text) <= TOGETHER
         try:
             os.write(self.stdin.fileno(), text)
         except BrokenPipeError:
             # The program has ended. What it answered before can still be read, and tells why.
             pass
-        return [self.answer(line) for line in lines]
+        # All that is read at once is taken apart at once, as a search of futures reads some millions of them.
+        told = [*itertools.islice(self.stdout, len(lines))]
+        text = b"".join(told)
+        if len(told) == len(lines) and text.endswith(b"\n") and BAD_LINE not in text:
+            return text.decode(errors="replace").split("\n")[:-1]
+        return [self.judged(line, answer) for line, answer in itertools.zip_longest(lines, told, fillvalue=b"")]
+
+    def ask_many(self, lines: Sequence[str]) -> List[str]:
+        """The answers to any number of lines, as `ask_each` gives them. It is the quicker of both."""
+        answers: List[str] = []
+        ends = [*itertools.accumulate(len(line) + 1 for line in lines)]
+        while len(answers) < len(lines):
+            begin = len(answers)
+            # A line that is longer than may be written together is written alone.
+            end = bisect.bisect_right(ends, TOGETHER + (ends[begin - 1] if begin else 0), begin)
+            answers += self.ask_all(lines[begin:max(end, begin + 1)])
+        return answers
 
     def ask_each(self, lines: Iterable[str]) -> Iterator[str]:
         """The answers to any number of lines, of which each time as many are written together as may be."""
@@ -142,13 +162,12 @@ class Host:
             size += len(line) + 1
         yield from self.ask_all(together)
 
-    def answer(self, line: str) -> str:
-        """Reads the answer to a line that was written."""
-        text = self.stdout.readline()
+    def judged(self, line: str, text: bytes) -> str:
+        """What was read of the answer to a line."""
         if not text.endswith(b"\n"):
             raise self.ended(f" before it answered {line!r}")
         answer = text[:-1].decode(errors="replace")
-        if answer.startswith("bad line "):
+        if text.startswith(BAD_LINE):
             raise BadLine(line, answer)
         return answer
 

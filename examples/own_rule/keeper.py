@@ -6,10 +6,11 @@ The machine is what the line's first `cursor` steps make. So an undo makes a new
 import argparse
 import os
 import sys
+import zlib
 
 from rules import ROOT, No, unless
 
-from grammar import MOST_LINES, NO_STEPS, is_silent, why_bad  # rules.py has made the path to it
+from grammar import CLASSES, MOST_LINES, NO_STEPS, is_silent, why_bad  # rules.py has made the path to it
 
 SECTOR, MOST_STORED, BAD_LINE = 512, 65_536, 2
 # The options of sim, each with what stands for it if it is not given.
@@ -161,7 +162,7 @@ class Keeper:
 
     def show_outbox(self, number):
         seat = self.machine.seats.get(number)
-        items = ["none"] if seat is None else [f"{bio}:{result.split(' ')['error' in result]}" for bio, result in seat.outbox]
+        items = ["none"] if seat is None else [f"{bio.serial}:{kind_of(result)}" for bio, result in seat.outbox]
         return " ".join([f"outbox {number}", *items])
 
     def show_queue(self, number):
@@ -192,6 +193,32 @@ class Keeper:
         return (f"host {it.scheduler} {'frozen' if it.is_frozen else 'running'} {'held' if self.is_held else 'free'} {it.last_seat} "
                 f"{self.cursor} {len(self.line)} {self.last_serial} {self.journal}")
 
+    def show_state(self):
+        """The machine in one line without names."""
+        it = self.machine
+        slot = f"{it.service.seat} {it.service.sent} {it.service.age}" if it.service else "none"
+        return " ".join([
+            f"state {it.scheduler} {'frozen' if it.is_frozen else 'running'} {it.last_seat}", *map(self.seat_of_state, sorted(it.seats)),
+            "requeued", *(f"{request.seat}:{nameless(request)}" for request in it.returned),
+            "flight", *sorted(f"{request.seat}:{nameless(request)}" for _, request in it.flight.values()),
+            f"service {slot}", *map(self.tree_of_state, sorted(it.parents))])
+
+    def seat_of_state(self, number):
+        """A seat with its queue and its outbox, without names."""
+        seat = self.machine.seats[number]
+        place, group = "leaving" if seat.is_leaving else "here", self.machine.members[number].group
+        return " ".join([f"seat {number} {group} {seat.prio} {self.machine.owed(number)} {seat.head} {place}",
+                         "queue", *map(nameless, seat.queue), "outbox", *(f"{bio_of_state(bio)}:{kind_of(result)}{sum_of(read_in(result))}"
+                                                                          for bio, result in seat.outbox)])
+
+    def tree_of_state(self, group):
+        """A group with its times and members."""
+        times = [self.machine.vtimes[group, name] for name in CLASSES]
+        members = sorted((it for it in self.machine.members.values() if it.group == group), key=lambda it: it.entity)
+        return " ".join([f"tree {group} {'-' if group == ROOT else self.machine.parents[group]} {told(times, ' ')}", *(
+            told([it.entity, it.state, it.start, it.finish, it.weight, it.pending, it.budget, *[it.class_name] * (it.class_name != "be")])
+            for it in members)])
+
     def show_stored(self, first):
         stored = self.machine.overlay
         start = min((at for at in stored if at >= first), default=None)
@@ -219,6 +246,31 @@ def end_of(made):
 def spelled(block):
     """A sector as an answer has it."""
     return f"{block[0]:02x}" if block.count(block[0]) == SECTOR else block.hex()
+
+
+def kind_of(result):
+    """A result in one word."""
+    return result.split(" ")["error" in result]
+
+
+def read_in(result):
+    """The bytes that a result has, if it has some."""
+    word, *blocks = result.split(" ")
+    return b"".join(bytes.fromhex(it) * (SECTOR if len(it) == 2 else 1) for it in blocks) if word == "read" else b""
+
+
+def sum_of(data):
+    """The sum of bytes behind `=`, where there are some."""
+    return f"={zlib.crc32(data):08x}" if data else ""
+
+
+def bio_of_state(bio):
+    """A bio by what it does, and not by its name. A write alone has bytes."""
+    return f"{bio.start}+{bio.count}{'' if bio.byte is None else sum_of(bytes([bio.byte]) * SECTOR * bio.count)}"
+
+
+def nameless(request):
+    return f"{request.operation}:{','.join(map(bio_of_state, request.bios))}"
 
 
 def text_of(request):

@@ -82,7 +82,7 @@ class Machine(Rules):
 
     def discard(self, *words):
         """What is discarded is zeros, once it is done."""
-        return self.submit("discard", *words, 0)
+        return self.submit("discard", *words)
 
     def reap(self, number, session):
         seat = self.sits(number, session)
@@ -90,7 +90,7 @@ class Machine(Rules):
         unless(seat.outbox, 44)
         yield
         bio, result = seat.outbox.pop(0)
-        return f"completed {bio} {result}"
+        return f"completed {bio.serial} {result}"
 
     def leave(self, number):
         seat = self.sits(number)
@@ -138,7 +138,7 @@ class Machine(Rules):
         for bio in request.bios:
             sectors = range(bio.start, bio.start + bio.count)
             if outcome == "stored":
-                self.overlay.update(dict.fromkeys(sectors, bytes([bio.byte]) * SECTOR))
+                self.overlay.update(dict.fromkeys(sectors, bytes([bio.byte or 0]) * SECTOR))
                 result = "written" if request.operation == "store" else "discarded"
             elif outcome == "fill":
                 device = [bytes([blocks]) * SECTOR] * request.count if isinstance(blocks, int) else blocks
@@ -146,7 +146,7 @@ class Machine(Rules):
             else:
                 result = f"error {outcome}"
             if not self.seats[request.seat].is_leaving:
-                self.seats[request.seat].outbox.append((bio.serial, result))
+                self.seats[request.seat].outbox.append((bio, result))
         self.free_if_left(request.seat)
         return f"finished {len(request.bios)}"
 

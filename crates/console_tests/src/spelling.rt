@@ -3,7 +3,7 @@ use script_line::{Ending, Line, Look, line_of, number};
 use sector_core::{Class, Scheduler};
 
 // A line, as it is spelled and as it is.
-const FORMS: [(&[u8], Line); 63] = [
+const FORMS: [(&[u8], Line); 64] = [
     (
         b"attach 0 1 4",
         Line::Attach {
@@ -279,6 +279,7 @@ const FORMS: [(&[u8], Line); 63] = [
         },
     ),
     (b"show host", Line::Show { look: Look::Host }),
+    (b"show state", Line::Show { look: Look::State }),
     (
         b"show stored 18446744073709551615",
         Line::Show {

@@ -95,7 +95,7 @@ SCRIPT: one call a line, words joined by one space; an empty line or one that be
     sector NUMBER                        queue SEAT
     vtime GROUP [rt|be|idle]             entity NUMBER
     line                                 class NUMBER
-    show seat|outbox|queue SEAT          show requeued|flight|service|host
+    show seat|outbox|queue SEAT          show requeued|flight|service|host|state
     show tree GROUP                      show stored FROM, show step K
 
 REFUSALS: what 'refused N' says; nothing has changed
