@@ -30,7 +30,7 @@ joined old scheduler run served seated again flying service groups =
 -- the parts of a machine, one behind the other, are its line
 pub line_told : (tags : ℕ) (m : Plain) (old done : List ℕ)
     → done ≡ (((((old ++ (codes "state " ++ (scheduler_text m.scheduler ++ 32 ∷ (run_text m.frozen ++ 32 ∷ decimal m.served)))) ++ flat_map (taken_text m) seats)
-      ++ (codes " requeued" ++ flat_map (again_text m) m.requeued)) ++ (codes " flight" ++ flight_text tags m)) ++ served_text m.bfq.in_service) ++ flat_map (group_text m) (numbers 0 32)
+    ++ (codes " requeued" ++ flat_map (again_text m) m.requeued)) ++ (codes " flight" ++ flight_text tags m)) ++ served_text m.bfq.in_service) ++ flat_map (group_text m) (numbers 0 32)
     → done ≡ old ++ state_look tags m
 unfolding state_look
 line_told tags m old done is = is ∙ joined old (scheduler_text m.scheduler) (run_text m.frozen) (decimal m.served) (flat_map (taken_text m) seats)

@@ -40,6 +40,7 @@ behind text xs i h past so = so ∙ (ap (λ ys. take i xs ++ ys) (later i xs h p
     later (suc i) (x ∷ xs) h past =
         let next : suc i + 1 ≡ suc (i + 1) = omega arith in
         later i xs (omega arith) past ∙ ap (λ k. get_or xs i [] ∷ placed text (drop k (x ∷ xs))) (sym next)
+
     more : (i : ℕ) (xs : List (List ℕ)) → i < length xs → take i xs ++ (get_or xs i [] ∷ placed text (drop (i + 1) xs)) ≡ take (i + 1) xs ++ placed text (drop (i + 1) xs)
     more i [] h = absurd (omega arith)
     more zero (x ∷ xs) h = refl
@@ -57,6 +58,7 @@ here text xs i h first so = cut i xs h ∙ sym (so ∙ ap (λ ys. take i xs ++ y
     sooner i [] h first = absurd (omega arith)
     sooner zero (x ∷ xs) h first = ap (λ b. cond b (text ∷ x ∷ xs) (x ∷ placed text xs)) first
     sooner (suc i) (x ∷ xs) h first = sooner i xs (omega arith) first
+
     cut : (i : ℕ) (xs : List (List ℕ)) → i < length xs → insert xs i text ≡ take i xs ++ (text ∷ drop i xs)
     cut i [] h = absurd (omega arith)
     cut zero (x ∷ xs) h = refl
@@ -71,6 +73,7 @@ at_end text xs i h so = all i xs h ∙ sym (so ∙ ap (λ ys. take i xs ++ ys) (
     none (suc i) [] h = absurd (omega (arith, h))
     none zero (x ∷ xs) h = absurd (omega (arith, h))
     none (suc i) (x ∷ xs) h = none i xs (omega (arith, h))
+
     all : (i : ℕ) (xs : List (List ℕ)) → i ≡ length xs → insert xs i text ≡ take i xs ++ text ∷ []
     all zero [] h = refl
     all (suc i) [] h = absurd (omega (arith, h))

@@ -51,12 +51,7 @@ fn texts_in_order(view: &View<'_>, alloc: Global) -> io::Result<Vec<Vec<u8>>>
 }
 
 // Places what a tag bears, if it bears anything.
-fn place_tag(
-    view: &View<'_>,
-    tag: u8,
-    alloc: Global,
-    texts: &mut Vec<Vec<u8>>,
-) -> io::Result<()>
+fn place_tag(view: &View<'_>, tag: u8, alloc: Global, texts: &mut Vec<Vec<u8>>) -> io::Result<()>
     ensures { OnOk result ((told : List (List ℕ)) → texts_of texts.old.items ≡ in_order told
         → texts_of texts.new.items ≡ in_order (map (owned_text (plain_of view.now)) (borne ((plain_of view.now).flight tag)) ++ told)) }
 {

@@ -82,7 +82,10 @@ fn put_times(group: u8, parent: Option<u8>, times: Times, out: &mut Vec<u8>) -> 
         idle,
     } = times;
     match parent {
-        Some(parent) => write!(out, " tree {group} {parent} {real_time} {best_effort} {idle}"),
+        Some(parent) => write!(
+            out,
+            " tree {group} {parent} {real_time} {best_effort} {idle}"
+        ),
         None => write!(out, " tree {group} - {real_time} {best_effort} {idle}"),
     }
 }

@@ -18,5 +18,5 @@ loop-tag-preserved c =
     record {
       within = omega (arith, c.loop-tag.invariant.within);
       texts = c.in_ok-place_tag.ensures (map (owned_text m) others) c.loop-tag.invariant.texts
-        ∙ (ap in_order (sym (map_both (owned_text m) (bears (tag - 1)) others)) ∙ ap (λ rs. in_order (map (owned_text m) rs)) (sym all));
+          ∙ (ap in_order (sym (map_both (owned_text m) (bears (tag - 1)) others)) ∙ ap (λ rs. in_order (map (owned_text m) rs)) (sym all));
     }
