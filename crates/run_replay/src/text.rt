@@ -30,7 +30,7 @@ fn put_step_with_sum(step: &Step, out: &mut Vec<u8>) -> io::Result<()> {
             payload,
         } if !are_alike(payload.as_slice()) => {
             write!(out, "write {seat} {session} {start} {count} ")?;
-            put_sum(payload.as_slice(), out)
+            put_bytes(payload.as_slice(), out)
         }
         Step::Finish {
             tag,
@@ -38,14 +38,14 @@ fn put_step_with_sum(step: &Step, out: &mut Vec<u8>) -> io::Result<()> {
             outcome: Outcome::Fetched(bytes),
         } if !are_alike(bytes.as_slice()) => {
             write!(out, "finish {tag} {issue} fill ")?;
-            put_sum(bytes.as_slice(), out)
+            put_bytes(bytes.as_slice(), out)
         }
         _ => put_step(step, out),
     }
 }
 
 // How many bytes they are, and their sum.
-fn put_sum(bytes: &[u8], out: &mut Vec<u8>) -> io::Result<()> {
+fn put_bytes(bytes: &[u8], out: &mut Vec<u8>) -> io::Result<()> {
     let count = bytes.len();
     write!(out, "<{count} bytes, crc32 ")?;
     put_sum(crc32(bytes), out)?;
