@@ -3,7 +3,7 @@
 
     python3 bench/futures.py [--program PATH] [--rounds N] [CASE]...
 
-Each case is a search without reductions of virtual times or without any, as told beside its figures. With no case named all are run.
+Each case is a whole search, or a reduced one as told beside its figures. With no case named all are run.
 
 A case runs three times in each round. First by the reader of tools/futures, which asks `show state` and `show flight` for each edge. Then by
 a reader that asks each part of a machine by a look of its own, as the tool did before; both must find as many states, edges and contents.
@@ -42,14 +42,17 @@ LEAST = 2.0
 # A search: its clients, the script before it, the options of sim, whether it has no reduction, and whether its ratio has a bound.
 Case = namedtuple("Case", "name clients script options is_whole has_bound")
 CLASH = "seat 0\nwrite 0 2 1\nwrite 1 2 2\nsync\nwrite 0 1 3\nseat 1\nwrite 1 1 4\nwrite 8 1 5\n"
-READS = "seat 0\n" + "".join(f"read {200 * at} 64\n" for at in range(3)) + "seat 1\n" + "".join(f"read {10_000 + 200 * at} 64\n" for at in range(3))
+# What is read is 32 KiB each time, which stays in an outbox: a line has the sum of all of it.
+READS = "".join(f"seat {seat}\n" + "".join(f"read {10_000 * seat + 200 * at} 64\n" for at in range(3)) for seat in (0, 1))
+OF_READS = ["--tags", "2", "--first-budget", "256", "--max-budget", "256"]
 GROUPS = "group 0 100\ngroup 0 300\nattach 0 1 4\nattach 1 2 4\n"
 SEATS = "attach 0 0 4\nattach 1 0 4\n"
 CASES = [
     Case("bfq", CLASH, SEATS, ["--scheduler", "bfq"], True, True),
-    Case("groups", READS, GROUPS, ["--tags", "2", "--first-budget", "256", "--max-budget", "256"], True, True),
-    Case("groups, reduced", READS.replace("seat 1", "reap\nreap\nseat 1"), GROUPS, ["--tags", "2", "--first-budget", "256", "--max-budget", "256"], False, True),
+    Case("groups", CLASH, GROUPS, ["--scheduler", "bfq"], True, True),
+    Case("groups, reduced", CLASH + "write 10 1 6\nwrite 12 1 7\n", GROUPS, ["--scheduler", "bfq"], False, True),
     Case("none", CLASH, SEATS, ["--scheduler", "none"], True, False),
+    Case("reads in groups", READS, GROUPS, OF_READS, True, False),
 ]
 
 

@@ -16,6 +16,7 @@ from futures_by_copies import Bounds, counted
 from futures_keys import SCRIPTS, key_faults
 from futures_rows import NONE, ROWS, apart
 from own_rule import variation
+from state_pairs import ONE_SUM
 from tools import BAD_INPUT, SECONDS, TOOLS, differences, faults_of, started, written
 from tools_at_terminal import said_by
 
@@ -201,6 +202,19 @@ def whole_faults(program, path, rows):
         yield from [] if image.read() == other.read() else [f"{path}.img is not what tools/export writes"]
 
 
+def one_sum_faults(program):
+    """Four writes of one sector in turn of two kinds of bytes, which have one CRC-32. A search has as many states as if they had two."""
+    clients = "seat 0\n" + 2 * "write 0 1 {0}\nwrite 0 1 {1}\n"
+    wanted = counted(clients.format(0, 2), NONE)
+    with tempfile.TemporaryDirectory() as folder:
+        written(folder, "clients", clients.format("@0", "@1"))
+        written(folder, "payload", b"".join(ONE_SUM))
+        words = [os.path.join(TOOLS, "futures"), "--program", program, "clients", "--payload", "payload", "--all-states", "--", *NONE]
+        with started(words, folder) as ran:
+            stdout, stderr = (text.decode() for text in ran.communicate(timeout=SECONDS))
+    return differences("bytes of one sum", stdout + stderr, line_of(wanted.states, wanted.edges, len(wanted.contents), wanted.steps))
+
+
 def jobs_faults(program):
     """The checks of the toy writer as lines for a shell: of 20 contents the same 3 fail as where the tool runs the checks itself, with as few
     steps. Each content has its image and the shortest script to it."""
@@ -327,6 +341,7 @@ def runs_of(program, is_all):
     for it in OPENINGS:
         yield f"futures: from {it.name}", lambda it=it: opening_faults(program, it)
     yield "futures: the toy writer", lambda: [*toy_faults(program)]
+    yield "futures: bytes of one sum", lambda: one_sum_faults(program)
     yield "futures: checks as jobs", lambda: [*jobs_faults(program)]
     for it in LAGS:
         yield f"futures: the lag of {it.name}", lambda it=it: [*lag_faults(program, it)]

@@ -10,6 +10,8 @@ left out are closed over in contents alone.
 """
 
 import collections
+import gc
+import re
 import time
 
 import grammar
@@ -27,8 +29,8 @@ NR_REQUESTS = 64
 # What a device may answer to a read, and what it answers to all else.
 FILLED, FAULTS = "fill 0", ("short", "fault")
 STORED = "stored"
-# What an answer begins with to a step that was not made.
-REFUSED = ("refused ", "notyet ")
+# Whether an answer is one to a step that was not made.
+IS_REFUSED = re.compile("refused |notyet ").match
 # What a queue calls what a client does.
 OPERATIONS = {"read": "fetch", "write": "store", "discard": "discard"}
 
@@ -178,9 +180,9 @@ class Live:
         lines, self.lines = self.lines, []
         self.asked += len(lines)
         answers = self.host.ask_many(lines)
-        for line, answer in zip(lines, answers):
-            if answer.startswith(REFUSED):
-                raise Ended(f"the search cannot go on: {line!r} is answered {grammar.named(answer)}")
+        if any(map(IS_REFUSED, answers)):
+            line, answer = next(it for it in zip(lines, answers) if IS_REFUSED(it[1]))
+            raise Ended(f"the search cannot go on: {line!r} is answered {grammar.named(answer)}")
         return answers
 
 
@@ -201,12 +203,13 @@ class Search:
 
     def moves(self, view):
         """The moves from a state, of which the reductions leave some out."""
-        calls, is_waiting = [], False
+        calls, is_waiting, count = [], False, len(view.flight) + len(view.returned) + sum(map(len, view.queues))
+        is_full = self.reader.is_frozen or count >= self.room
         for client, (place, pc) in enumerate(zip(self.places, view.pcs)):
             items = self.clients[client].items
             if pc == len(items):
                 continue
-            if view.outboxes[place] if items[pc] is REAP else self.has_room(view, place, items[pc]):
+            if view.outboxes[place] if items[pc] is REAP else not is_full or self.joins(view, place, items[pc]):
                 calls.append(Call(client, pc))
                 if items[pc] is REAP and not self.given.all_states:
                     return calls[-1:]
@@ -227,12 +230,10 @@ class Search:
         return [Finish(tag, issue, outcome) for tag, issue, request in view.flight
                 for outcome in (self.outcomes if request[1] == "fetch" else [STORED])]
 
-    def has_room(self, view, place, item):
-        """Whether the host takes a read, a write or a discard now: it is not frozen, and has room or a request that it joins."""
+    def joins(self, view, place, item):
+        """Whether a host that is full takes a read, a write or a discard: it is not frozen, and has a request that it joins."""
         if self.reader.is_frozen:
             return False
-        if sum(map(len, view.queues)) + len(view.flight) + len(view.returned) < self.room:
-            return True
         for operation, start, count, bios in map(request_of, view.queues[place]):
             is_beside = start + count == item.start or item.start + item.count == start
             if operation == OPERATIONS[item.word] and is_beside and count + item.count <= MOST_OF_REQUEST and bios < MOST_BIOS:
@@ -244,11 +245,15 @@ class Search:
     def run(self, bounds, ways, progress):
         """Goes through all states within bounds. Gives by what it was cut, or None if it is complete."""
         self.ways, self.bounds = ways, bounds
-        with Live(self.opening, self.reader.names) as self.live:
-            try:
+        # Nothing of a search is a circle, and its states are looked through again and again for one.
+        gc.disable()
+        try:
+            with Live(self.opening, self.reader.names) as self.live:
                 return self.go_through(self.first(), progress)
-            except Cut as cut:
-                return str(cut)
+        except Cut as cut:
+            return str(cut)
+        finally:
+            gc.enable()
 
     def first(self):
         """The state where the opening ends."""
