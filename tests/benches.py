@@ -1,4 +1,5 @@
-"""Runs of the programs that measure, as rt ci builds them, and of bench/record.py and bench/futures.py: what they print is compared, and not their time.
+"""Runs of the programs that measure, as rt ci builds them, and of bench/record.py, futures.py and served.py: what they print is compared, and not their
+time.
 
 The scripts of tests/rings are played on the seats of a host by the program of crates/ring_bench. What each must print was written by hand
 from the rules of turns and seats; that of calls-of-three-seats, which has 2,700 lines, was made by a plain program of the same rules,
@@ -165,6 +166,41 @@ def futures_bench_runs():
         yield "bench/futures.py", [str(fault)]
 
 
+def short_costs():
+    """bench/served.py --costs with one short round: the image is read once for a read of the host, and by nobody else."""
+    words = [sys.executable, os.path.join(TOP, "bench", "served.py"), "--costs", "--rounds", "1", "--seconds", "0.2"]
+    ran = subprocess.run(words, stdin=subprocess.DEVNULL, capture_output=True, text=True, timeout=SECONDS, check=False)
+    head, *rows = [row.split() for row in ran.stdout.splitlines()]
+    same("the end", (ran.returncode, ran.stderr), (0, ""))
+    same("the lines", [(*row[:3], row[3]) for row in rows], [(clients, depth, kind, of) for clients, depth in (("1", "1"), ("1", "16"), ("4", "1"))
+                                                            for kind in ("read", "write") for of in ("host", "floor")])
+    for clients, depth, kind, of, *figures in rows:
+        told = dict(zip(head[4:], map(float, figures)))
+        # Who attaches and what is under way when the counting begins and ends are no reads of these.
+        is_near = abs(told["pread"] - (of == "host" and kind == "read")) < 0.2
+        same(f"{clients} {depth} {kind} {of}: {told}", (is_near, told["send"] > 0, told["switches"] >= 0, told["us"] > 0), (True, True, True, True))
+
+
+def cost_runs():
+    """The script that measures what reads and writes cost, if strace may look at a process."""
+    try:
+        with tempfile.TemporaryFile() as nothing, subprocess.Popen(["sleep", "60"]) as child:
+            try:
+                looked = subprocess.run(["timeout", "-s", "INT", "1", "strace", "-c", "-p", str(child.pid)], stdout=nothing, stderr=nothing, check=False)
+            finally:
+                child.kill()
+        if looked.returncode not in (0, 124, 130):
+            raise FileNotFoundError
+    except FileNotFoundError:
+        print("skipped: bench/served.py --costs: no strace here, or no leave to use it")
+        return
+    try:
+        short_costs()
+        yield "bench/served.py --costs", []
+    except (OSError, ValueError, Wrong, subprocess.SubprocessError) as fault:
+        yield "bench/served.py --costs", [str(fault)]
+
+
 def bench_runs():
     """Each run of each build, with its faults."""
     files = {extension: {name for name, it in map(os.path.splitext, os.listdir(RINGS)) if it == extension} for extension in (".script", ".expected")}
@@ -176,3 +212,4 @@ def bench_runs():
     yield from floor_runs()
     yield from record_runs()
     yield from futures_bench_runs()
+    yield from cost_runs()
