@@ -88,8 +88,8 @@ borne None = []
 borne (Some f) = f.request ∷ []
 
 -- the requests in flight, by their tags
-abbrev pub in_flight : ℕ → Plain → List WholeRequest
-in_flight tags m = flat_map (λ tag. borne (m.flight tag)) (numbers 0 tags)
+abbrev pub under_tags : ℕ → Plain → List WholeRequest
+under_tags tags m = flat_map (λ tag. borne (m.flight tag)) (numbers 0 tags)
 
 -- a text after one space
 abbrev pub spaced : List ℕ → List ℕ
@@ -97,7 +97,7 @@ spaced text = 32 ∷ text
 
 -- the requests in flight, in the order of their texts
 abbrev pub flight_text : ℕ → Plain → List ℕ
-flight_text tags m = flat_map spaced (in_order (map (owned_text m) (in_flight tags m)))
+flight_text tags m = flat_map spaced (in_order (map (owned_text m) (under_tags tags m)))
 
 -- Seats.
 

@@ -14,8 +14,9 @@
 //! | `Shows`, `Keeps` | what a keeper must offer to be looked at, and to be run from a script |
 //!
 //! The rules stand in `specs/`: `Printed` says for each line which call it is and what it prints, `Payload` which bytes a line takes from
-//! the payload, and `Texts` has the texts of groups and of entities. `Looks` says what a line that begins with `show` prints, and `Views` has the texts of what a
-//! machine has. `host_calls` has those of answers.
+//! the payload, and `Texts` has the texts of groups and of entities. `Looks` says what a line that begins with `show` prints. `Views` has the
+//! texts of what a machine has, and `State` its one line without names; `Naming` says which machines differ in names alone. `host_calls` has
+//! the texts of answers.
 //!
 //! ```text
 //! attach 0 0 4        // attached 1

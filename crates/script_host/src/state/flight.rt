@@ -4,7 +4,7 @@ ghost use Rattle.std.specs.List.{flat_map, insert};
 ghost use Rattle.std.specs.Ordering.{is_lt, nat_cmp};
 ghost use Rattle.std.specs.Cmp.Lexicographic.{slice_cmp};
 ghost use Rattle.dispatch_core.specs.Running.{plain_of};
-ghost use Rattle.host_console.specs.State.{borne, flight_text, in_flight, in_order, owned_text, placed, spaced};
+ghost use Rattle.host_console.specs.State.{borne, flight_text, under_tags, in_order, owned_text, placed, spaced};
 ghost use Rattle.script_host.specs.Texts.{texts_of};
 
 use super::requests::put_owned;
@@ -41,7 +41,7 @@ fn put_text(text: &[u8], out: &mut Vec<u8>) -> io::Result<()>
 
 // The texts of the requests in flight, in their order.
 fn texts_in_order(view: &View<'_>, alloc: Global) -> io::Result<Vec<Vec<u8>>>
-    ensures { IfOk result (λ texts. texts_of texts.items ≡ in_order (map (owned_text (plain_of view.now)) (in_flight view.now.sizes.tags (plain_of view.now)))) }
+    ensures { IfOk result (λ texts. texts_of texts.items ≡ in_order (map (owned_text (plain_of view.now)) (under_tags view.now.sizes.tags (plain_of view.now)))) }
 {
     let mut texts = Vec::new(alloc);
     for tag in (0..view.tags()).rev() {
