@@ -1,5 +1,5 @@
 -- The sum CRC-32 of bytes, as zip, PNG and Ethernet have it (RFC 1952, section 8).
-use Rattle.std.specs.Prelude.{ℕ, ◌+◌, ◌-◌, ◌/◌, ◌%◌, ◌^◌, ◌==◌, Bool, true, false, List, [], ◌∷◌, bit_xor, if◌then◌else◌}
+use Rattle.std.specs.Prelude.{ℕ, zero, suc, ◌+◌, ◌-◌, ◌/◌, ◌%◌, ◌^◌, ◌==◌, Bool, true, false, List, [], ◌∷◌, bit_xor, if◌then◌else◌}
 use Rattle.std.specs.Fmt.{digit_glyph}
 
 -- the polynomial, its bits from the lowest up (RFC 1952)
@@ -18,14 +18,19 @@ shifted sum = if sum % 2 == 1 then bit_xor polynomial (sum / 2) else sum / 2
 abbrev pub entry : ℕ → ℕ
 entry byte = shifted (shifted (shifted (shifted (shifted (shifted (shifted (shifted byte)))))))
 
--- numbers are what each byte brings in, from one on
-abbrev pub are_entries : ℕ → List ℕ → Bool
-are_entries from [] = true
-are_entries from (number ∷ numbers) = if number == entry from then are_entries (from + 1) numbers else false
-
 -- a sum with one byte more (RFC 1952)
 abbrev pub with_byte : ℕ → ℕ → ℕ
 with_byte sum byte = bit_xor (entry (bit_xor sum byte % 256)) (sum / 256)
+
+-- what a byte brings in if so many zeros follow it
+abbrev pub entry_before : ℕ → ℕ → ℕ
+entry_before zero byte = entry byte
+entry_before (suc behind) byte = with_byte (entry_before behind byte) 0
+
+-- numbers are what each byte brings in before so many zeros, from one byte on
+abbrev pub are_entries : ℕ → ℕ → List ℕ → Bool
+are_entries behind from [] = true
+are_entries behind from (number ∷ numbers) = if number == entry_before behind from then are_entries behind (from + 1) numbers else false
 
 -- a sum with these bytes more, one after the other (RFC 1952)
 abbrev pub with_bytes : ℕ → List ℕ → ℕ
