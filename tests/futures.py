@@ -14,6 +14,7 @@ from collections import namedtuple
 
 from futures_by_copies import Bounds, counted
 from futures_keys import SCRIPTS, key_faults
+from futures_records import record_runs
 from futures_rows import NONE, ROWS, apart
 from own_rule import variation
 from state_pairs import ONE_SUM
@@ -340,6 +341,8 @@ def runs_of(program, is_all):
     yield "futures: one write twice", lambda: case_faults(program, Case("", TWICE, (), [], Bounds(0, 0, False)))
     for it in OPENINGS:
         yield f"futures: from {it.name}", lambda it=it: opening_faults(program, it)
+    for name, run in record_runs(program, is_all):
+        yield f"futures: from a record, {name}", run
     yield "futures: the toy writer", lambda: [*toy_faults(program)]
     yield "futures: bytes of one sum", lambda: one_sum_faults(program)
     yield "futures: checks as jobs", lambda: [*jobs_faults(program)]
