@@ -1,4 +1,4 @@
-"""Runs of the programs that measure, as rt ci builds them, and of bench/record.py: what they print is compared, and not their time.
+"""Runs of the programs that measure, as rt ci builds them, and of bench/record.py and bench/futures.py: what they print is compared, and not their time.
 
 The scripts of tests/rings are played on the seats of a host by the program of crates/ring_bench. What each must print was written by hand
 from the rules of turns and seats; that of calls-of-three-seats, which has 2,700 lines, was made by a plain program of the same rules,
@@ -146,6 +146,25 @@ def record_runs():
         yield "bench/record.py", [str(fault)]
 
 
+def short_futures():
+    """bench/futures.py with one round of a search whose counts tests/futures.py knows: both readers find them, and each figure is there."""
+    words = [sys.executable, os.path.join(TOP, "bench", "futures.py"), "--rounds", "1", "--program", builds("bfqhost")[0][0]]
+    ran = subprocess.run([*words, "none"], stdin=subprocess.DEVNULL, capture_output=True, text=True, timeout=SECONDS, check=False)
+    same("the line", (re.sub(r"[\d,]+(?= by| written)", "N", ran.stdout), ran.stderr, ran.returncode), (
+        "none: 547 states 1,250 edges 24 contents; edges a second: N by 2 looks, N by 7 single looks, N written blindly\n", "", 0))
+    refused = subprocess.run([*words, "nome"], stdin=subprocess.DEVNULL, capture_output=True, text=True, timeout=SECONDS, check=False)
+    same("a case that is none", (refused.stdout, refused.returncode, refused.stderr[:25]), ("", 1, "bench: the cases are 'bfq"))
+
+
+def futures_bench_runs():
+    """The script that measures searches."""
+    try:
+        short_futures()
+        yield "bench/futures.py", []
+    except (OSError, ValueError, Wrong, subprocess.SubprocessError) as fault:
+        yield "bench/futures.py", [str(fault)]
+
+
 def bench_runs():
     """Each run of each build, with its faults."""
     files = {extension: {name for name, it in map(os.path.splitext, os.listdir(RINGS)) if it == extension} for extension in (".script", ".expected")}
@@ -156,3 +175,4 @@ def bench_runs():
             yield f"{name}{which}", faults_of(path, words, stdin, wanted)
     yield from floor_runs()
     yield from record_runs()
+    yield from futures_bench_runs()

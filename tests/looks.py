@@ -59,7 +59,7 @@ class Asked:
         steps = [f"show step {number}" for number in range(1, length + 1)]
         trees = self.ask(*(f"show tree {group}" for group in range(GROUPS)))
         vtimes = [f"vtime {group} {name}" for group, tree in enumerate(trees) if not tree.endswith(" none") for name in ("rt", "idle")]
-        shown = self.ask(*seats, "show requeued", "show flight", "show service", *vtimes, *self.runs())
+        shown = self.ask(*seats, "show requeued", "show flight", "show service", "show state", *vtimes, *self.runs())
         host = self.ask("show host")[0].split(" ")
         return [*trees, *shown, f"{host[1]} {host[2]} {host[4]}"], self.ask(*steps)
 

@@ -51,7 +51,7 @@ CHANGES = [
     ("a front merge first", "model.py", "unless(back or front or", "back = None if front else back\n        unless(back or front or"),
     ("a request of 255 sectors at most", "model.py", "it.count + count <= MOST_OF_REQUEST", "it.count + count < MOST_OF_REQUEST"),
     ("a discard joins a write", "model.py", "it.operation == operation and", '(it.operation == "fetch") == (operation == "fetch") and'),
-    ("what is discarded has a byte", "model.py", '"discard", *words, 0', '"discard", *words, 1'),
+    ("what is discarded has a byte", "model.py", "bytes([bio.byte or 0])", "bytes([1 if bio.byte is None else bio.byte])"),
     ("the last one given back goes first", "model.py", "self.returned.pop(0)", "self.returned.pop()"),
     ("the greatest tag", "model.py", "tag = min(", "tag = max("),
     ("a switch keeps budgets", "model.py", "self.limits.first_budget if it.entity < SEATS else it.budget", "it.budget"),

@@ -147,8 +147,8 @@ BAD = [
     ("until issued seat 256", "SEAT is at most 255: '256'"), ("until serial 01", "SERIAL has a 0 before its number: '01'"),
     ("until serial 1 2", "a word too many: '2'"), ("until dispatch = done", "no look stands before =: 'dispatch'"),
     ("since  = done", "a space too many: before the first word"), ("until line = ", "a space too many: after the last word"),
-    ("until show = 1", "too few words: after 'show' comes flight or host or outbox or queue or requeued or seat or service or step or "
-     "stored or tree"),
+    ("until show = 1", "too few words: after 'show' comes flight or host or outbox or queue or requeued or seat or service or "
+     "state or step or stored or tree"),
     ("until sector x = y", "NUMBER is no number: 'x'"),
 ]
 

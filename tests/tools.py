@@ -198,7 +198,7 @@ BAD_ROWS = [
         ("an unknown outcome", "finish 0 1 lost", "an unknown word: 'lost'"),
         ("an unknown scheduler", "switch cfq", "an unknown word: 'cfq'"),
         ("show alone", "show", "too few words: after 'show' comes flight or host or outbox or queue or requeued or seat or service or "
-         "step or stored or tree"),
+         "state or step or stored or tree"),
         ("show and another word", "show all", "an unknown word: 'all'"),
         ("show with too few words", "show seat", "too few words: after 'seat' comes SEAT"),
         ("show with too many words", "show host 1", "a word too many: '1'"),

@@ -10,6 +10,7 @@ left out are closed over in contents alone.
 """
 
 import collections
+import gc
 import re
 import time
 
@@ -242,11 +243,15 @@ class Search:
     def run(self, bounds, ways, progress):
         """Goes through all states within bounds. Gives by what it was cut, or None if it is complete."""
         self.ways, self.bounds = ways, bounds
-        with Live(self.opening, self.reader.names) as self.live:
-            try:
+        # Nothing of a search is a circle, and its states are looked through again and again for one.
+        gc.disable()
+        try:
+            with Live(self.opening, self.reader.names) as self.live:
                 return self.go_through(self.first(), progress)
-            except Cut as cut:
-                return str(cut)
+        except Cut as cut:
+            return str(cut)
+        finally:
+            gc.enable()
 
     def first(self):
         """The state where the opening ends."""

@@ -130,8 +130,8 @@ def request_of(text):
 
 @functools.lru_cache(MOST_KEPT)
 def shifted(tree):
-    """A group, its parent and its members, with times told from that of their class. The finish of an idle one counts while it is ahead, and
-    its start never."""
+    """A group, its parent and its members as a text, with times told from that of their class. The finish of an idle one counts while it is
+    ahead, and its start never. A text, unlike a tuple, knows its hash."""
     group, parent, *rest = tree.split(" ")
     vtimes = dict(zip(CLASSES, map(int, rest)))
     found = [group, parent]
@@ -139,6 +139,6 @@ def shifted(tree):
         entity, state, start, finish, weight, pending, budget, *class_name = item.split(":")
         vtime = vtimes[class_name[0] if class_name else BEST_EFFORT]
         ahead = int(finish) - vtime
-        times = (None, max(ahead, 0)) if state == "idle" else (int(start) - vtime, ahead)
-        found.append((entity, state, *times, weight, pending, budget, *class_name))
-    return tuple(found)
+        times = max(ahead, 0) if state == "idle" else f"{int(start) - vtime}:{ahead}"
+        found.append(f"{entity}:{state}:{times}:{weight}:{pending}:{budget}:{class_name}")
+    return " ".join(found)

@@ -125,7 +125,7 @@ class Host:
 
     def ask_all(self, lines: Sequence[str]) -> List[str]:
         """The answers to lines that are written together, of at most 4,096 bytes."""
-        text = ("\n".join(lines) + "\n").encode(errors="surrogateescape")
+        text = "\n".join([*lines, ""]).encode(errors="surrogateescape")
         assert len(lines) == 1 or len(text) <= TOGETHER
         try:
             os.write(self.stdin.fileno(), text)
@@ -137,7 +137,8 @@ class Host:
         text = b"".join(told)
         if len(told) == len(lines) and text.endswith(b"\n") and BAD_LINE not in text:
             return text.decode(errors="replace").split("\n")[:-1]
-        return [self.judged(line, answer) for line, answer in itertools.zip_longest(lines, told, fillvalue=b"")]
+        told += [b""] * (len(lines) - len(told))
+        return [self.judged(line, answer) for line, answer in zip(lines, told)]
 
     def ask_many(self, lines: Sequence[str]) -> List[str]:
         """The answers to any number of lines, as `ask_each` gives them. It is the quicker of both."""
