@@ -28,6 +28,7 @@ sys.dont_write_bytecode = True
 from sim import PROGRAM, TOP, show  # noqa: E402
 
 sys.path.insert(0, os.path.join(TOP, "tools"))
+import future_search  # noqa: E402
 from driving import with_usual  # noqa: E402
 from future_clients import Opening, read_clients  # noqa: E402
 from future_contents import Contents, Ways  # noqa: E402
@@ -100,7 +101,6 @@ def searched(case, program, reader_of, folder):
 
 def lines_of(case, program, folder):
     """The lines that a search by `show state` asks of each host."""
-    import future_search  # pylint: disable=import-outside-toplevel
     Noting.asked_all = []
     future_search.Live = Noting
     try:

@@ -12,7 +12,6 @@ A tool ends with one of these statuses. It never shows a trace of Python.
 from __future__ import annotations
 
 import argparse
-import bisect
 import contextlib
 import io
 import itertools
@@ -143,12 +142,10 @@ class Host:
     def ask_many(self, lines: Sequence[str]) -> List[str]:
         """The answers to any number of lines, as `ask_each` gives them. It is the quicker of both."""
         answers: List[str] = []
-        ends = [*itertools.accumulate(len(line) + 1 for line in lines)]
-        while len(answers) < len(lines):
-            begin = len(answers)
-            # A line that is longer than may be written together is written alone.
-            end = bisect.bisect_right(ends, TOGETHER + (ends[begin - 1] if begin else 0), begin)
-            answers += self.ask_all(lines[begin:max(end, begin + 1)])
+        # As many as may be written together if each were as long as the longest.
+        count = max(1, TOGETHER // (max(map(len, lines), default=0) + 1))
+        for begin in range(0, len(lines), count):
+            answers += self.ask_all(lines[begin:begin + count])
         return answers
 
     def ask_each(self, lines: Iterable[str]) -> Iterator[str]:
