@@ -96,6 +96,8 @@ OPENINGS = [
             "attach 2 0 4\nwrite 2 1 8 1 6\ndispatch\n", "seat 2\nwrite 8 1 1\nwrite 9 1 2\n"),
     Opening("groups and classes", "group 0 300\nattach 1 1 4 rt\nattach 0 0 4 idle\n", "group 0 300\nattach 1 1 4 rt\nattach 0 0 4 idle\n",
             "seat 0\nwrite 0 1 1\nwrite 10 1 2\nseat 1\nwrite 20 1 3\n"),
+    Opening("somebody who has left", "attach 0 0 4\nattach 1 0 4\nwrite 0 1 0 1 1\ndispatch\nleave 0\n",
+            "attach 0 0 4\nattach 1 0 4\nwrite 0 1 0 1 1\ndispatch\nleave 0\n", "seat 1\nwrite 0 1 2\nwrite 8 1 3\n"),
     Opening("a frozen host", "attach 0 0 4\nwrite 0 1 5 1 9\nfreeze\n", "attach 0 0 4\nwrite 0 1 5 1 9\nfreeze\n", "seat 0\nwrite 0 1 1\n"),
 ]
 

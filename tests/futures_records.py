@@ -10,6 +10,7 @@ import random
 import shlex
 import subprocess
 import tempfile
+from typing import NamedTuple
 
 from futures_rows import futures
 from record_file import SECTOR, read_record
@@ -18,12 +19,23 @@ from tools import BAD_INPUT, DONE, NOT_WANTED, NO_PROGRAM, SECONDS, TOOLS, diffe
 
 from host import Host  # tools.py has made the path to it
 
-HEADER = "bfqhost record 1 {} 64 {} 1024 4096 8 65536 0 64\n"
+HEADER = "bfqhost record 1 {} {} {} 1024 4096 8 65536 0 64\n"
 OPERATOR, CORE, DEVICE = 0x80, 0xc0, 0x40
 # Kinds of entries, and how long their numbers are.
 OF_CLIENTS = {"read": (0x02, (8, 8, 2)), "write": (0x03, (8, 8, 2)), "discard": (0x06, (8, 8, 2)), "reap": (0x04, (8,)), "leave": (0x05, ())}
 OF_OPERATOR = {"group": (0x11, (1, 2)), "freeze": (0x14, ()), "hold": (0x18, ()), "release": (0x19, ()), "undo": (0x1a, (4,)), "redo": (0x1b, (4,))}
 CLASSES = {"rt": 1, "idle": 3}
+
+
+class Of(NamedTuple):
+    """What a host is that is recorded."""
+    scheduler: str = "bfq"
+    room: int = 64
+    tags: int = 4
+
+    def options(self):
+        """The same as options of sim."""
+        return ["--scheduler", self.scheduler, "--nr-requests", str(self.room), "--tags", str(self.tags), "--sectors", "64"]
 
 
 def body_of(line, payload, counts):
@@ -57,16 +69,15 @@ def record_of(*given):
     return recorded(*given)[0]
 
 
-def recorded(program, lines, scheduler, tags, payload):
+def recorded(program, lines, host, payload):
     """The bytes of a record of a script, each of whose lines the program must take, and the answers."""
     with tempfile.TemporaryDirectory() as folder:
-        options = ["--scheduler", scheduler, "--tags", str(tags), "--sectors", "64", "--payload", written(folder, "payload", payload)]
-        with Host(program, options) as host:
-            answers = [host.ask(line) for line in lines]
+        with Host(program, [*host.options(), "--payload", written(folder, "payload", payload)]) as run:
+            answers = [run.ask(line) for line in lines]
     assert not [it for it in answers if it.startswith(("refused", "notyet"))], answers
     counts = {words[2]: int(words[5]) for words in (it.split(" ") for it in answers) if words[0] == "issued"}
     bodies = [body_of(line, payload, counts) for line in lines]
-    data = HEADER.format(scheduler, tags).encode() + b"".join(len(body).to_bytes(4, "big") + body for body in bodies)
+    data = HEADER.format(*host).encode() + b"".join(len(body).to_bytes(4, "big") + body for body in bodies)
     _, entries, is_torn = read_record(data)
     assert not is_torn and [it.call.split(" ")[:5] for it in entries] == [line.split(" ")[:5] for line in lines]
     return data, answers
@@ -82,16 +93,16 @@ LINES = ["attach 0 0 4", "attach 2 0 4 rt", "write 0 1 5 2 @0", "write 0 1 20 1 
          "dispatch", "dispatch", "finish 0 9 stored", "write 0 1 30 2 @4", "hold", "undo 2", "release", "discard 0 1 20 1", "dispatch",
          "finish 0 9 stored", "dispatch", "leave 2", "reap 0 1", "finish 1 10 stored", "finish 2 14 fill 3", "finish 0 16 stored",
          "attach 3 0 4 idle"]
-# Before these the host is held.
-HELD = (14, 15)
-CLIENTS = "seat 0\nsync\nwrite 6 1 @1\nseat 1\ndiscard 5 1\n"
-# One that waits for all it is owed.
-ONE_CLIENT = "seat 0\nsync\nwrite 6 1 @1\n"
-# Two writes whose bytes have one sum.
+# Before these the host is held. Of the others some are tried each time.
+HELD, SOME = (14, 15), (0, 1, 4, 9, 12, 18, 22, len(LINES))
+# One waits for all that it is owed, and one comes.
+CLIENTS = "seat 0\nsync\nwrite 6 1 @1\nseat 1\n"
+# Two writes whose bytes have one sum. A client has the same.
 OF_ONE_SUM = ["attach 0 0 4", "write 0 1 0 1 @0", "write 0 1 0 1 @1", "dispatch"]
-# Two requests with one tag.
-OF_ONE_TAG = ["attach 0 0 4", "write 0 1 8 2 @3", "write 0 1 20 1 7", "dispatch"]
 CLIENTS_OF_ONE_SUM = "seat 0\nwrite 0 1 @0\nwrite 0 1 @1\n"
+# As many requests as there is room for, with one tag. A client has another one.
+FULL = ["attach 0 0 4", "write 0 1 8 2 @3", "write 0 1 20 1 7", "dispatch"]
+CLIENTS_OF_FULL = "seat 0\nwrite 6 1 @1\nsync\n"
 
 
 def ran(program, folder, words, tool="futures"):
@@ -127,10 +138,9 @@ def block_of(sign, place, at, entries, data, payload):
     return data[begin:begin + SECTOR]
 
 
-def alike_faults(program, lines, clients, payload, words, options=("bfq", 4), entries=()):
+def alike_faults(program, lines, clients, payload, words, entries, host=Of()):
     """From these entries, and from the end, a search is as one from the end of a script of the calls before."""
-    data, answers = recorded(program, lines, *options, payload)
-    of_sim = ["--scheduler", options[0], "--tags", str(options[1]), "--sectors", "64"]
+    data, answers = recorded(program, lines, host, payload)
     with tempfile.TemporaryDirectory() as folder:
         for name, text in (("run.rec", data), ("clients", clients), ("payload", payload)):
             written(folder, name, text)
@@ -139,7 +149,7 @@ def alike_faults(program, lines, clients, payload, words, options=("bfq", 4), en
             written(folder, "script", "".join(f"{line}\n" for line in script))
             head = ["clients", "--payload", "payload", *words, "--into"]
             by_record = ran(program, folder, [*head, f"record-{to}", "--record", "run.rec", "--", *([] if to is None else ["--to", str(to)])])
-            by_script = ran(program, folder, [*head, f"script-{to}", "--script", "script", "--", *of_sim])
+            by_script = ran(program, folder, [*head, f"script-{to}", "--script", "script", "--", *host.options()])
             # A way from a script begins with its lines.
             told = "".join(f"    {line} -> {answer}\n" for line, answer in zip(script, answers))
             yield from differences(f"from entry {to}", by_record, (by_script[0].replace(told, "") if told else by_script[0], "", DONE))
@@ -149,7 +159,7 @@ def alike_faults(program, lines, clients, payload, words, options=("bfq", 4), en
 
 def bytes_faults(program):
     """Without a payload the bytes of a record are told by its entries. Whatever is queued or in flight is stored as it stands there."""
-    data = record_of(program, LINES, "bfq", 4, PAYLOAD)
+    data = record_of(program, LINES, Of(), PAYLOAD)
     with tempfile.TemporaryDirectory() as folder:
         written(folder, "run.rec", data)
         written(folder, "clients", "seat 0\nsync\n")
@@ -170,7 +180,7 @@ def bytes_faults(program):
 
 def played_faults(program):
     """A failing way from an entry is the record to that entry, and then the lines: tools/expect, replay and tools/export play it."""
-    data, to = record_of(program, LINES, "bfq", 4, PAYLOAD), ["--", "--to", "13"]
+    data, to = record_of(program, LINES, Of(), PAYLOAD), ["--", "--to", "13"]
     with tempfile.TemporaryDirectory() as folder:
         for name, text in (("run.rec", data), ("disk.img", bytes(64 * SECTOR)), ("clients", "seat 0\nsync\n")):
             written(folder, name, text)
@@ -198,7 +208,7 @@ def played_faults(program):
 
 def refused(program):
     """What a search from a record refuses."""
-    record, held = record_of(program, LINES, "bfq", 4, PAYLOAD), record_of(program, LINES[:14], "bfq", 4, PAYLOAD)
+    record, held = record_of(program, LINES, Of(), PAYLOAD), record_of(program, LINES[:14], Of(), PAYLOAD)
 
     def row(name, words, stderr, data=record, status=BAD_INPUT, clients="seat 0\n", **files):
         return futures(f"from a record, {name}", ["--into", "out", "--record", "run.rec", *words], clients, stderr=stderr, status=status,
@@ -236,11 +246,11 @@ def record_runs(program, is_all):
     """The name of each run, with what gives its faults."""
     each = [it for it in range(len(LINES) + 1) if it not in HELD]
     alike = functools.partial(alike_faults, program)
-    yield "from each entry" if is_all else "from some entries", lambda: [*alike(LINES, CLIENTS, PAYLOAD, [], entries=each if is_all else [*each[::4], len(LINES)])]
-    yield "whole searches", lambda: [*alike(LINES, ONE_CLIENT, PAYLOAD, ["--all-states", "--requeues", "1"], entries=each if is_all else each[7:8])]
-    yield "one tag", lambda: [*alike(OF_ONE_TAG, CLIENTS, PAYLOAD, [], ("none", 1), range(len(OF_ONE_TAG) + 1))]
-    yield "the longest wait", lambda: [*alike(LINES, ONE_CLIENT, PAYLOAD, ["--wait"], entries=each if is_all else each[8:9])]
-    yield "bytes of one sum", lambda: [*alike(OF_ONE_SUM, CLIENTS_OF_ONE_SUM, b"".join(ONE_SUM), [], entries=range(5))]
+    yield "from entries", lambda: [*alike(LINES, CLIENTS, PAYLOAD, [], each if is_all else SOME)]
+    yield "whole searches", lambda: [*alike(LINES, CLIENTS, PAYLOAD, ["--all-states", "--requeues", "1"], each if is_all else SOME[3:4])]
+    yield "the longest wait", lambda: [*alike(LINES, CLIENTS, PAYLOAD, ["--wait"], each if is_all else SOME[3:4])]
+    yield "a full host", lambda: [*alike(FULL, CLIENTS_OF_FULL, PAYLOAD, [], range(len(FULL) + 1), Of("none", 2, 1))]
+    yield "bytes of one sum", lambda: [*alike(OF_ONE_SUM, CLIENTS_OF_ONE_SUM, b"".join(ONE_SUM), ["--all-states"], range(len(OF_ONE_SUM) + 1))]
     yield "its bytes", lambda: [*bytes_faults(program)]
     yield "a failure that is played", lambda: [*played_faults(program)]
     for run in refused(program):

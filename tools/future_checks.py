@@ -159,5 +159,6 @@ def played(opening, lines, contents=None, number=None):
     with opening.begun() as host:
         rows = [f"{line}{ARROW}{answer}" for line, answer in zip(lines, host.ask_each(lines))]
         if contents and contents.over_image(stored(host)) != contents.all[number]:
-            raise Ended(f"{opening.program} does not store what the search has found, if it is asked {lines[-1]!r} at last")
+            last = f", if it is asked {lines[-1]!r} at last" if lines else ""
+            raise Ended(f"{opening.program} does not store what the search has found{last}")
     return rows
