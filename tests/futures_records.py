@@ -206,6 +206,23 @@ def played_faults(program):
             yield from [] if one.read() == other.read() else ["tools/export writes another image"]
 
 
+def end_faults(program):
+    """A way from the end of a record names the entry, so that it is played from there also when the record has grown."""
+    data = record_of(program, LINES, Of(), PAYLOAD)
+    with tempfile.TemporaryDirectory() as folder:
+        for name, text in (("run.rec", data), ("disk.img", bytes(64 * SECTOR)), ("clients", "seat 0\nwrite 0 1 5\n")):
+            written(folder, name, text)
+        ran(program, folder, ["clients", "--record", "run.rec", "--image", "disk.img", "--check", "sh -c '! grep -q needle $0'", "--into", "passes"])
+        ran(program, folder, ["clients", "--record", "run.rec", "--image", "disk.img", "--check", "false", "--into", "out"])
+        yield from differences("what passes", os.listdir(os.path.join(folder, "passes")), ["contents.csv"])
+        written(folder, "run.rec", data + bytes([0, 0, 0, 2, OPERATOR, 0x14]))
+        with open(os.path.join(folder, "out", "fail-0002.script"), encoding="ascii") as file:
+            words = shlex.split(file.readline())[2:]
+        yield from differences("the entry", words[words.index("--to"):][:2], ["--to", str(len(LINES) + 1)])
+        # The discard that is queued is sent, and done.
+        yield from differences("tools/expect", ran(program, os.path.join(folder, "out"), words, "expect"), ("2 lines asked, 2 answers as wanted\n", "", DONE))
+
+
 def refused(program):
     """What a search from a record refuses."""
     record, held = record_of(program, LINES, Of(), PAYLOAD), record_of(program, LINES[:14], Of(), PAYLOAD)
@@ -253,5 +270,6 @@ def record_runs(program, is_all):
     yield "bytes of one sum", lambda: [*alike(OF_ONE_SUM, CLIENTS_OF_ONE_SUM, b"".join(ONE_SUM), ["--all-states"], range(len(OF_ONE_SUM) + 1))]
     yield "its bytes", lambda: [*bytes_faults(program)]
     yield "a failure that is played", lambda: [*played_faults(program)]
+    yield "a record that grows", lambda: [*end_faults(program)]
     for run in refused(program):
         yield run.name.removeprefix("futures: from a record, "), lambda run=run: faults_of(run, program)

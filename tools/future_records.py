@@ -36,14 +36,17 @@ class Record:
         self.options = options_of(path)
         if image is not None and image.length // SECTOR != int(self.options[-1]):
             raise BadInput(f"{image.path}: {image.length // SECTOR} sectors, and the host of {path} had {self.options[-1]}")
-        self.history = [] if HISTORY in given else [HISTORY, MOST_CALLS]
-        to = entry_of(given.get(TO))
-        self.entries = queued_in(path, program, to)
         self.bounds = bounds_of(path)
-        if to is not None and to >= len(self.bounds):
-            raise BadInput(f"{TO} {to}: {path} has {len(self.bounds) - 1} entries")
+        behind = len(self.bounds)
+        to = entry_of(given.get(TO, str(behind)))
+        self.entries = queued_in(path, program, to)
+        if TO in given and to >= behind:
+            raise BadInput(f"{TO} {to}: {path} has {behind - 1} entries")
         # How many entries are made.
-        self.count = len(self.bounds) - 1 if to is None else max(to - 1, 0)
+        self.count = max(to - 1, 0)
+        # What replay is told if nobody says otherwise. A host that still serves makes its record longer, and all must begin at one place.
+        usual = {HISTORY: MOST_CALLS, TO: str(behind)}
+        self.usual = [word for name, value in usual.items() if name not in given for word in (name, value)]
 
     def body(self, entry):
         """The body of the frame of an entry, counted from 1."""
@@ -88,16 +91,16 @@ def values_of(options):
 
 
 def entry_of(word):
-    """The number that a word has; None if there is none."""
-    if word is not None and (why := grammar.why_no_number("ENTRY", word)):
+    """The number of an entry."""
+    if why := grammar.why_no_number("ENTRY", word):
         raise BadInput(f"{TO}: {why}")
-    return None if word is None else int(word)
+    return int(word)
 
 
 def queued_in(path, program, to):
     """The entry of each bio that was queued before an entry, by its serial. All entries are judged by the program."""
     found = {}
-    with Host(program, ["--list", *([] if to is None else [TO, str(to)])], path) as host:
+    with Host(program, ["--list", TO, str(to)], path) as host:
         for row in host.stdout:
             call, _, answer = row.decode(errors="replace").rstrip("\n").rpartition(" -> ")
             if answer.startswith("queued "):
