@@ -138,17 +138,19 @@ def block_of(sign, place, at, entries, data, payload):
     return data[begin:begin + SECTOR]
 
 
-def alike_faults(program, lines, clients, payload, words, entries, host=Of()):
-    """From these entries, and from the end, a search is as one from the end of a script of the calls before."""
+def alike_faults(program, lines, clients, payload, words, entries, host=Of(), more=()):
+    """From these entries, and from the end, a search is as one from the end of a script of the calls before. Lines may go on from there."""
     data, answers = recorded(program, lines, host, payload)
     with tempfile.TemporaryDirectory() as folder:
         for name, text in (("run.rec", data), ("clients", clients), ("payload", payload)):
             written(folder, name, text)
         for to in [*entries, None]:
             script = lines[:max(to - 1, 0)] if to is not None else lines
-            written(folder, "script", "".join(f"{line}\n" for line in script))
+            written(folder, "script", "".join(f"{line}\n" for line in [*script, *more]))
+            written(folder, "more", "".join(f"{line}\n" for line in more))
             head = ["clients", "--payload", "payload", *words, "--into"]
-            by_record = ran(program, folder, [*head, f"record-{to}", "--record", "run.rec", "--", *([] if to is None else ["--to", str(to)])])
+            by_record = ran(program, folder, [*head, f"record-{to}", "--record", "run.rec", "--script", "more", "--",
+                                              *([] if to is None else ["--to", str(to)])])
             by_script = ran(program, folder, [*head, f"script-{to}", "--script", "script", "--", *host.options()])
             # A way from a script begins with its lines.
             told = "".join(f"    {line} -> {answer}\n" for line, answer in zip(script, answers))
@@ -266,6 +268,8 @@ def record_runs(program, is_all):
     yield "from entries", lambda: [*alike(LINES, CLIENTS, PAYLOAD, [], each if is_all else SOME)]
     yield "whole searches", lambda: [*alike(LINES, CLIENTS, PAYLOAD, ["--all-states", "--requeues", "1"], each if is_all else SOME[3:4])]
     yield "the longest wait", lambda: [*alike(LINES, CLIENTS, PAYLOAD, ["--wait"], each if is_all else SOME[3:4])]
+    # Both are of the record: what an undo brings back, and what it takes away.
+    yield "a script goes back", lambda: [*alike(LINES, CLIENTS, PAYLOAD, [], SOME[5:6], more=["hold", "undo 4", "release", "write 0 1 50 1 5"])]
     yield "a full host", lambda: [*alike(FULL, CLIENTS_OF_FULL, PAYLOAD, [], range(len(FULL) + 1), Of("none", 2, 1))]
     yield "bytes of one sum", lambda: [*alike(OF_ONE_SUM, CLIENTS_OF_ONE_SUM, b"".join(ONE_SUM), ["--all-states"], range(len(OF_ONE_SUM) + 1))]
     yield "its bytes", lambda: [*bytes_faults(program)]
