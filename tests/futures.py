@@ -14,6 +14,7 @@ from collections import namedtuple
 
 from futures_by_copies import Bounds, counted
 from futures_keys import SCRIPTS, key_faults
+from futures_records import record_runs
 from futures_rows import NONE, ROWS, apart
 from own_rule import variation
 from state_pairs import ONE_SUM
@@ -95,6 +96,8 @@ OPENINGS = [
             "attach 2 0 4\nwrite 2 1 8 1 6\ndispatch\n", "seat 2\nwrite 8 1 1\nwrite 9 1 2\n"),
     Opening("groups and classes", "group 0 300\nattach 1 1 4 rt\nattach 0 0 4 idle\n", "group 0 300\nattach 1 1 4 rt\nattach 0 0 4 idle\n",
             "seat 0\nwrite 0 1 1\nwrite 10 1 2\nseat 1\nwrite 20 1 3\n"),
+    Opening("somebody who has left", "attach 0 0 4\nattach 1 0 4\nwrite 0 1 0 1 1\ndispatch\nleave 0\n",
+            "attach 0 0 4\nattach 1 0 4\nwrite 0 1 0 1 1\ndispatch\nleave 0\n", "seat 1\nwrite 0 1 2\nwrite 8 1 3\n"),
     Opening("a frozen host", "attach 0 0 4\nwrite 0 1 5 1 9\nfreeze\n", "attach 0 0 4\nwrite 0 1 5 1 9\nfreeze\n", "seat 0\nwrite 0 1 1\n"),
 ]
 
@@ -340,6 +343,8 @@ def runs_of(program, is_all):
     yield "futures: one write twice", lambda: case_faults(program, Case("", TWICE, (), [], Bounds(0, 0, False)))
     for it in OPENINGS:
         yield f"futures: from {it.name}", lambda it=it: opening_faults(program, it)
+    for name, run in record_runs(program, is_all):
+        yield f"futures: from a record, {name}", run
     yield "futures: the toy writer", lambda: [*toy_faults(program)]
     yield "futures: bytes of one sum", lambda: one_sum_faults(program)
     yield "futures: checks as jobs", lambda: [*jobs_faults(program)]

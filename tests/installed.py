@@ -21,7 +21,7 @@ TOOLS = ["bfq-compare", "bfq-crashes", "bfq-expect", "bfq-export", "bfq-futures"
          "bfq-why"]
 PAGES = ["man1/bfqctl.1", "man1/bfqhost.1", "man5/bfqhost-script.5", "man7/bfqhost-protocol.7", "man7/bfqhost-serve.7"]
 # What the tools share.
-MODULES = ("dials disk_record drawn driving future_checks future_clients future_contents future_observers future_search future_states grammar host image "
+MODULES = ("dials disk_record drawn driving future_checks future_clients future_contents future_observers future_records future_search future_states grammar host image "
            "live live_stepper logs measured narrow payload reasons recorded room sentences shares shown stepper traced ways").split()
 # What must stand under PREFIX, but for the client's modules.
 FILES = {*(f"bin/{name}" for name in [*COMMANDS, *TOOLS]), "libexec/bfqhost/bfqhost", "libexec/bfqhost/bfqctl",

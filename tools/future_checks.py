@@ -12,8 +12,9 @@ import subprocess
 import tempfile
 import threading
 
-from grammar import MOST_BYTES
-from host import Ended, Host, told_with
+import payload
+from grammar import MOST_BYTES, SIGN
+from host import Ended, told_with
 from image import stored, write_new
 from measured import write_whole
 
@@ -102,9 +103,9 @@ class Folder:
         if self.path is not None:
             write_whole(os.path.join(self.path, name), data)
 
-    def write_script(self, name, rows, options):
-        """Writes a script with its answers, and how it is played."""
-        told = f"# tools/expect {name}.script -- {shlex.join(options)}"
+    def write_script(self, name, rows, words):
+        """Writes a script with its answers, and how it is played: the words that tools/expect is given behind it."""
+        told = f"# tools/expect {name}.script {shlex.join(words)}"
         rows = [told.encode(errors="surrogateescape")[:MOST_BYTES], *(row.encode(errors="surrogateescape") for row in rows)]
         self.write(f"{name}.script", b"".join(row + b"\n" for row in rows))
 
@@ -124,25 +125,40 @@ class Folder:
 
 def runs_of(content, places):
     """What is stored in a content: each run of sectors of one byte, as START+COUNT=BYTE, or of sectors that follow each other in the payload, as
-    START+COUNT@SECTOR. `places` has the first place of each block there."""
+    START+COUNT@SECTOR, or in a write of the record, as START+COUNT#ENTRY.SECTOR. `places` has the first place of each block: what stands before
+    its sector, and that."""
     found = []
     for sector, block in sorted(content.items()):
         # All bytes alike stand for themselves.
-        sign, value = ("=", block[0]) if block == block[:1] * len(block) else ("@", places[block])
-        step = 1 if sign == "@" else 0
+        sign, value = ("=", block[0]) if is_of_one_byte(block) else places[block]
+        step = 0 if sign == "=" else 1
         if found and found[-1][2] == sign and sector == found[-1][0] + found[-1][1] and value == found[-1][3] + step * found[-1][1]:
             found[-1][1] += 1
         else:
             found.append([sector, 1, sign, value])
-    return " ".join(f"{start}+{count}={value:02x}" if sign == "=" else f"{start}+{count}@{value}" for start, count, sign, value in found)
+    return " ".join(f"{start}+{count}={value:02x}" if sign == "=" else f"{start}+{count}{sign}{value}" for start, count, sign, value in found)
+
+
+def is_of_one_byte(block):
+    """Whether all bytes of a block are alike."""
+    return block == block[:1] * len(block)
+
+
+def places_of(contents, options, record):
+    """Where each block of some contents stands whose bytes are not alike: in the payload, or else in the record."""
+    places = {block: (SIGN, sector) for block, sector in payload.places_in(options).items()}
+    if record is not None:
+        places |= record.places_of({block for content in contents for block in content.values() if not is_of_one_byte(block)} - places.keys())
+    return places
 
 
 def played(opening, lines, contents=None, number=None):
     """The lines of an opening and those behind it, each with the answer that a new host gives. What it stores must be the content of this
     number, if one is given."""
     lines = [*opening.lines, *lines]
-    with Host(opening.program, opening.options) as host:
+    with opening.begun() as host:
         rows = [f"{line}{ARROW}{answer}" for line, answer in zip(lines, host.ask_each(lines))]
         if contents and contents.over_image(stored(host)) != contents.all[number]:
-            raise Ended(f"{opening.program} does not store what the search has found, if it is asked {lines[-1]!r} at last")
+            last = f", if it is asked {lines[-1]!r} at last" if lines else ""
+            raise Ended(f"{opening.program} does not store what the search has found{last}")
     return rows

@@ -1,4 +1,4 @@
-"""The clients of a search, what each of them calls in its order, and the script from whose end they go on."""
+"""The clients of a search, what each of them calls in its order, and the record and the script from whose end they go on."""
 
 import collections
 
@@ -122,10 +122,12 @@ def read_script(path):
 
 
 class Opening:
-    """What each host is asked before the search: a script, and who it has not brought comes."""
+    """What each host is asked before the search: a script, and who it has not brought comes. It may go on behind a record."""
 
-    def __init__(self, program, options, script, clients):
-        self.program, self.options = program, options
+    def __init__(self, program, options, script, clients, record=None):
+        self.program, self.options, self.record = program, options, record
+        # The options that say what the host is.
+        self.limits = options if record is None else [*record.options, *options]
         self.clients = clients
         size = size_of(options)
         for client in clients:
@@ -133,11 +135,43 @@ class Opening:
         self.lines, self.answers = [], []
         # How often the script met each refusal.
         self.refusals = collections.Counter()
-        with Host(program, options) as host:
+        # What each bio does, by its serial; and the issues of what was sent.
+        self.bios, self.issues = {}, []
+        with self.begun() as host:
             self.play(script, read_script(script) if script else [], host)
             self.bring(host)
             # What takes a serial was accepted.
             self.serial = int(host.ask("line").split(" ")[3])
+            self.name_asked()
+            if record is not None:
+                self.name_recorded(host)
+
+    def begun(self):
+        """A host that has taken no line yet."""
+        return Host(self.program, self.options, self.record and self.record.path)
+
+    def words(self):
+        """What a tool is given that has such a host."""
+        return [*([] if self.record is None else ["--record", self.record.path]), "--", *self.options]
+
+    def name_asked(self):
+        """What the lines have queued and sent."""
+        for line, answer in zip(self.lines, self.answers):
+            word, *words = answer.split(" ")
+            if word == "queued":
+                self.bios[words[0]] = act_of(line)
+            elif word == "issued":
+                self.issues.append(words[1])
+
+    def name_recorded(self, host):
+        """What the record has queued and sent, as far as it is neither done nor undone. The rest of a long record has no names."""
+        for look in ("show requeued", "show flight", *(f"show queue {seat}" for seat in range(SEATS))):
+            for item in [it for it in host.ask(look).split(" ") if ":" in it]:
+                if look == "show flight":
+                    self.issues.append(item.split(":")[1])
+                for serial in item.rpartition(":")[2].split(","):
+                    if serial not in self.bios:
+                        self.bios[serial] = self.record.act(serial)
 
     def ask(self, host, line):
         """A line that each host is asked."""
@@ -154,8 +188,10 @@ class Opening:
                 raise bad_line(path, number, fault.why) from None
             if grammar.is_refusal(answer):
                 self.refusals[answer] += 1
-        if lines and host.ask("show host").split(" ")[3] == "held":
-            raise bad_line(path, lines[-1][0], "the script ends here, and the host is held, so that it takes no step")
+        if (lines or self.record) and host.ask("show host").split(" ")[3] == "held":
+            if lines:
+                raise bad_line(path, lines[-1][0], "the script ends here, and the host is held, so that it takes no step")
+            raise BadInput(f"{self.record.name}: behind entry {self.record.count} the host is held, so that it takes no step")
 
     def bring(self, host):
         """Clients that the script has not brought come, and each looks at what it is to call."""
@@ -171,7 +207,7 @@ class Opening:
 
     def host(self):
         """A host that has taken the opening."""
-        host = Host(self.program, self.options)
+        host = self.begun()
         answers = list(host.ask_each(self.lines))
         if answers != self.answers:
             line, first, now = next(it for it in zip(self.lines, self.answers, answers) if it[1] != it[2])

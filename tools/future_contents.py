@@ -7,8 +7,8 @@ if nothing were stored.
 import os
 import zlib
 
+import future_records
 import payload
-from future_clients import act_of
 from grammar import SIGN
 from host import told_with
 from image import SECTOR
@@ -19,14 +19,16 @@ ZEROS = bytes(SECTOR)
 class Contents:
     """All contents so far. What a write or a discard stores is told by the name of its bio."""
 
-    def __init__(self, image, stored, options=()):
-        self.image, self.options = image, options
+    def __init__(self, image, stored, options=(), record=None):
+        self.image, self.options, self.record = image, options, record
         # Of each content what is stored where the image has something else, and its number.
         self.all, self.numbers = [], {}
         # What each of them stores: sectors with their blocks, which are None if the image has these bytes.
         self.writes = {}
         # The bytes of each sum that one of them has; and whether others have this sum, too, so that it does not tell them apart.
         self.of_sums, self.has_one_sum = {}, False
+        # What stores the same as others, by its word, its sectors and its bytes.
+        self.same = {}
         self.after = {}
         self.first = self.number(self.over_image(stored))
 
@@ -50,27 +52,32 @@ class Contents:
 
     def name_all(self, names, opening):
         """Names what each write and each discard of the opening and of the clients stores."""
-        for line, answer in zip(opening.lines, opening.answers):
-            if answer.startswith("queued ") and line.startswith(("write ", "discard ")):
-                act = act_of(line)
-                self.name(names.of(act, int(answer.split(" ")[1])), *act[1:])
+        for serial, act in opening.bios.items():
+            self.name(names, act, int(serial))
         for number, client in enumerate(opening.clients):
             for place, item in enumerate(client.items):
-                if item.word in ("write", "discard"):
-                    act = item.act()
-                    self.name(names.of(act, (number, place)), *act[1:])
+                self.name(names, item.act(), (number, place))
 
-    def name(self, name, start, count, byte="0"):
-        """That the bio of this name stores this byte in so many sectors, or what stands in the payload from a sector on. A discard has
-        none, and stores zeros."""
-        start, count = int(start), int(count)
-        if byte.startswith(SIGN):
-            blocks = [payload.block_at(self.options, int(byte.removeprefix(SIGN)) + at) for at in range(count)]
-        else:
-            blocks = [bytes([int(byte)]) * SECTOR] * count
+    def name(self, names, act, place):
+        """Names what a write or a discard stores, by what it does and where it comes from. Bytes are the same wherever they stand."""
+        if act[0] not in ("write", "discard"):
+            return
+        word, start, count, *source = act
+        blocks = self.blocks(int(count), *source)
         data = b"".join(blocks)
         self.has_one_sum |= self.of_sums.setdefault(zlib.crc32(data), data) != data
-        self.writes[name] = [(sector, None if block == self.of_image(sector) else block) for sector, block in enumerate(blocks, start)]
+        names.same[act] = self.same.setdefault((word, start, count, data), act)
+        self.writes[names.of(act, place)] = [(sector, None if block == self.of_image(sector) else block)
+                                             for sector, block in enumerate(blocks, int(start))]
+
+    def blocks(self, count, source="0"):
+        """So many blocks of a byte, or those that stand in the payload from a sector on, or those of an entry of the record. A discard
+        has none, and stores zeros."""
+        if source.startswith(SIGN):
+            return [payload.block_at(self.options, int(source.removeprefix(SIGN)) + at) for at in range(count)]
+        if source.startswith(future_records.SIGN):
+            return self.record.blocks(source)
+        return [bytes([int(source)]) * SECTOR] * count
 
     def stored(self, before, bios):
         """The content that comes of another one when a request is stored."""

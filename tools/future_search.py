@@ -15,7 +15,7 @@ import re
 import time
 
 import grammar
-from future_clients import REAP, act_of
+from future_clients import REAP
 from future_states import request_of
 from host import Ended
 from reasons import limits_of
@@ -114,12 +114,10 @@ class Live:
         # How many steps it will go back before it takes another one.
         self.behind = 0
         self.names.forget()
-        for line, answer in zip(self.opening.lines, self.opening.answers):
-            word, *words = answer.split(" ")
-            if word == "queued":
-                self.names.bios[words[0]] = self.names.of(act_of(line), int(words[0]))
-            elif word == "issued":
-                self.names.issues[words[1]] = -int(words[1])
+        for serial, act in self.opening.bios.items():
+            self.names.bios[serial] = self.names.of(act, int(serial))
+        for issue in self.opening.issues:
+            self.names.issues[issue] = -int(issue)
 
     def end(self, *fault):
         """The host ends, and well if nothing was wrong so far."""
@@ -192,8 +190,8 @@ class Search:
     def __init__(self, opening, reader, contents, given, observer=None):
         self.opening, self.reader, self.contents, self.given, self.observer = opening, reader, contents, given, observer
         self.clients = opening.clients
-        self.tags = limits_of(opening.options)["--tags"]
-        self.room = value_of(opening.options, "--nr-requests", NR_REQUESTS)
+        self.tags = limits_of(opening.limits)["--tags"]
+        self.room = value_of(opening.limits, "--nr-requests", NR_REQUESTS)
         self.outcomes = [FILLED, *FAULTS] if given.faults else [FILLED]
         self.places = [reader.seats.index(str(client.seat)) for client in self.clients]
         self.keys = set()

@@ -35,11 +35,14 @@ class Names:
     def __init__(self, has_each_its_own):
         self.has_each_its_own = has_each_its_own
         self.numbers = {}
+        # What does the same as something else, with that.
+        self.same = {}
         # Of the host that is asked: the names of bios, and of issues, by their serials.
         self.bios, self.issues = {}, {}
 
     def of(self, io, place):
         """The name of a bio, by what it does and where it comes from."""
+        io = self.same.get(io, io)
         return self.numbers.setdefault((io, place) if self.has_each_its_own else io, len(self.numbers))
 
     def forget(self):
@@ -99,7 +102,12 @@ class Reader:
         view.returned = returned.split()
         view.has_service = not rest.partition(SERVICE)[2].startswith("none")
         view.queues, view.outboxes = [], []
-        for seat in seats.split(" seat ")[1:]:
+        told = [seat.partition(" ") for seat in seats.split(" seat ")[1:]]
+        if len(told) < len(self.seats):
+            # Whoever had left has no request any more, and is gone. The others keep their places.
+            left = {seat: rest for seat, _, rest in told}
+            told = [(seat, "", left.get(seat, "")) for seat in self.seats]
+        for _, _, seat in told:
             queue, _, outbox = seat.partition(" queue")[2].partition(" outbox")
             view.queues.append(queue.split())
             view.outboxes.append(outbox.split())

@@ -16,7 +16,7 @@ MOST_LINES = 1_048_576
 BITS = {"SEAT": 8, "GROUP": 8, "PARENT": 8, "PRIO": 8, "TAG": 8, "BYTE": 8, "N": 8, "COUNT": 16, "WEIGHT": 16, "K": 32,
         "SESSION": 64, "ISSUE": 64, "START": 64, "NUMBER": 64, "FROM": 64, "SECTOR": 64}
 # What stands in words of the tools alone.
-BITS_OF_TOOLS = {"SERIAL": 64}
+BITS_OF_TOOLS = {"SERIAL": 64, "ENTRY": 64}
 # The classes, the first to be served first.
 CLASSES = ("rt", "be", "idle")
 CHOICES = {"CLASS": CLASSES}
