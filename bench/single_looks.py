@@ -21,6 +21,7 @@ class SingleLooks(Reader):
         self.trees = {group: tree for group, tree in trees.items() if tree and tree.members}
         self.lines = ["show flight", "show requeued", *itertools.chain.from_iterable(
             (f"show queue {seat}", f"show outbox {seat}") for seat in self.seats), *self.of_scheduler()]
+        self.first_lines = self.lines
 
     def of_scheduler(self):
         """The looks at what the scheduler knows."""

@@ -49,28 +49,35 @@ class Contents:
         return found
 
     def name_all(self, names, opening):
-        """Names what each write and each discard of the opening and of the clients stores."""
+        """Names what each write and each discard of the opening and of the clients stores, also by how a line spells it. What is spelled alike
+        stores the same bytes, unless `has_one_sum` says otherwise."""
         for line, answer in zip(opening.lines, opening.answers):
             if answer.startswith("queued ") and line.startswith(("write ", "discard ")):
                 act = act_of(line)
-                self.name(names.of(act, int(answer.split(" ")[1])), *act[1:])
+                name = names.of(act, int(answer.split(" ")[1]))
+                names.spelled[self.name(name, *act[1:])] = name
         for number, client in enumerate(opening.clients):
             for place, item in enumerate(client.items):
                 if item.word in ("write", "discard"):
                     act = item.act()
-                    self.name(names.of(act, (number, place)), *act[1:])
+                    name = names.of(act, (number, place))
+                    names.spelled[self.name(name, *act[1:])] = name
 
-    def name(self, name, start, count, byte="0"):
+    def name(self, name, start, count, byte=None):
         """That the bio of this name stores this byte in so many sectors, or what stands in the payload from a sector on. A discard has
-        none, and stores zeros."""
+        none, and stores zeros. Gives how the line of a host spells it."""
         start, count = int(start), int(count)
-        if byte.startswith(SIGN):
+        if byte is None:
+            blocks = [ZEROS] * count
+        elif byte.startswith(SIGN):
             blocks = [payload.block_at(self.options, int(byte.removeprefix(SIGN)) + at) for at in range(count)]
         else:
             blocks = [bytes([int(byte)]) * SECTOR] * count
         data = b"".join(blocks)
-        self.has_one_sum |= self.of_sums.setdefault(zlib.crc32(data), data) != data
+        crc = zlib.crc32(data)
+        self.has_one_sum |= self.of_sums.setdefault(crc, data) != data
         self.writes[name] = [(sector, None if block == self.of_image(sector) else block) for sector, block in enumerate(blocks, start)]
+        return f"{start}+{count}" + ("" if byte is None else f"={crc:08x}")
 
     def stored(self, before, bios):
         """The content that comes of another one when a request is stored."""

@@ -257,7 +257,7 @@ class Search:
 
     def first(self):
         """The state where the opening ends."""
-        self.live.lines += self.reader.lines
+        self.live.lines += self.reader.first_lines
         node = Node(None, None, 0, self.reader.view(self.live.answers(), (0,) * len(self.clients), self.contents.first, (0, 0)))
         self.reader.take_apart(node.view)
         if self.observer:
@@ -293,11 +293,11 @@ class Search:
             self.edges += 1
             view = self.view(node.view, move, answers[at + 1:at + 1 + count])
             if self.observer:
-                self.reader.take_apart(view)
+                self.take_apart(view, node, move, answers[at])
                 self.observe(view, self.observer.step(Edge(node, move, answers[at], view)))
             if view.key not in self.keys:
                 self.bounds.look(self.states)
-                self.reader.take_apart(view)
+                self.take_apart(view, node, move, answers[at])
                 found.append(Node(node, move, node.depth + 1, view))
                 self.note(found[-1])
         for node in nodes:
@@ -318,6 +318,22 @@ class Search:
         elif isinstance(move, Tick):
             used = used[0], used[1] + 1
         return self.reader.view(looks, pcs, content, used)
+
+    def take_apart(self, view, node, move, answer):
+        """What decides which moves a state has. Where it is not asked what is in flight, that is known from the state before."""
+        self.reader.take_apart(view)
+        if view.flight is None:
+            view.flight = self.followed(view, node, move, answer)
+
+    def followed(self, view, node, move, answer):
+        """What is in flight after a move, by tag as `show flight` has it."""
+        before = node.view
+        if isinstance(move, Dispatch):
+            new = answer.split(" ")[1], node.depth, self.reader.sent(before, view)
+            return sorted([*before.flight, new], key=lambda it: int(it[0]))
+        if isinstance(move, (Finish, GiveBack)):
+            return [it for it in before.flight if it[0] != move.tag]
+        return before.flight
 
     @staticmethod
     def observe(view, seen):

@@ -1,9 +1,12 @@
-"""What a state is: the line of a host that has no names, and which tag bears which request.
+"""What a state is: the line of a host that has no names.
 
 Two states that differ in serials alone, or in which tag bears which request, go on alike. So the line `show state` is all that a state is, but
 for three things. What has become of a bio stands there, and not which one it was: nothing depends on that once it is in an outbox, nor on what a
 read found. Virtual times may be told from that of their class, on whose difference alone rules stand. And bytes are told by a sum. If
 bios of one sum store other bytes, or if each bio must have a name of its own, their names are a part of the state, too.
+
+Which tag bears which request is asked where a search begins. From there on the search follows it by what it did itself, unless names are asked
+anyway.
 """
 
 import functools
@@ -14,7 +17,7 @@ from shown import BEST_EFFORT
 
 # A bio in an outbox, before what has become of it; and the sum of what a read found.
 IN_OUTBOX, READ_SUM = re.compile(r" \d+\+\d+(?:=[0-9a-f]{8})?:"), re.compile(r"(?<=read)=[0-9a-f]{8}")
-REQUEUED, SERVICE, TREE = " requeued", " service ", " tree "
+REQUEUED, FLIGHT, SERVICE, TREE = " requeued", " flight", " service ", " tree "
 # So many groups with their members are kept as they were told.
 MOST_KEPT = 1 << 16
 
@@ -23,10 +26,12 @@ class View:
     """A state: how far each client is, what is stored, what the search has used up, and what the looks say. Its key is all of it that decides
     what can come of it. The rest is taken apart where somebody goes on from here."""
 
-    __slots__ = ("looks", "flight", "returned", "queues", "outboxes", "pcs", "content", "used", "seen", "has_service", "key")
+    __slots__ = ("looks", "in_flight", "flight", "returned", "queues", "outboxes", "pcs", "content", "used", "seen", "has_service", "key")
 
     def __init__(self, looks, pcs, content, used):
         self.looks, self.pcs, self.content, self.used, self.seen = looks, pcs, content, used, ()
+        # Each request in flight with its tag and its issue, once that is known.
+        self.flight = None
 
 
 class Names:
@@ -35,6 +40,8 @@ class Names:
     def __init__(self, has_each_its_own):
         self.has_each_its_own = has_each_its_own
         self.numbers = {}
+        # The names of bios that store something, by how the line spells them.
+        self.spelled = {}
         # Of the host that is asked: the names of bios, and of issues, by their serials.
         self.bios, self.issues = {}, {}
 
@@ -64,9 +71,14 @@ class Reader:
         _, self.scheduler, run, *_ = line.split(" ")
         self.is_frozen = run == "frozen"
         self.seats = [part.partition(" ")[0] for part in line.partition(REQUEUED)[0].split(" seat ")[1:]]
-        self.lines = ["show state", "show flight"]
+        # What is asked where a search begins, and what behind each of its steps.
+        self.first_lines = self.lines = ["show state", "show flight"]
         if has_names:
             self.lines += ["show requeued", *(f"show queue {seat}" for seat in self.seats)]
+        else:
+            self.lines = self.lines[:1]
+        # The requests of the flight parts so far.
+        self.requests = {}
 
     def view(self, looks, pcs, content, used):
         """The state that looks tell, with how far each client is, what is stored, and what the search has used up."""
@@ -95,18 +107,35 @@ class Reader:
     def take_apart(self, view):
         """What decides which moves a state has."""
         seats, _, rest = view.looks[0].partition(REQUEUED)
-        returned, _, rest = rest.partition(" flight")
+        returned, _, rest = rest.partition(FLIGHT)
         view.returned = returned.split()
-        view.has_service = not rest.partition(SERVICE)[2].startswith("none")
+        view.in_flight, _, rest = rest.partition(SERVICE)
+        view.has_service = not rest.startswith("none")
         view.queues, view.outboxes = [], []
         for seat in seats.split(" seat ")[1:]:
             queue, _, outbox = seat.partition(" queue")[2].partition(" outbox")
             view.queues.append(queue.split())
             view.outboxes.append(outbox.split())
-        view.flight = []
-        for item in view.looks[1].split(" ")[1:]:
-            tag, issue, seat, operation, _ = item.split(":", 4)
-            view.flight.append((tag, self.names.issues[issue], (seat, operation, self.names.in_item(item))))
+        if len(view.looks) > 1:
+            view.flight = []
+            for item in view.looks[1].split(" ")[1:]:
+                tag, issue, seat, operation, _ = item.split(":", 4)
+                view.flight.append((tag, self.names.issues[issue], (seat, operation, self.names.in_item(item))))
+
+    def sent(self, before, after):
+        """The request that is in flight after a dispatch and was not before: its seat, its operation, and the names of the bios that it
+        stores. What a read is called decides nothing."""
+        before, after = before.in_flight.split(), after.in_flight.split()
+        # Both are in order, so the first that differs is new. The rest must be as it was.
+        place = next((place for place, item in enumerate(before) if item != after[place]), len(before))
+        item = after.pop(place)
+        if before != after:
+            raise ValueError(f"more than {item} has changed in flight")
+        if item not in self.requests:
+            seat, operation, bios = item.split(":")
+            names = () if operation == "fetch" else tuple(self.names.spelled[bio] for bio in bios.split(","))
+            self.requests[item] = seat, operation, names
+        return self.requests[item]
 
     def queued(self, view):
         """The names of all queued bios, which are known if names are a part of a state."""
