@@ -29,6 +29,7 @@ NR_REQUESTS = 64
 # What a device may answer to a read, and what it answers to all else.
 FILLED, FAULTS = "fill 0", ("short", "fault")
 STORED = "stored"
+DISPATCH = "dispatch"
 # Whether an answer is one to a step that was not made.
 IS_REFUSED = re.compile("refused |notyet ").match
 # What a queue calls what a client does.
@@ -81,18 +82,19 @@ class Node:
 
 def line_of(move, clients, serials):
     """A move as a line. An issue has the serial of its step."""
-    if isinstance(move, Call):
+    kind = type(move)
+    if kind is Call:
         client = clients[move.client]
         word, start, count, byte = client.items[move.place]
         if word == "reap":
             return f"reap {client.seat} {client.session}"
         return f"{word} {client.seat} {client.session} {start} {count}" + ("" if byte is None else f" {byte}")
-    if isinstance(move, Dispatch):
-        return "dispatch"
-    if isinstance(move, Tick):
+    if kind is Dispatch:
+        return DISPATCH
+    if kind is Tick:
         return "tick"
     issue = serials[move.issue] if move.issue >= 0 else -move.issue
-    return f"requeue {move.tag} {issue}" if isinstance(move, GiveBack) else f"finish {move.tag} {issue} {move.outcome}"
+    return f"requeue {move.tag} {issue}" if kind is GiveBack else f"finish {move.tag} {issue} {move.outcome}"
 
 
 class Live:
@@ -147,10 +149,11 @@ class Live:
             line, name = self.calls.get(move) or self.called(move)
             if name is not None:
                 self.names.bios[str(self.serial)] = name
+        elif kind is Dispatch:
+            line = DISPATCH
+            self.names.issues[str(self.serial)] = len(self.serials)
         else:
             line = line_of(move, self.opening.clients, self.serials)
-            if kind is Dispatch:
-                self.names.issues[str(self.serial)] = len(self.serials)
         self.lines.append(line)
         return place
 
@@ -281,14 +284,15 @@ class Search:
 
     def go_on(self, nodes):
         """The new states that come of some."""
-        jobs, found, count = [], [], len(self.reader.lines)
+        jobs, found, live, looks = [], [], self.live, self.reader.lines
+        count = len(looks)
         for node in nodes:
-            self.live.go_to(node)
+            live.go_to(node)
             for move in self.moves(node.view):
-                jobs.append((node, move, self.live.take(move)))
-                self.live.lines += self.reader.lines
-                self.live.behind = 1
-        answers = self.live.answers()
+                jobs.append((node, move, live.take(move)))
+                live.lines += looks
+                live.behind = 1
+        answers = live.answers()
         for node, move, at in jobs:
             self.edges += 1
             view = self.view(node.view, move, answers[at + 1:at + 1 + count])
@@ -308,14 +312,15 @@ class Search:
     def view(self, before, move, looks):
         """The state after a move."""
         pcs, content, used = before.pcs, before.content, before.used
-        if isinstance(move, Call):
+        kind = type(move)
+        if kind is Call:
             pcs = (*pcs[:move.client], pcs[move.client] + 1, *pcs[move.client + 1:])
-        elif isinstance(move, Finish) and move.outcome == STORED:
+        elif kind is Finish and move.outcome == STORED:
             bios = next(request[-1] for _, issue, request in before.flight if issue == move.issue)
             content = self.contents.stored(content, bios)
-        elif isinstance(move, GiveBack):
+        elif kind is GiveBack:
             used = used[0] + 1, used[1]
-        elif isinstance(move, Tick):
+        elif kind is Tick:
             used = used[0], used[1] + 1
         return self.reader.view(looks, pcs, content, used)
 

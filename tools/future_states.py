@@ -9,6 +9,7 @@ Which tag bears which request is asked where a search begins. From there on the 
 anyway.
 """
 
+import collections
 import functools
 import re
 
@@ -18,15 +19,18 @@ from shown import BEST_EFFORT
 # A bio in an outbox, before what has become of it; and the sum of what a read found.
 IN_OUTBOX, READ_SUM = re.compile(r" \d+\+\d+(?:=[0-9a-f]{8})?:"), re.compile(r"(?<=read)=[0-9a-f]{8}")
 REQUEUED, FLIGHT, SERVICE, TREE = " requeued", " flight", " service ", " tree "
-# So many groups with their members are kept as they were told.
-MOST_KEPT = 1 << 16
+# So many groups with their members are kept as they were told, and so many texts of all seats.
+MOST_KEPT, MOST_SEATS = 1 << 16, 1 << 12
+
+# The seats of a line: what of them is a part of a key; and of each its queued requests, and its completed bios.
+Seats = collections.namedtuple("Seats", "key queues outboxes")
 
 
 class View:
     """A state: how far each client is, what is stored, what the search has used up, and what the looks say. Its key is all of it that decides
     what can come of it. The rest is taken apart where somebody goes on from here."""
 
-    __slots__ = ("looks", "in_flight", "flight", "returned", "queues", "outboxes", "pcs", "content", "used", "seen", "has_service", "key")
+    __slots__ = ("looks", "seats", "rest", "in_flight", "flight", "returned", "queues", "outboxes", "pcs", "content", "used", "seen", "has_service", "key")
 
     def __init__(self, looks, pcs, content, used):
         self.looks, self.pcs, self.content, self.used, self.seen = looks, pcs, content, used, ()
@@ -83,7 +87,9 @@ class Reader:
     def view(self, looks, pcs, content, used):
         """The state that looks tell, with how far each client is, what is stored, and what the search has used up."""
         view = View(looks, pcs, content, used)
-        view.key = (pcs, content, used, *self.key_of(looks[0]))
+        seats, _, rest = looks[0].partition(REQUEUED)
+        view.seats, view.rest = seats_of(seats), rest
+        view.key = (pcs, content, used, view.seats.key, *self.key_of(rest))
         if self.has_names:
             self.take_apart(view)
             view.key += (tuple(sorted(request for _, _, request in view.flight)), tuple(map(self.named, looks[2:])))
@@ -93,29 +99,20 @@ class Reader:
         """The names of the bios of the dispatch list, or of a queue."""
         return tuple(self.names.in_item(item) for item in look.split(" ") if ":" in item)
 
-    def key_of(self, line):
-        """The parts of a key that a line has."""
-        seats, _, rest = line.partition(REQUEUED)
-        seats = IN_OUTBOX.sub(" ", seats)
-        if "read=" in seats:
-            seats = READ_SUM.sub("", seats)
+    def key_of(self, rest):
+        """The parts of a key that a line has behind its seats."""
         if self.is_whole or self.scheduler == "none":
-            return seats, rest
+            return (rest,)
         before, *trees = rest.split(TREE)
-        return (seats, before, *map(shifted, trees))
+        return (before, *map(shifted, trees))
 
     def take_apart(self, view):
         """What decides which moves a state has."""
-        seats, _, rest = view.looks[0].partition(REQUEUED)
-        returned, _, rest = rest.partition(FLIGHT)
+        returned, _, rest = view.rest.partition(FLIGHT)
         view.returned = returned.split()
         view.in_flight, _, rest = rest.partition(SERVICE)
         view.has_service = not rest.startswith("none")
-        view.queues, view.outboxes = [], []
-        for seat in seats.split(" seat ")[1:]:
-            queue, _, outbox = seat.partition(" queue")[2].partition(" outbox")
-            view.queues.append(queue.split())
-            view.outboxes.append(outbox.split())
+        _, view.queues, view.outboxes = view.seats
         if len(view.looks) > 1:
             view.flight = []
             for item in view.looks[1].split(" ")[1:]:
@@ -140,6 +137,17 @@ class Reader:
     def queued(self, view):
         """The names of all queued bios, which are known if names are a part of a state."""
         return [bio for look in view.looks[3:] for request in self.named(look) for bio in request]
+
+
+@functools.lru_cache(MOST_SEATS)
+def seats_of(text):
+    """The seats of a line."""
+    queues, outboxes = [], []
+    for seat in text.split(" seat ")[1:]:
+        queue, _, outbox = seat.partition(" queue")[2].partition(" outbox")
+        queues.append(queue.split())
+        outboxes.append(outbox.split())
+    return Seats(READ_SUM.sub("", IN_OUTBOX.sub(" ", text)), queues, outboxes)
 
 
 def request_of(text):
