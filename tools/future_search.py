@@ -198,7 +198,8 @@ class Search:
         self.tags = limits_of(opening.options)["--tags"]
         self.room = value_of(opening.options, "--nr-requests", NR_REQUESTS)
         self.outcomes = [FILLED, *FAULTS] if given.faults else [FILLED]
-        self.places = [reader.seats.index(str(client.seat)) for client in self.clients]
+        # The seat of each client as a look has it. A seat that is no client's may get free, when somebody who has left is gone.
+        self.places = [str(client.seat) for client in self.clients]
         self.keys = set()
         self.states = self.edges = self.depth = 0
 
@@ -206,7 +207,7 @@ class Search:
 
     def moves(self, view):
         """The moves from a state, of which the reductions leave some out."""
-        calls, is_waiting, count = [], False, len(view.flight) + len(view.returned) + sum(map(len, view.queues))
+        calls, is_waiting, count = [], False, len(view.flight) + len(view.returned) + sum(map(len, view.queues.values()))
         is_full = self.reader.is_frozen or count >= self.room
         for client, (place, pc) in enumerate(zip(self.places, view.pcs)):
             items = self.clients[client].items
@@ -218,7 +219,7 @@ class Search:
                     return calls[-1:]
             else:
                 is_waiting = True
-        has_more, has_tag = bool(view.returned) or any(view.queues), len(view.flight) < self.tags
+        has_more, has_tag = bool(view.returned) or any(view.queues.values()), len(view.flight) < self.tags
         found = [*calls, Dispatch()] if has_more and has_tag else calls
         if self.given.all_states or is_waiting or (has_more and not has_tag):
             found += self.finishes(view)

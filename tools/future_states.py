@@ -22,7 +22,7 @@ REQUEUED, FLIGHT, SERVICE, TREE = " requeued", " flight", " service ", " tree "
 # So many groups with their members are kept as they were told, and so many texts of all seats.
 MOST_KEPT, MOST_SEATS = 1 << 16, 1 << 12
 
-# The seats of a line: what of them is a part of a key; and of each its queued requests, and its completed bios.
+# The seats of a line: what of them is a part of a key; and of each that is taken its queued requests, and its completed bios.
 Seats = collections.namedtuple("Seats", "key queues outboxes")
 
 
@@ -75,12 +75,10 @@ class Reader:
         _, self.scheduler, run, *_ = line.split(" ")
         self.is_frozen = run == "frozen"
         self.seats = [part.partition(" ")[0] for part in line.partition(REQUEUED)[0].split(" seat ")[1:]]
-        # What is asked where a search begins, and what behind each of its steps.
-        self.first_lines = self.lines = ["show state", "show flight"]
+        # What is asked behind each step, and what where a search begins.
+        self.lines, self.first_lines = ["show state"], ["show state", "show flight"]
         if has_names:
-            self.lines += ["show requeued", *(f"show queue {seat}" for seat in self.seats)]
-        else:
-            self.lines = self.lines[:1]
+            self.lines = self.first_lines = [*self.first_lines, "show requeued", *(f"show queue {seat}" for seat in self.seats)]
         # The requests of the flight parts so far.
         self.requests = {}
 
@@ -142,11 +140,11 @@ class Reader:
 @functools.lru_cache(MOST_SEATS)
 def seats_of(text):
     """The seats of a line."""
-    queues, outboxes = [], []
-    for seat in text.split(" seat ")[1:]:
-        queue, _, outbox = seat.partition(" queue")[2].partition(" outbox")
-        queues.append(queue.split())
-        outboxes.append(outbox.split())
+    queues, outboxes = {}, {}
+    for part in text.split(" seat ")[1:]:
+        seat, _, rest = part.partition(" ")
+        queue, _, outbox = rest.partition(" queue")[2].partition(" outbox")
+        queues[seat], outboxes[seat] = queue.split(), outbox.split()
     return Seats(READ_SUM.sub("", IN_OUTBOX.sub(" ", text)), queues, outboxes)
 
 
