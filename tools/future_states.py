@@ -30,7 +30,8 @@ class View:
     """A state: how far each client is, what is stored, what the search has used up, and what the looks say. Its key is all of it that decides
     what can come of it. The rest is taken apart where somebody goes on from here."""
 
-    __slots__ = ("looks", "seats", "rest", "in_flight", "flight", "returned", "queues", "outboxes", "pcs", "content", "used", "seen", "has_service", "key")
+    __slots__ = ("looks", "seats", "rest", "in_flight", "flight", "returned", "queues", "outboxes", "pcs", "content", "used", "seen", "has_service",
+                 "key")
 
     def __init__(self, looks, pcs, content, used):
         self.looks, self.pcs, self.content, self.used, self.seen = looks, pcs, content, used, ()
