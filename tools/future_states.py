@@ -81,7 +81,7 @@ class Reader:
         if has_names:
             self.lines = self.first_lines = [*self.first_lines, "show requeued", *(f"show queue {seat}" for seat in self.seats)]
         # The requests of the flight parts so far.
-        self.requests = {}
+        self.known = {}
 
     def view(self, looks, pcs, content, used):
         """The state that looks tell, with how far each client is, what is stored, and what the search has used up."""
@@ -127,11 +127,11 @@ class Reader:
         item = after.pop(place)
         if before != after:
             raise ValueError(f"more than {item} has changed in flight")
-        if item not in self.requests:
+        if item not in self.known:
             seat, operation, bios = item.split(":")
             names = () if operation == "fetch" else tuple(self.names.spelled[bio] for bio in bios.split(","))
-            self.requests[item] = seat, operation, names
-        return self.requests[item]
+            self.known[item] = seat, operation, names
+        return self.known[item]
 
     def queued(self, view):
         """The names of all queued bios, which are known if names are a part of a state."""
