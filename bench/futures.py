@@ -5,8 +5,8 @@
 
 Each case is a whole search, or a reduced one as told beside its figures. With no case named all are run.
 
-A case runs three times in each round. First by the reader of tools/futures, which asks `show state` and `show flight` for each edge. Then by
-a reader that asks each part of a machine by a look of its own, as the tool did before; both must find as many states, edges and contents.
+A case runs three times in each round. First by the reader of tools/futures, which asks `show state` for each edge. Then by a reader that asks
+each part of a machine by a look of its own, as the tool did before; both must find as many states, edges and contents.
 At last all lines that the first run has asked are written to a host at once, and of its answers nothing is looked at: so much time is the
 host's own and that of the pipe.
 
@@ -140,7 +140,7 @@ def measure(case, program, rounds):
             blind.append(blindly(program, options, texts))
     state, looks, host = (one.edges / statistics.median(it) for it in (by_state, by_looks, blind))
     print(f"{case.name}: {one.states:,} states {one.edges:,} edges {contents} contents{'' if case.is_whole else ', reduced'}; edges a second: "
-          f"{state:,.0f} by {len(one.reader.lines)} looks, {looks:,.0f} by {len(other.reader.lines)} single looks, {host:,.0f} written blindly")
+          f"{state:,.0f} by one look, {looks:,.0f} by {len(other.reader.lines)} single looks, {host:,.0f} written blindly")
     if not case.has_bound:
         return True
     return show("edges against single looks", f"{state / looks:.2f}", f"at least {LEAST}", state >= LEAST * looks)

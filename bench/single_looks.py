@@ -21,6 +21,7 @@ class SingleLooks(Reader):
         self.trees = {group: tree for group, tree in trees.items() if tree and tree.members}
         self.lines = ["show flight", "show requeued", *itertools.chain.from_iterable(
             (f"show queue {seat}", f"show outbox {seat}") for seat in self.seats), *self.of_scheduler()]
+        self.first_lines = self.lines
 
     def of_scheduler(self):
         """The looks at what the scheduler knows."""
@@ -44,16 +45,16 @@ class SingleLooks(Reader):
             tag, issue, seat, operation, extent, _ = item.split(":")
             view.flight.append((tag, self.names.issues[issue], (seat, operation, extent, self.names.in_item(item))))
         view.returned = self.requests(looks[1].split(" ")[1:])
-        view.queues, view.outboxes, at = [], [], 2
-        for _ in self.seats:
+        view.queues, view.outboxes, at = {}, {}, 2
+        for seat in self.seats:
             queue, outbox = looks[at].split(" ")[2:], looks[at + 1].split(" ")[2:]
-            view.queues.append(() if queue == NONE else self.requests(queue))
-            view.outboxes.append(() if outbox == NONE else tuple(item.split(":")[1] for item in outbox))
+            view.queues[seat] = () if queue == NONE else self.requests(queue)
+            view.outboxes[seat] = () if outbox == NONE else tuple(item.split(":")[1] for item in outbox)
             at += 2
         rest = looks[at:]
         view.has_service = self.scheduler == "bfq" and rest[0] != "service none"
-        view.key = (pcs, content, used, tuple(sorted(request for _, _, request in view.flight)), view.returned, tuple(view.queues),
-                    tuple(view.outboxes), self.rest_of(rest))
+        view.key = (pcs, content, used, tuple(sorted(request for _, _, request in view.flight)), view.returned, tuple(view.queues.values()),
+                    tuple(view.outboxes.values()), self.rest_of(rest))
         return view
 
     def take_apart(self, view):

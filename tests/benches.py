@@ -152,7 +152,7 @@ def short_futures():
     words = [sys.executable, os.path.join(TOP, "bench", "futures.py"), "--rounds", "1", "--program", builds("bfqhost")[0][0]]
     ran = subprocess.run([*words, "none"], stdin=subprocess.DEVNULL, capture_output=True, text=True, timeout=SECONDS, check=False)
     same("the line", (re.sub(r"[\d,]+(?= by| written)", "N", ran.stdout), ran.stderr, ran.returncode), (
-        "none: 547 states 1,250 edges 24 contents; edges a second: N by 2 looks, N by 7 single looks, N written blindly\n", "", 0))
+        "none: 547 states 1,250 edges 24 contents; edges a second: N by one look, N by 7 single looks, N written blindly\n", "", 0))
     refused = subprocess.run([*words, "nome"], stdin=subprocess.DEVNULL, capture_output=True, text=True, timeout=SECONDS, check=False)
     same("a case that is none", (refused.stdout, refused.returncode, refused.stderr[:25]), ("", 1, "bench: the cases are 'bfq"))
 

@@ -13,6 +13,7 @@ import time
 from collections import namedtuple
 
 from futures_by_copies import Bounds, counted
+from futures_flight import CASES as FLIGHTS, flight_faults
 from futures_keys import SCRIPTS, key_faults
 from futures_records import record_runs
 from futures_rows import NONE, ROWS, apart
@@ -98,6 +99,9 @@ OPENINGS = [
             "seat 0\nwrite 0 1 1\nwrite 10 1 2\nseat 1\nwrite 20 1 3\n"),
     Opening("somebody who has left", "attach 0 0 4\nattach 1 0 4\nwrite 0 1 0 1 1\ndispatch\nleave 0\n",
             "attach 0 0 4\nattach 1 0 4\nwrite 0 1 0 1 1\ndispatch\nleave 0\n", "seat 1\nwrite 0 1 2\nwrite 8 1 3\n"),
+    # Seat 0 gets free when both of its requests are finished.
+    Opening("somebody who has left with two requests", "attach 0 0 4\nwrite 0 1 5 1 9\nwrite 0 1 50 1 8\ndispatch\nleave 0\n",
+            "attach 0 0 4\nwrite 0 1 5 1 9\nwrite 0 1 50 1 8\ndispatch\nleave 0\n", "seat 1\nwrite 5 1 1\nreap\nseat 2\nwrite 40 1 2\n"),
     Opening("a frozen host", "attach 0 0 4\nwrite 0 1 5 1 9\nfreeze\n", "attach 0 0 4\nwrite 0 1 5 1 9\nfreeze\n", "seat 0\nwrite 0 1 1\n"),
 ]
 
@@ -355,6 +359,8 @@ def runs_of(program, is_all):
         yield f"futures: the lag of {count} reads", lambda it=it, lags=lags: [*lag_faults(program, it, lags)]
     for name, given in SCRIPTS.items() if is_all else [*SCRIPTS.items()][:1]:
         yield f"futures: states that go on alike, {name}", lambda given=given: [*key_faults(program, *given)]
+    for name, it in FLIGHTS.items():
+        yield f"futures: what is in flight, {name}", lambda it=it: [*flight_faults(program, it)]
     yield "futures: what is left alone", lambda: [*left_alone(program)]
     yield "futures: at a terminal", lambda: [*at_terminal(program)]
 

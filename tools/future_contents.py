@@ -51,7 +51,8 @@ class Contents:
         return found
 
     def name_all(self, names, opening):
-        """Names what each write and each discard of the opening and of the clients stores."""
+        """Names what each write and each discard of the opening and of the clients stores, also by how a line spells it. What is spelled alike
+        stores the same bytes, unless `has_one_sum` says otherwise."""
         for serial, act in opening.bios.items():
             self.name(names, act, int(serial))
         for number, client in enumerate(opening.clients):
@@ -65,10 +66,12 @@ class Contents:
         word, start, count, *source = act
         blocks = self.blocks(int(count), *source)
         data = b"".join(blocks)
-        self.has_one_sum |= self.of_sums.setdefault(zlib.crc32(data), data) != data
+        crc = zlib.crc32(data)
+        self.has_one_sum |= self.of_sums.setdefault(crc, data) != data
         names.same[act] = self.same.setdefault((word, start, count, data), act)
-        self.writes[names.of(act, place)] = [(sector, None if block == self.of_image(sector) else block)
-                                             for sector, block in enumerate(blocks, int(start))]
+        name = names.of(act, place)
+        names.spelled[f"{start}+{count}" + (f"={crc:08x}" if source else "")] = name
+        self.writes[name] = [(sector, None if block == self.of_image(sector) else block) for sector, block in enumerate(blocks, int(start))]
 
     def blocks(self, count, source="0"):
         """So many blocks of a byte, or those that stand in the payload from a sector on, or those of an entry of the record. A discard

@@ -29,6 +29,7 @@ NR_REQUESTS = 64
 # What a device may answer to a read, and what it answers to all else.
 FILLED, FAULTS = "fill 0", ("short", "fault")
 STORED = "stored"
+DISPATCH = "dispatch"
 # Whether an answer is one to a step that was not made.
 IS_REFUSED = re.compile("refused |notyet ").match
 # What a queue calls what a client does.
@@ -81,18 +82,19 @@ class Node:
 
 def line_of(move, clients, serials):
     """A move as a line. An issue has the serial of its step."""
-    if isinstance(move, Call):
+    kind = type(move)
+    if kind is Call:
         client = clients[move.client]
         word, start, count, byte = client.items[move.place]
         if word == "reap":
             return f"reap {client.seat} {client.session}"
         return f"{word} {client.seat} {client.session} {start} {count}" + ("" if byte is None else f" {byte}")
-    if isinstance(move, Dispatch):
-        return "dispatch"
-    if isinstance(move, Tick):
+    if kind is Dispatch:
+        return DISPATCH
+    if kind is Tick:
         return "tick"
     issue = serials[move.issue] if move.issue >= 0 else -move.issue
-    return f"requeue {move.tag} {issue}" if isinstance(move, GiveBack) else f"finish {move.tag} {issue} {move.outcome}"
+    return f"requeue {move.tag} {issue}" if kind is GiveBack else f"finish {move.tag} {issue} {move.outcome}"
 
 
 class Live:
@@ -145,10 +147,11 @@ class Live:
             line, name = self.calls.get(move) or self.called(move)
             if name is not None:
                 self.names.bios[str(self.serial)] = name
+        elif kind is Dispatch:
+            line = DISPATCH
+            self.names.issues[str(self.serial)] = len(self.serials)
         else:
             line = line_of(move, self.opening.clients, self.serials)
-            if kind is Dispatch:
-                self.names.issues[str(self.serial)] = len(self.serials)
         self.lines.append(line)
         return place
 
@@ -193,7 +196,8 @@ class Search:
         self.tags = limits_of(opening.limits)["--tags"]
         self.room = value_of(opening.limits, "--nr-requests", NR_REQUESTS)
         self.outcomes = [FILLED, *FAULTS] if given.faults else [FILLED]
-        self.places = [reader.seats.index(str(client.seat)) for client in self.clients]
+        # The seat of each client as a look has it. A seat that is no client's may get free, when somebody who has left is gone.
+        self.places = [str(client.seat) for client in self.clients]
         self.keys = set()
         self.states = self.edges = self.depth = 0
 
@@ -201,7 +205,7 @@ class Search:
 
     def moves(self, view):
         """The moves from a state, of which the reductions leave some out."""
-        calls, is_waiting, count = [], False, len(view.flight) + len(view.returned) + sum(map(len, view.queues))
+        calls, is_waiting, count = [], False, len(view.flight) + len(view.returned) + sum(map(len, view.queues.values()))
         is_full = self.reader.is_frozen or count >= self.room
         for client, (place, pc) in enumerate(zip(self.places, view.pcs)):
             items = self.clients[client].items
@@ -213,7 +217,7 @@ class Search:
                     return calls[-1:]
             else:
                 is_waiting = True
-        has_more, has_tag = bool(view.returned) or any(view.queues), len(view.flight) < self.tags
+        has_more, has_tag = bool(view.returned) or any(view.queues.values()), len(view.flight) < self.tags
         found = [*calls, Dispatch()] if has_more and has_tag else calls
         if self.given.all_states or is_waiting or (has_more and not has_tag):
             found += self.finishes(view)
@@ -255,7 +259,7 @@ class Search:
 
     def first(self):
         """The state where the opening ends."""
-        self.live.lines += self.reader.lines
+        self.live.lines += self.reader.first_lines
         node = Node(None, None, 0, self.reader.view(self.live.answers(), (0,) * len(self.clients), self.contents.first, (0, 0)))
         self.reader.take_apart(node.view)
         if self.observer:
@@ -279,23 +283,24 @@ class Search:
 
     def go_on(self, nodes):
         """The new states that come of some."""
-        jobs, found, count = [], [], len(self.reader.lines)
+        jobs, found, live, looks = [], [], self.live, self.reader.lines
+        count = len(looks)
         for node in nodes:
-            self.live.go_to(node)
+            live.go_to(node)
             for move in self.moves(node.view):
-                jobs.append((node, move, self.live.take(move)))
-                self.live.lines += self.reader.lines
-                self.live.behind = 1
-        answers = self.live.answers()
+                jobs.append((node, move, live.take(move)))
+                live.lines += looks
+                live.behind = 1
+        answers = live.answers()
         for node, move, at in jobs:
             self.edges += 1
             view = self.view(node.view, move, answers[at + 1:at + 1 + count])
             if self.observer:
-                self.reader.take_apart(view)
+                self.take_apart(view, node, move, answers[at])
                 self.observe(view, self.observer.step(Edge(node, move, answers[at], view)))
             if view.key not in self.keys:
                 self.bounds.look(self.states)
-                self.reader.take_apart(view)
+                self.take_apart(view, node, move, answers[at])
                 found.append(Node(node, move, node.depth + 1, view))
                 self.note(found[-1])
         for node in nodes:
@@ -306,16 +311,33 @@ class Search:
     def view(self, before, move, looks):
         """The state after a move."""
         pcs, content, used = before.pcs, before.content, before.used
-        if isinstance(move, Call):
+        kind = type(move)
+        if kind is Call:
             pcs = (*pcs[:move.client], pcs[move.client] + 1, *pcs[move.client + 1:])
-        elif isinstance(move, Finish) and move.outcome == STORED:
+        elif kind is Finish and move.outcome == STORED:
             bios = next(request[-1] for _, issue, request in before.flight if issue == move.issue)
             content = self.contents.stored(content, bios)
-        elif isinstance(move, GiveBack):
+        elif kind is GiveBack:
             used = used[0] + 1, used[1]
-        elif isinstance(move, Tick):
+        elif kind is Tick:
             used = used[0], used[1] + 1
         return self.reader.view(looks, pcs, content, used)
+
+    def take_apart(self, view, node, move, answer):
+        """What decides which moves a state has. Where it is not asked what is in flight, that is known from the state before."""
+        self.reader.take_apart(view)
+        if view.flight is None:
+            view.flight = self.followed(view, node, move, answer)
+
+    def followed(self, view, node, move, answer):
+        """What is in flight after a move, by tag as `show flight` has it."""
+        before = node.view
+        if isinstance(move, Dispatch):
+            new = answer.split(" ")[1], node.depth, self.reader.sent(before, view)
+            return sorted([*before.flight, new], key=lambda it: int(it[0]))
+        if isinstance(move, (Finish, GiveBack)):
+            return [it for it in before.flight if it[0] != move.tag]
+        return before.flight
 
     @staticmethod
     def observe(view, seen):

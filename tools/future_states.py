@@ -1,11 +1,15 @@
-"""What a state is: the line of a host that has no names, and which tag bears which request.
+"""What a state is: the line of a host that has no names.
 
 Two states that differ in serials alone, or in which tag bears which request, go on alike. So the line `show state` is all that a state is, but
 for three things. What has become of a bio stands there, and not which one it was: nothing depends on that once it is in an outbox, nor on what a
 read found. Virtual times may be told from that of their class, on whose difference alone rules stand. And bytes are told by a sum. If
 bios of one sum store other bytes, or if each bio must have a name of its own, their names are a part of the state, too.
+
+Which tag bears which request is asked where a search begins. From there on the search follows it by what it did itself, unless names are asked
+anyway.
 """
 
+import collections
 import functools
 import re
 
@@ -14,19 +18,25 @@ from shown import BEST_EFFORT
 
 # A bio in an outbox, before what has become of it; and the sum of what a read found.
 IN_OUTBOX, READ_SUM = re.compile(r" \d+\+\d+(?:=[0-9a-f]{8})?:"), re.compile(r"(?<=read)=[0-9a-f]{8}")
-REQUEUED, SERVICE, TREE = " requeued", " service ", " tree "
-# So many groups with their members are kept as they were told.
-MOST_KEPT = 1 << 16
+REQUEUED, FLIGHT, SERVICE, TREE = " requeued", " flight", " service ", " tree "
+# So many groups with their members are kept as they were told, and so many texts of all seats.
+MOST_KEPT, MOST_SEATS = 1 << 16, 1 << 12
+
+# The seats of a line: what of them is a part of a key; and of each that is taken its queued requests, and its completed bios.
+Seats = collections.namedtuple("Seats", "key queues outboxes")
 
 
 class View:
     """A state: how far each client is, what is stored, what the search has used up, and what the looks say. Its key is all of it that decides
     what can come of it. The rest is taken apart where somebody goes on from here."""
 
-    __slots__ = ("looks", "flight", "returned", "queues", "outboxes", "pcs", "content", "used", "seen", "has_service", "key")
+    __slots__ = ("looks", "seats", "rest", "in_flight", "flight", "returned", "queues", "outboxes", "pcs", "content", "used", "seen", "has_service",
+                 "key")
 
     def __init__(self, looks, pcs, content, used):
         self.looks, self.pcs, self.content, self.used, self.seen = looks, pcs, content, used, ()
+        # Each request in flight with its tag and its issue, once that is known.
+        self.flight = None
 
 
 class Names:
@@ -37,6 +47,8 @@ class Names:
         self.numbers = {}
         # What does the same as something else, with that.
         self.same = {}
+        # The names of bios that store something, by how the line spells them.
+        self.spelled = {}
         # Of the host that is asked: the names of bios, and of issues, by their serials.
         self.bios, self.issues = {}, {}
 
@@ -67,14 +79,19 @@ class Reader:
         _, self.scheduler, run, *_ = line.split(" ")
         self.is_frozen = run == "frozen"
         self.seats = [part.partition(" ")[0] for part in line.partition(REQUEUED)[0].split(" seat ")[1:]]
-        self.lines = ["show state", "show flight"]
+        # What is asked behind each step, and what where a search begins.
+        self.lines, self.first_lines = ["show state"], ["show state", "show flight"]
         if has_names:
-            self.lines += ["show requeued", *(f"show queue {seat}" for seat in self.seats)]
+            self.lines = self.first_lines = [*self.first_lines, "show requeued", *(f"show queue {seat}" for seat in self.seats)]
+        # The requests of the flight parts so far.
+        self.known = {}
 
     def view(self, looks, pcs, content, used):
         """The state that looks tell, with how far each client is, what is stored, and what the search has used up."""
         view = View(looks, pcs, content, used)
-        view.key = (pcs, content, used, *self.key_of(looks[0]))
+        seats, _, rest = looks[0].partition(REQUEUED)
+        view.seats, view.rest = seats_of(seats), rest
+        view.key = (pcs, content, used, view.seats.key, *self.key_of(rest))
         if self.has_names:
             self.take_apart(view)
             view.key += (tuple(sorted(request for _, _, request in view.flight)), tuple(map(self.named, looks[2:])))
@@ -84,41 +101,55 @@ class Reader:
         """The names of the bios of the dispatch list, or of a queue."""
         return tuple(self.names.in_item(item) for item in look.split(" ") if ":" in item)
 
-    def key_of(self, line):
-        """The parts of a key that a line has."""
-        seats, _, rest = line.partition(REQUEUED)
-        seats = IN_OUTBOX.sub(" ", seats)
-        if "read=" in seats:
-            seats = READ_SUM.sub("", seats)
+    def key_of(self, rest):
+        """The parts of a key that a line has behind its seats."""
         if self.is_whole or self.scheduler == "none":
-            return seats, rest
+            return (rest,)
         before, *trees = rest.split(TREE)
-        return (seats, before, *map(shifted, trees))
+        return (before, *map(shifted, trees))
 
     def take_apart(self, view):
         """What decides which moves a state has."""
-        seats, _, rest = view.looks[0].partition(REQUEUED)
-        returned, _, rest = rest.partition(" flight")
+        returned, _, rest = view.rest.partition(FLIGHT)
         view.returned = returned.split()
-        view.has_service = not rest.partition(SERVICE)[2].startswith("none")
-        view.queues, view.outboxes = [], []
-        told = [seat.partition(" ") for seat in seats.split(" seat ")[1:]]
-        if len(told) < len(self.seats):
-            # Whoever had left has no request any more, and is gone. The others keep their places.
-            left = {seat: rest for seat, _, rest in told}
-            told = [(seat, "", left.get(seat, "")) for seat in self.seats]
-        for _, _, seat in told:
-            queue, _, outbox = seat.partition(" queue")[2].partition(" outbox")
-            view.queues.append(queue.split())
-            view.outboxes.append(outbox.split())
-        view.flight = []
-        for item in view.looks[1].split(" ")[1:]:
-            tag, issue, seat, operation, _ = item.split(":", 4)
-            view.flight.append((tag, self.names.issues[issue], (seat, operation, self.names.in_item(item))))
+        view.in_flight, _, rest = rest.partition(SERVICE)
+        view.has_service = not rest.startswith("none")
+        _, view.queues, view.outboxes = view.seats
+        if len(view.looks) > 1:
+            view.flight = []
+            for item in view.looks[1].split(" ")[1:]:
+                tag, issue, seat, operation, _ = item.split(":", 4)
+                view.flight.append((tag, self.names.issues[issue], (seat, operation, self.names.in_item(item))))
+
+    def sent(self, before, after):
+        """The request that is in flight after a dispatch and was not before: its seat, its operation, and the names of the bios that it
+        stores. What a read is called decides nothing."""
+        before, after = before.in_flight.split(), after.in_flight.split()
+        # Both are in order, so the first that differs is new. The rest must be as it was.
+        place = next((place for place, item in enumerate(before) if item != after[place]), len(before))
+        item = after.pop(place)
+        if before != after:
+            raise ValueError(f"more than {item} has changed in flight")
+        if item not in self.known:
+            seat, operation, bios = item.split(":")
+            names = () if operation == "fetch" else tuple(self.names.spelled[bio] for bio in bios.split(","))
+            self.known[item] = seat, operation, names
+        return self.known[item]
 
     def queued(self, view):
         """The names of all queued bios, which are known if names are a part of a state."""
         return [bio for look in view.looks[3:] for request in self.named(look) for bio in request]
+
+
+@functools.lru_cache(MOST_SEATS)
+def seats_of(text):
+    """The seats of a line."""
+    queues, outboxes = {}, {}
+    for part in text.split(" seat ")[1:]:
+        seat, _, rest = part.partition(" ")
+        queue, _, outbox = rest.partition(" queue")[2].partition(" outbox")
+        queues[seat], outboxes[seat] = queue.split(), outbox.split()
+    return Seats(READ_SUM.sub("", IN_OUTBOX.sub(" ", text)), queues, outboxes)
 
 
 def request_of(text):
