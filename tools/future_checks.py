@@ -90,13 +90,19 @@ class Folder:
     """The folder of the files that a search writes, or none."""
 
     def __init__(self, path):
-        self.path = path
+        self.path, self.is_new = path, path is not None and not os.path.exists(path)
         if path is None:
             return
         with told_with(path):
             os.makedirs(path, exist_ok=True)
             if os.listdir(path):
                 raise OSError(errno.ENOTEMPTY, os.strerror(errno.ENOTEMPTY))
+
+    def abandon(self):
+        """Takes it away, if it was made and nothing is in it."""
+        if self.is_new:
+            with contextlib.suppress(OSError):
+                os.rmdir(self.path)
 
     def write(self, name, data):
         """Writes a file whole."""
