@@ -41,13 +41,14 @@ print(*sys.argv[1:], sys.stdin.read(), file=sys.stderr)
 shutil.copy(top / "program", top / f"crates/{sys.argv[2]}/out/{sys.argv[2]}")
 """
 WORDS, INPUT = ["sim", "two words", ""], "a line\n"
-OUTPUT = "glibc.malloc.hugetlb=1\n" + "".join(f"{line}\n" for line in WORDS) + INPUT
+USUAL = "glibc.malloc.hugetlb=1:glibc.malloc.arena_max=1"
+OUTPUT = f"{USUAL}\n" + "".join(f"{line}\n" for line in WORDS) + INPUT
 FROM_RELEASE = "released\n" + OUTPUT
 PROGRAMS = ["crates/bfqhost/out/bfqhost", "crates/bfqctl/out/bfqctl"]
 # What the user has set, and what the program gets.
 SETTINGS = [
-    ("the launcher asks for huge pages", {}, "glibc.malloc.hugetlb=1"),
-    ("a setting of the user's own stands", {"GLIBC_TUNABLES": "glibc.malloc.arena_max=1"}, "glibc.malloc.arena_max=1"),
+    ("the launcher asks for huge pages, and for one place of memory", {}, USUAL),
+    ("a setting of the user's own stands", {"GLIBC_TUNABLES": "glibc.malloc.arena_max=2"}, "glibc.malloc.arena_max=2"),
     ("an empty setting stands", {"GLIBC_TUNABLES": ""}, ""),
 ]
 NOT_WHOLE = "release/ is not whole"
@@ -176,7 +177,7 @@ def of_built_ones(folder):
     """Where a program was built here, and there is no release."""
     laid_out(folder)
     for name, given, wanted in SETTINGS:
-        yield name, faults(run(folder, **given), (OUTPUT.replace("glibc.malloc.hugetlb=1", wanted), "", 7))
+        yield name, faults(run(folder, **given), (OUTPUT.replace(USUAL, wanted), "", 7))
     for what, name, time, called, said in CHANGES:
         laid_out(folder)
         os.utime(Path(folder, name), (time, time)) if time else Path(folder, name).unlink()
