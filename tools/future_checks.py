@@ -7,14 +7,16 @@ import errno
 import io
 import os
 import shlex
+import shutil
 import signal
+import stat
 import subprocess
 import tempfile
 import threading
 
 import payload
 from grammar import MOST_BYTES, SIGN
-from host import Ended, told_with
+from host import BadInput, Ended, told_with
 from image import stored, write_new
 from measured import write_whole
 
@@ -26,6 +28,21 @@ CSV_HEAD = ["content", "steps", "status", "sectors"]
 
 class Unchecked(Ended):
     """A command has not judged an image."""
+
+
+def must_be_there(command):
+    """A command that is not there is told of before a long search, and not behind it."""
+    if not shutil.which(command[0]):
+        raise Unchecked(f"{command[0]} does not run: it is not there, or is no program")
+
+
+def must_be_readable(path):
+    """A file of bytes that the program is to read is one."""
+    with told_with(path):
+        if not stat.S_ISREG(os.stat(path).st_mode):
+            raise BadInput(f"{path}: no regular file")
+        with open(path, "rb"):
+            pass
 
 
 class Checks:
