@@ -313,7 +313,8 @@ def left_alone(program):
         with subprocess.Popen([*futures_of, "clients", "--image", "image", "--check", "sh -c 'sleep 600; :'"], cwd=folder,
                               stdout=subprocess.DEVNULL, stderr=subprocess.PIPE, env=environment) as ran:
             until = time.monotonic() + SECONDS
-            while not any(files for _, _, files in os.walk(environment["TMPDIR"])) and time.monotonic() < until:
+            # Python tries its folder for a moment with a file of another name.
+            while not any("content-000000.img" in files for _, _, files in os.walk(environment["TMPDIR"])) and time.monotonic() < until:
                 time.sleep(0.05)
             ran.send_signal(signal.SIGTERM)
             said = ran.communicate(timeout=SECONDS)[1]
