@@ -11,8 +11,7 @@ At last all lines that the first run has asked are written to a host at once, an
 host's own and that of the pipe.
 
 A second is one of processor time, user and system, of the search and its hosts together, all on one processor. A figure is the median of
-the rounds. At least twice as many edges are wanted by `show state` where there are groups, in the search as it is usually made, with its
-reductions. The status is 1 if there are fewer.
+the rounds. At least twice as many edges are wanted by `show state` under BFQ where writes are searched, and the status is 1 if there are fewer.
 """
 
 import argparse
@@ -50,8 +49,8 @@ OF_READS = ["--tags", "2", "--first-budget", "256", "--max-budget", "256"]
 GROUPS = "group 0 100\ngroup 0 300\nattach 0 1 4\nattach 1 2 4\n"
 SEATS = "attach 0 0 4\nattach 1 0 4\n"
 CASES = [
-    Case("bfq", CLASH, SEATS, ["--scheduler", "bfq"], True, False),
-    Case("groups", CLASH, GROUPS, ["--scheduler", "bfq"], True, False),
+    Case("bfq", CLASH, SEATS, ["--scheduler", "bfq"], True, True),
+    Case("groups", CLASH, GROUPS, ["--scheduler", "bfq"], True, True),
     Case("groups, reduced", CLASH + "write 10 1 6\nwrite 12 1 7\n", GROUPS, ["--scheduler", "bfq"], False, True),
     Case("none", CLASH, SEATS, ["--scheduler", "none"], True, False),
     Case("reads in groups", READS, GROUPS, OF_READS, True, False),
