@@ -90,7 +90,7 @@ impl<C: Staged, P: Protocol<RingReply>> Desk<C, P> {
         }
     }
 
-    /// Answers the call that waits, and rings the seat.
+    /// Answers the call that waits, and rings the seat. If its next call is here already, the reply to that one rings.
     pub fn answer(&mut self, answer: Answer)
         requires open { (row_of C.asked_by C.named self.old).closed ≡ false }
         requires waits { (row_of C.asked_by C.named self.old).waiting ≢ [] }
@@ -104,7 +104,18 @@ impl<C: Staged, P: Protocol<RingReply>> Desk<C, P> {
             self.last = Some(work.issue);
         }
         self.replies.push_reserved(RingReply::Answer(answer));
-        self.bell.ring();
+        self.ring();
+    }
+
+    // Rings the seat. If its next call is here, with room for its reply, then who sits there waits for that reply too, and is rung once: by
+    // that one.
+    fn ring(&mut self)
+        ensures row { row_of C.asked_by C.named self.new ≡ row_of C.asked_by C.named self.old }
+        ensures desk { SameDesk self.old self.new }
+    {
+        if self.replies.cached_slots() < 2 || self.calls.is_empty() {
+            self.bell.ring();
+        }
     }
 
     /// Says that the core has ended, and rings the seat. The call that waits, if one does, gets no other reply.

@@ -1,5 +1,5 @@
 // Who sits at a seat: its calls go out, its replies come in.
-ghost use Rattle.std.specs.Prelude.{◌≡◌, [], ◌∷◌, ◌++◌, length, false, true, None, OnOk, OnErr, IfOk, IfErr, IfSome, IsErr};
+ghost use Rattle.std.specs.Prelude.{◌≡◌, ◌<◌, [], ◌∷◌, ◌++◌, length, false, true, None, OnOk, OnErr, IfOk, IfErr, IfSome, IsErr};
 ghost use Rattle.host_core.specs.Seats.{seat_number, staged, collected, is_closed, closed_by, IsFull, HasNothing, SameSeat};
 ghost use Rattle.host_calls.specs.declared.ring.RingReply.TheVariants.{Answer as Answered, Closed as Closing};
 
@@ -71,6 +71,27 @@ impl<C: Drop, P: Protocol<RingReply>> Seat<C, P> {
         }
     }
 
+    /// Stages a call, as soon as it has a place, and rings the core.
+    pub fn stage_waiting<R: Wait>(&mut self, rt: &R, call: C)
+        ensures seat { SameSeat self.old self.new }
+        ensures staged { staged self.new ≡ staged self.old ++ call ∷ [] }
+        ensures collected { (collected self.new ≡ collected self.old) × (is_closed self.new ≡ is_closed self.old) }
+    {
+        self.push_waiting(rt, call);
+        self.core.ring();
+    }
+
+    /// Stages two calls, each as soon as it has a place, and rings the core once, so that it finds both.
+    pub fn stage_both_waiting<R: Wait>(&mut self, rt: &R, first: C, second: C)
+        ensures seat { SameSeat self.old self.new }
+        ensures staged { staged self.new ≡ staged self.old ++ first ∷ second ∷ [] }
+        ensures collected { (collected self.new ≡ collected self.old) × (is_closed self.new ≡ is_closed self.old) }
+    {
+        self.push_waiting(rt, first);
+        self.push_waiting(rt, second);
+        self.core.ring();
+    }
+
     /// Collects the next reply, if one is there, and rings the core, which may wait for the place.
     pub fn collect(&mut self) -> Option<RingReply>
         ensures seat { SameSeat self.old self.new }
@@ -136,26 +157,30 @@ impl<C: Drop, P: Protocol<RingReply>> Seat<C, P> {
         }
     }
 
-    fn stage_waiting<R: Wait>(&mut self, rt: &R, call: C)
+    // Stages a call, as soon as it has a place, and rings nobody.
+    fn push_waiting<R: Wait>(&mut self, rt: &R, call: C)
         ensures seat { SameSeat self.old self.new }
         ensures staged { staged self.new ≡ staged self.old ++ call ∷ [] }
         ensures collected { (collected self.new ≡ collected self.old) × (is_closed self.new ≡ is_closed self.old) }
     {
         let mut call = call;
         for _ in rt.forever() {
-            match self.stage(call) {
+            match self.calls.push(call) {
                 Ok(()) => return,
-                Err(back) => call = back,
+                Err(PushError::Full(back)) => call = back,
             }
             self.own.rest(rt, 0, self.looks);
         }
         unreachable!()
     }
 
-    fn collect_waiting<R: Wait>(&mut self, rt: &R) -> RingReply
+    /// Waits for the next reply. One is to come: the core has not ended, and more calls were staged than replies collected.
+    pub fn collect_waiting<R: Wait>(&mut self, rt: &R) -> RingReply
+        requires open { is_closed self.old ≡ false }
+        requires owed { length (collected self.old) < length (staged self.old) }
         ensures seat { SameSeat self.old self.new }
         ensures some { (collected self.new ≡ collected self.old ++ result ∷ []) × P.allows (collected self.old) result }
-        ensures closed { is_closed self.new ≡ closed_by (is_closed self.old) result }
+        ensures closed { is_closed self.new ≡ closed_by false result }
         ensures staged { staged self.new ≡ staged self.old }
     {
         let mut looks = 0;

@@ -1,5 +1,5 @@
 -- What a worker of a device does, call after call (our profile).
-use Rattle.std.specs.Prelude.{◌≡◌, ℕ, ◌-◌, ◌^◌, true, false, List, [], ◌∷◌, ◌++◌, length, Option, None, Some, map}
+use Rattle.std.specs.Prelude.{◌≡◌, ◌⊎◌, ℕ, ◌+◌, ◌-◌, ◌^◌, true, false, List, [], ◌∷◌, ◌++◌, length, Option, None, Some, map}
 use Rattle.rtrb.specs.declared.AnyItems.{AnyItems}
 use Rattle.base_image.specs.Image.{Disk, Log}
 use Rattle.base_image.specs.Kinds.{Read}
@@ -70,19 +70,35 @@ ReadsAll taken before (e ∷ rest) after =
 abbrev pub read_of : {I : Type 0} → (I → Disk) → (I → Log) → I → Read
 read_of disk log image = record { disk = disk image; log = log image }
 
--- from one state of a seat and of its image to another, where this work was taken last
-pub record HasDone (taken : Option Work) (s : Device) (before : Read) (t : Device) (after : Read) : Type 0 where
+-- from these calls and replies of the seat of this number to those, while the image went from one state to another, where this work was taken
+-- last: each call got its reply
+pub record HasMade (number : ℕ) (taken : Option Work) (calls0 : List DeviceCall) (replies0 : List RingReply) (before : Read)
+    (calls1 : List DeviceCall) (replies1 : List RingReply) (after : Read) : Type 0 where
   pub exchanges : List Exchange
-  pub calls : staged t ≡ staged s ++ map (λ e. e.0) exchanges
-  pub replies : collected t ≡ collected s ++ map (λ e. e.1) exchanges
-  pub does : DoesAll (seat_number s) taken before.disk exchanges after.disk
+  pub calls : calls1 ≡ calls0 ++ map (λ e. e.0) exchanges
+  pub replies : replies1 ≡ replies0 ++ map (λ e. e.1) exchanges
+  pub does : DoesAll number taken before.disk exchanges after.disk
   pub reads : ReadsAll taken before.log exchanges after.log
 
--- why it ended: the host has; or its last call was refused, as the history is full, and the next may be made
+-- these calls were made, and one more that asks for work
+abbrev pub HasAsked : ℕ → List DeviceCall → Device → Type 0
+HasAsked number calls s = staged s ≡ calls ++ Take number ∷ []
+
+-- from one state of a seat and of its image to another, where this work was taken last: each call got a reply, but for one at the end that asks
+-- for work, if there is one
+abbrev pub HasDone : Option Work → Device → Read → Device → Read → Type 0
+HasDone taken s before t after = (calls : List DeviceCall) × ((staged t ≡ calls) ⊎ HasAsked (seat_number s) calls t)
+    × HasMade (seat_number s) taken (staged s) (collected s) before calls (collected t) after
+
+-- the last reply refused its call, as the history is full
+abbrev pub IsRefused : Device → Type 0
+IsRefused s = (before : List RingReply) × (collected s ≡ before ++ Answered (Refused NoHistory) ∷ [])
+
+-- why it ended: the host has; or a call was refused, as the history is full
 abbrev pub IsEndOf : WorkerEnd → Device → Type 0
 IsEndOf Closed s = is_closed s ≡ true
 IsEndOf Faults s = ⊥
-IsEndOf HistoryFull s = IsOpen s × ((before : List RingReply) × (collected s ≡ before ++ Answered (Refused NoHistory) ∷ []))
+IsEndOf HistoryFull s = (is_closed s ≡ false) × IsRefused s
 
 -- or its image has counted as many faults as it can, and the next call may be made
 abbrev pub IsWhy : WorkerEnd → Device → Disk → Type 0
@@ -99,10 +115,31 @@ abbrev pub IfEnded : Round → (WorkerEnd → Type 0) → Type 0
 IfEnded (Ended end) P = P end
 IfEnded round P = Unit {0}
 
--- one round, whatever was taken before it, and read in vain for that
-abbrev pub IsRound : Device → Read → Device → Read → Type 0
-IsRound s before t after = (taken : Option Work) (log : Log) → Loses taken log before.log → HasDone taken s (record before { log = log }) t after
+-- the host has not ended, and one call has no reply yet
+abbrev pub IsOwed : Device → Type 0
+IsOwed s = (is_closed s ≡ false) × (length (staged s) ≡ length (collected s) + 1)
 
--- one call was made, and got a reply
-abbrev pub IsMade : DeviceCall → Device → Device → Type 0
-IsMade call s t = (reply : RingReply) × (staged t ≡ staged s ++ call ∷ []) × (collected t ≡ collected s ++ reply ∷ [])
+-- where another round follows, one that asks for work; else there may be none
+abbrev pub IsLeft : Round → ℕ → List DeviceCall → Device → Type 0
+IsLeft (Ended end) number calls s = (staged s ≡ calls) ⊎ HasAsked number calls s
+IsLeft round number calls s = HasAsked number calls s
+
+-- one round at the seat of this number, in which work that was asked for is told, whatever was taken before it, and read in vain for that
+abbrev pub IsRound : ℕ → Round → Device → Read → Device → Read → Type 0
+IsRound number round s before t after = (calls : List DeviceCall) → HasAsked number calls s → (taken : Option Work) (log : Log) → Loses taken log before.log
+    → (calls1 : List DeviceCall) × IsLeft round number calls1 t
+    × HasMade number taken calls (collected s) (record before { log = log }) calls1 (collected t) after
+
+-- what comes of work that was taken by the last call
+abbrev pub HasTold : ℕ → Round → Work → Device → Read → Device → Read → Type 0
+HasTold number round work s before t after = (calls : List DeviceCall) × IsLeft round number calls t
+    × HasMade number (Some work) (staged s) (collected s) before calls (collected t) after
+
+-- one call more got a reply
+abbrev pub IsReplied : Device → Device → Type 0
+IsReplied s t = (reply : RingReply) × (collected t ≡ collected s ++ reply ∷ [])
+
+-- how it ends where no more work is asked for
+abbrev pub IsLastEnd : WorkerEnd → Device → Type 0
+IsLastEnd Faults s = IsOpen s
+IsLastEnd end s = IsEndOf end s

@@ -1,6 +1,6 @@
 use Rattle.std.proofs.Common.{◌≡◌}
 use Rattle.host_core.specs.Seats.{staged, collected, is_closed, SameSeat}
-use Rattle.host_core.proofs.seat.Seat.stage_waiting.Given as goal
+use Rattle.host_core.proofs.seat.Seat.push_waiting.Given as goal
 
 abbrev pub invariant-loop : goal.invariant-loop
 invariant-loop g l =
