@@ -11,13 +11,11 @@ left out are closed over in contents alone.
 
 import collections
 import gc
-import re
 import time
 
-import grammar
 from future_clients import REAP
 from future_states import request_of
-from host import Ended
+from host import Ended, Refused
 from reasons import limits_of
 
 # So many states go on at once.
@@ -30,8 +28,6 @@ NR_REQUESTS = 64
 FILLED, FAULTS = "fill 0", ("short", "fault")
 STORED = "stored"
 DISPATCH = "dispatch"
-# Whether an answer is one to a step that was not made.
-IS_REFUSED = re.compile("refused |notyet ").match
 # What a queue calls what a client does.
 OPERATIONS = {"read": "fetch", "write": "store", "discard": "discard"}
 
@@ -180,11 +176,10 @@ class Live:
         """The answers to all lines. A step that is refused has made all that follows another one."""
         lines, self.lines = self.lines, []
         self.asked += len(lines)
-        answers = self.host.ask_many(lines)
-        if any(map(IS_REFUSED, answers)):
-            line, answer = next(it for it in zip(lines, answers) if IS_REFUSED(it[1]))
-            raise Ended(f"the search cannot go on: {line!r} is answered {grammar.named(answer)}")
-        return answers
+        try:
+            return self.host.ask_accepted(lines)
+        except Refused as fault:
+            raise Ended(f"the search cannot go on: {fault}") from None
 
 
 class Search:
