@@ -28,16 +28,21 @@ NR_REQUESTS = 64
 FILLED, FAULTS = "fill 0", ("short", "fault")
 STORED = "stored"
 DISPATCH = "dispatch"
+# Back to the state before.
+BACK = "hold", "undo 1", "release"
 # What a queue calls what a client does.
 OPERATIONS = {"read": "fetch", "write": "store", "discard": "discard"}
 
 # The moves. A client calls what it calls next; a request is dispatched, finished or given back; the queue in service is a tick older.
-Call = collections.namedtuple("Call", "client place")
+# A call has its line, the name of its bio, if it has one, and how far each client is after it.
+Call = collections.namedtuple("Call", "client item line name pcs")
 Dispatch = collections.namedtuple("Dispatch", "")
-# An issue is the number of steps before the one that made it, or less than 0 if that was none of the search.
-Finish = collections.namedtuple("Finish", "tag issue outcome")
+# An issue is the number of steps before the one that made it, or less than 0 if that was none of the search. If it is stored, its bios have
+# these names.
+Finish = collections.namedtuple("Finish", "tag issue outcome bios")
 GiveBack = collections.namedtuple("GiveBack", "tag issue")
 Tick = collections.namedtuple("Tick", "")
+DISPATCHED = Dispatch()
 
 
 class Cut(Exception):
@@ -76,15 +81,19 @@ class Node:
         return found[::-1]
 
 
-def line_of(move, clients, serials):
+def line_of_item(client, item):
+    """What a client calls as a line."""
+    word, start, count, byte = item
+    if item is REAP:
+        return f"reap {client.seat} {client.session}"
+    return f"{word} {client.seat} {client.session} {start} {count}" + ("" if byte is None else f" {byte}")
+
+
+def line_of(move, serials):
     """A move as a line. An issue has the serial of its step."""
     kind = type(move)
     if kind is Call:
-        client = clients[move.client]
-        word, start, count, byte = client.items[move.place]
-        if word == "reap":
-            return f"reap {client.seat} {client.session}"
-        return f"{word} {client.seat} {client.session} {start} {count}" + ("" if byte is None else f" {byte}")
+        return move.line
     if kind is Dispatch:
         return DISPATCH
     if kind is Tick:
@@ -96,11 +105,11 @@ def line_of(move, clients, serials):
 class Live:
     """A host that stands at a state, and the lines that it will be asked next."""
 
-    def __init__(self, opening, names):
-        self.opening, self.names = opening, names
+    def __init__(self, opening, reader):
+        self.opening, self.names = opening, reader.names
+        # Whether it is asked behind each step what serials name.
+        self.has_serials = reader.has_serials()
         self.host, self.lines = None, []
-        # Each call that was made so far as a line, with the name of its bio, if it has one.
-        self.calls = {}
         self.begin()
 
     def begin(self):
@@ -133,43 +142,35 @@ class Live:
 
     def take(self, move):
         """It will take a step. Gives the place of its line among those that it will be asked."""
+        lines = self.lines
         if self.behind:
-            self.lines += ["hold", f"undo {self.behind}", "release"]
+            lines += BACK if self.behind == 1 else ("hold", f"undo {self.behind}", "release")
             self.behind = 0
-        place = len(self.lines)
         self.serial += 1
-        kind = type(move)
-        if kind is Call:
-            line, name = self.calls.get(move) or self.called(move)
-            if name is not None:
-                self.names.bios[str(self.serial)] = name
-        elif kind is Dispatch:
-            line = DISPATCH
-            self.names.issues[str(self.serial)] = len(self.serials)
-        else:
-            line = line_of(move, self.opening.clients, self.serials)
-        self.lines.append(line)
-        return place
+        if self.has_serials:
+            self.name(move)
+        lines.append(move.line if type(move) is Call else line_of(move, self.serials))
+        return len(lines) - 1
 
-    def called(self, move):
-        """A call as a line, with the name of its bio, which is kept."""
-        item = self.opening.clients[move.client].items[move.place]
-        name = None if item is REAP else self.names.of(item.act(), (move.client, move.place))
-        self.calls[move] = line_of(move, self.opening.clients, self.serials), name
-        return self.calls[move]
+    def name(self, move):
+        """What the serial of this step names."""
+        if type(move) is Dispatch:
+            self.names.issues[str(self.serial)] = len(self.serials)
+        elif type(move) is Call and move.name is not None:
+            self.names.bios[str(self.serial)] = move.name
 
     def go_to(self, node):
         """It will go to a state: back to where both ways part, and on."""
-        way = []
-        while node.parent is not None and (node.depth > len(self.way) or self.way[node.depth - 1] is not node):
-            way.append(node)
-            node = node.parent
-        if len(self.way) > node.depth:
-            self.behind += len(self.way) - node.depth
-            del self.way[node.depth:], self.serials[node.depth:]
-        for one in reversed(way):
+        before, on, depth = self.way, [], node.depth
+        while depth and (depth > len(before) or before[depth - 1] is not node):
+            on.append(node)
+            node, depth = node.parent, depth - 1
+        if len(before) > depth:
+            self.behind += len(before) - depth
+            del before[depth:], self.serials[depth:]
+        for one in reversed(on):
             self.take(one.move)
-            self.way.append(one)
+            before.append(one)
             self.serials.append(self.serial)
 
     def answers(self):
@@ -193,6 +194,8 @@ class Search:
         self.outcomes = [FILLED, *FAULTS] if given.faults else [FILLED]
         # The seat of each client as a look has it. A seat that is no client's may get free, when somebody who has left is gone.
         self.places = [str(client.seat) for client in self.clients]
+        # The calls that may come next, by how far each client is.
+        self.ahead = {}
         self.keys = set()
         self.states = self.edges = self.depth = 0
 
@@ -200,32 +203,45 @@ class Search:
 
     def moves(self, view):
         """The moves from a state, of which the reductions leave some out."""
-        calls, is_waiting, count = [], False, len(view.flight) + len(view.returned) + sum(map(len, view.queues.values()))
-        is_full = self.reader.is_frozen or count >= self.room
-        for client, (place, pc) in enumerate(zip(self.places, view.pcs)):
-            items = self.clients[client].items
-            if pc == len(items):
-                continue
-            if view.outboxes[place] if items[pc] is REAP else not is_full or self.joins(view, place, items[pc]):
-                calls.append(Call(client, pc))
-                if items[pc] is REAP and not self.given.all_states:
-                    return calls[-1:]
+        found, is_waiting, flight = [], False, view.flight
+        is_full = self.reader.is_frozen or len(flight) + view.waiting >= self.room
+        for place, call in self.ahead.get(view.pcs) or self.calls(view.pcs):
+            if view.outboxes[place] if call.item is REAP else not is_full or self.joins(view, place, call.item):
+                found.append(call)
+                if call.item is REAP and not self.given.all_states:
+                    return found[-1:]
             else:
                 is_waiting = True
-        has_more, has_tag = bool(view.returned) or any(view.queues.values()), len(view.flight) < self.tags
-        found = [*calls, Dispatch()] if has_more and has_tag else calls
+        has_more, has_tag = view.waiting > 0, len(flight) < self.tags
+        if has_more and has_tag:
+            found.append(DISPATCHED)
         if self.given.all_states or is_waiting or (has_more and not has_tag):
             found += self.finishes(view)
         if view.used[0] < self.given.requeues:
-            found += [GiveBack(tag, issue) for tag, issue, _ in view.flight]
+            found += [GiveBack(tag, issue) for tag, issue, _ in flight]
         if view.used[1] < self.given.ticks and view.has_service:
             found.append(Tick())
         return found
 
+    def calls(self, pcs):
+        """What each client calls next that has not called all yet, with its place in a look. That is kept."""
+        found = self.ahead[pcs] = []
+        for number, (client, place, pc) in enumerate(zip(self.clients, self.places, pcs)):
+            if pc < len(client.items):
+                item = client.items[pc]
+                name = None if item is REAP else self.reader.names.of(item.act(), (number, pc))
+                found.append((place, Call(number, item, line_of_item(client, item), name, (*pcs[:number], pc + 1, *pcs[number + 1:]))))
+        return found
+
     def finishes(self, view):
         """The completions of what is in flight."""
-        return [Finish(tag, issue, outcome) for tag, issue, request in view.flight
-                for outcome in (self.outcomes if request[1] == "fetch" else [STORED])]
+        found = []
+        for tag, issue, request in view.flight:
+            if request[1] == "fetch":
+                found += [Finish(tag, issue, outcome, None) for outcome in self.outcomes]
+            else:
+                found.append(Finish(tag, issue, STORED, request[-1]))
+        return found
 
     def joins(self, view, place, item):
         """Whether a host that is full takes a read, a write or a discard: it is not frozen, and has a request that it joins."""
@@ -245,7 +261,7 @@ class Search:
         # Nothing of a search is a circle, and its states are looked through again and again for one.
         gc.disable()
         try:
-            with Live(self.opening, self.reader.names) as self.live:
+            with Live(self.opening, self.reader) as self.live:
                 return self.go_through(self.first(), progress)
         except Cut as cut:
             return str(cut)
@@ -308,10 +324,10 @@ class Search:
         pcs, content, used = before.pcs, before.content, before.used
         kind = type(move)
         if kind is Call:
-            pcs = (*pcs[:move.client], pcs[move.client] + 1, *pcs[move.client + 1:])
-        elif kind is Finish and move.outcome == STORED:
-            bios = next(request[-1] for _, issue, request in before.flight if issue == move.issue)
-            content = self.contents.stored(content, bios)
+            pcs = move.pcs
+        elif kind is Finish:
+            if move.bios is not None:
+                content = self.contents.stored(content, move.bios)
         elif kind is GiveBack:
             used = used[0] + 1, used[1]
         elif kind is Tick:
@@ -348,7 +364,7 @@ class Search:
         steps = self.steps_to(node)
         self.ways.found(view.content, steps, node)
         if not self.given.all_states:
-            stores = tuple((Finish(tag, issue, STORED), request[-1]) for tag, issue, request in view.flight if request[1] != "fetch")
+            stores = tuple((Finish(tag, issue, STORED, request[-1]), request[-1]) for tag, issue, request in view.flight if request[1] != "fetch")
             self.ways.close(view.content, steps, node, stores)
 
     def steps_to(self, node):
@@ -363,7 +379,7 @@ class Search:
         needed, have_more = [], set()
         for move in reversed(moves):
             if isinstance(move, Call):
-                if self.clients[move.client].items[move.place] is REAP and move.client not in have_more:
+                if move.item is REAP and move.client not in have_more:
                     needed.append(False)
                     continue
                 have_more.add(move.client)
@@ -371,7 +387,7 @@ class Search:
         lines, serials, serial = [], [], self.opening.serial
         for move, is_needed in zip([*moves, *after], [*needed[::-1], *(True for _ in after)]):
             if is_needed:
-                lines.append(line_of(move, self.clients, serials))
+                lines.append(line_of(move, serials))
             serial += is_needed
             serials.append(serial)
         return lines
