@@ -94,12 +94,12 @@ def line_of(move, serials):
     kind = type(move)
     if kind is Call:
         return move.line
-    if kind is Dispatch:
-        return DISPATCH
-    if kind is Tick:
-        return "tick"
-    issue = serials[move.issue] if move.issue >= 0 else -move.issue
-    return f"requeue {move.tag} {issue}" if kind is GiveBack else f"finish {move.tag} {issue} {move.outcome}"
+    if kind is Finish:
+        tag, issue, outcome, _ = move
+        return f"finish {tag} {serials[issue] if issue >= 0 else -issue} {outcome}"
+    if kind is GiveBack:
+        return f"requeue {move.tag} {serials[move.issue] if move.issue >= 0 else -move.issue}"
+    return DISPATCH if kind is Dispatch else "tick"
 
 
 class Live:
@@ -142,18 +142,21 @@ class Live:
 
     def take(self, move):
         """It will take a step. Gives the place of its line among those that it will be asked."""
-        lines = self.lines
         if self.behind:
-            lines += BACK if self.behind == 1 else ("hold", f"undo {self.behind}", "release")
-            self.behind = 0
+            self.go_back()
         self.serial += 1
         if self.has_serials:
             self.name(move)
-        lines.append(move.line if type(move) is Call else line_of(move, self.serials))
-        return len(lines) - 1
+        self.lines.append(line_of(move, self.serials))
+        return len(self.lines) - 1
+
+    def go_back(self):
+        """It will take back the steps that it stands behind."""
+        self.lines += BACK if self.behind == 1 else ("hold", f"undo {self.behind}", "release")
+        self.behind = 0
 
     def name(self, move):
-        """What the serial of this step names."""
+        """What the serial of its last step names."""
         if type(move) is Dispatch:
             self.names.issues[str(self.serial)] = len(self.serials)
         elif type(move) is Call and move.name is not None:
@@ -168,10 +171,17 @@ class Live:
         if len(before) > depth:
             self.behind += len(before) - depth
             del before[depth:], self.serials[depth:]
+        if on and self.behind:
+            self.go_back()
+        lines, serials = self.lines, self.serials
+        # These are most of all steps.
         for one in reversed(on):
-            self.take(one.move)
+            self.serial += 1
+            if self.has_serials:
+                self.name(one.move)
+            lines.append(line_of(one.move, serials))
             before.append(one)
-            self.serials.append(self.serial)
+            serials.append(self.serial)
 
     def answers(self):
         """The answers to all lines. A step that is refused has made all that follows another one."""
@@ -194,8 +204,8 @@ class Search:
         self.outcomes = [FILLED, *FAULTS] if given.faults else [FILLED]
         # The seat of each client as a look has it. A seat that is no client's may get free, when somebody who has left is gone.
         self.places = [str(client.seat) for client in self.clients]
-        # The calls that may come next, by how far each client is.
-        self.ahead = {}
+        # By how far each client is: the calls that may come next, and how many reaps are the last calls of their clients.
+        self.ahead, self.reaps = {}, {}
         self.keys = set()
         self.states = self.edges = self.depth = 0
 
@@ -294,7 +304,7 @@ class Search:
 
     def go_on(self, nodes):
         """The new states that come of some."""
-        jobs, found, live, looks = [], [], self.live, self.reader.lines
+        jobs, found, live, looks, keys = [], [], self.live, self.reader.lines, self.keys
         count = len(looks)
         for node in nodes:
             live.go_to(node)
@@ -304,16 +314,16 @@ class Search:
                 live.behind = 1
         answers = live.answers()
         for node, move, at in jobs:
-            self.edges += 1
             view = self.view(node.view, move, answers[at + 1:at + 1 + count])
             if self.observer:
                 self.take_apart(view, node, move, answers[at])
                 self.observe(view, self.observer.step(Edge(node, move, answers[at], view)))
-            if view.key not in self.keys:
+            if view.key not in keys:
                 self.bounds.look(self.states)
                 self.take_apart(view, node, move, answers[at])
                 found.append(Node(node, move, node.depth + 1, view))
                 self.note(found[-1])
+        self.edges += len(jobs)
         for node in nodes:
             # What came of it is known.
             node.view = None
@@ -360,16 +370,22 @@ class Search:
         view = node.view
         self.keys.add(view.key)
         self.states += 1
-        self.depth = max(self.depth, node.depth)
+        # It goes breadth first.
+        self.depth = node.depth
         steps = self.steps_to(node)
         self.ways.found(view.content, steps, node)
         if not self.given.all_states:
-            stores = tuple((Finish(tag, issue, STORED, request[-1]), request[-1]) for tag, issue, request in view.flight if request[1] != "fetch")
-            self.ways.close(view.content, steps, node, stores)
+            stores = [(tag, issue, request[-1]) for tag, issue, request in view.flight if request[1] != "fetch"]
+            if not self.ways.is_closed(view.content, steps, [bios for *_, bios in stores]):
+                self.ways.close(view.content, steps, node, tuple((Finish(tag, issue, STORED, bios), bios) for tag, issue, bios in stores))
 
     def steps_to(self, node):
         """How many steps lead to the content of a state: a reap is none of them if its client calls nothing after it."""
-        return node.depth - sum(client.last_reaps[pc] for client, pc in zip(self.clients, node.view.pcs))
+        pcs = node.view.pcs
+        reaps = self.reaps.get(pcs)
+        if reaps is None:
+            reaps = self.reaps[pcs] = sum(client.last_reaps[pc] for client, pc in zip(self.clients, pcs))
+        return node.depth - reaps
 
     # What is told.
 
