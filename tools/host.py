@@ -148,7 +148,8 @@ class Host:
     def ask_accepted(self, lines: Sequence[str]) -> List[str]:
         """The answers to any number of lines, none of which may be refused. It is the quickest way to ask many."""
         text = bytes_of(lines)
-        parts, begin = [], 0
+        parts: List[bytes] = []
+        begin = 0
         while begin < len(text):
             # A line that is too long to be written with another one is written alone.
             end = text.rfind(b"\n", begin, begin + TOGETHER) + 1 or text.index(b"\n", begin) + 1
@@ -164,16 +165,19 @@ class Host:
 
     def told(self, text: bytes) -> bytes:
         """What the program says of lines that are written together: an answer to each, or less if it has ended."""
-        with contextlib.suppress(BrokenPipeError):
-            # If it has ended, what it answered before can still be read, and tells why.
+        try:
             os.write(self.stdin.fileno(), text)
+        except BrokenPipeError:
+            # The program has ended. What it answered before can still be read, and tells why.
+            pass
         count = text.count(b"\n")
-        parts, missing = [self.ahead], count - self.ahead.count(b"\n")
+        told, missing = self.ahead, count - self.ahead.count(b"\n")
         while missing > 0 and (part := os.read(self.stdout.fileno(), MOST_READ)):
-            parts.append(part)
+            told += part
             missing -= part.count(b"\n")
-        told, self.ahead = b"".join(parts), b""
+        self.ahead = b""
         if missing < 0 or not (missing or told.endswith(b"\n")):
+            # What it was not asked is taken for the next answers.
             *answers, self.ahead = told.split(b"\n", count)
             told = b"\n".join([*answers, b""])
         return told
