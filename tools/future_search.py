@@ -314,6 +314,7 @@ class Search:
                 live.behind = 1
         answers = live.answers()
         for node, move, at in jobs:
+            self.edges += 1
             view = self.view(node.view, move, answers[at + 1:at + 1 + count])
             if self.observer:
                 self.take_apart(view, node, move, answers[at])
@@ -323,7 +324,6 @@ class Search:
                 self.take_apart(view, node, move, answers[at])
                 found.append(Node(node, move, node.depth + 1, view))
                 self.note(found[-1])
-        self.edges += len(jobs)
         for node in nodes:
             # What came of it is known.
             node.view = None
