@@ -20,7 +20,7 @@ from shown import BEST_EFFORT
 IN_OUTBOX, READ_SUM = re.compile(r" \d+\+\d+(?:=[0-9a-f]{8})?:"), re.compile(r"(?<=read)=[0-9a-f]{8}")
 REQUEUED, FLIGHT, SERVICE, TREE = " requeued", " flight", " service ", " tree "
 # So many groups with their members are kept as they were told, so many texts of all seats, and so many lines.
-MOST_KEPT, MOST_SEATS, MOST_LINES = 1 << 16, 1 << 12, 1 << 16
+MOST_KEPT, MOST_SEATS, MOST_LINES = 1 << 16, 1 << 12, 1 << 13
 
 # The seats of a line: what of them is a part of a key; and of each that is taken its queued requests, and its completed bios.
 Seats = collections.namedtuple("Seats", "key queues outboxes")
