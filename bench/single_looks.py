@@ -58,7 +58,8 @@ class SingleLooks(Reader):
         return view
 
     def take_apart(self, view):
-        """All of it was taken apart for its key."""
+        """All else was taken apart for its key."""
+        view.waiting = len(view.returned) + sum(map(len, view.queues.values()))
 
     def rest_of(self, looks):
         """What the scheduler knows, as a part of a key."""

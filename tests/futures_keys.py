@@ -24,15 +24,15 @@ from image import stored  # noqa: E402
 class Watched(Search):
     """A whole search that keeps both keys of each state, and the short ones that come of it."""
 
-    def __init__(self, *parts):
+    def __init__(self, of_short, *parts):
         super().__init__(*parts)
+        # Reads the same lines as a reduced search does.
+        self.of_short = of_short
         self.short, self.after = {}, collections.defaultdict(set)
 
     def view(self, before, move, looks):
         found = super().view(before, move, looks)
-        self.reader.is_whole = False
-        self.short[found.key] = self.reader.view(looks, found.pcs, found.content, found.used).key
-        self.reader.is_whole = True
+        self.short[found.key] = self.of_short.view(looks, found.pcs, found.content, found.used).key
         self.after[before.key].add(self.short[found.key])
         return found
 
@@ -45,9 +45,9 @@ def searched(program, options, clients, script, ticks):
                           read_clients(written(folder, "clients", clients)))
     names = Names(False)
     with opening.host() as host:
-        reader, contents = Reader(host, names, True), Contents(None, stored(host))
+        reader, of_short, contents = Reader(host, names, True), Reader(host, names, False), Contents(None, stored(host))
     contents.name_all(names, opening)
-    search = Watched(opening, reader, contents, given)
+    search = Watched(of_short, opening, reader, contents, given)
     bounds = Bounds()
     cut = search.run(bounds, Ways(contents, bounds), lambda _: None)
     assert cut is None
@@ -79,5 +79,5 @@ def key_faults(program, script, clients):
         yield f"none of {search.states} states have one short key"
     for wholes in merged:
         if any(search.after[whole] != search.after[wholes[0]] for whole in wholes):
-            yield f"{wholes[:2]} have one short key, and do not go on alike"
+            yield f"{[(*whole[:3], whole[3].key) for whole in wholes[:2]]} have one short key, and do not go on alike"
             return

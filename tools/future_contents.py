@@ -113,15 +113,19 @@ class Ways:
         if content not in self.shortest or steps < self.shortest[content][0]:
             self.shortest[content] = steps, node, after
 
+    def is_closed(self, content, steps, stores):
+        """Whether all that comes of a content and of the bios of each store is known with as few steps."""
+        return self.closed.get((content, tuple(sorted(stores))), steps + 1) <= steps
+
     def close(self, content, steps, node, stores):
         """All contents that come of completions of what is in flight, in any order. A store is its move and its bios."""
         todo = [(content, steps, stores, ())]
         while todo:
             content, steps, stores, after = todo.pop()
-            mark = content, tuple(sorted(bios for _, bios in stores))
-            if steps >= self.closed.get(mark, steps + 1):
+            bios = tuple(sorted(bios for _, bios in stores))
+            if self.is_closed(content, steps, bios):
                 continue
-            self.closed[mark] = steps
+            self.closed[content, bios] = steps
             self.found(content, steps, node, after)
             # With many requests in flight these are more than anybody waits for.
             self.bounds.look()

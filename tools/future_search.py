@@ -11,13 +11,11 @@ left out are closed over in contents alone.
 
 import collections
 import gc
-import re
 import time
 
-import grammar
 from future_clients import REAP
 from future_states import request_of
-from host import Ended
+from host import Ended, Refused
 from reasons import limits_of
 
 # So many states go on at once.
@@ -30,18 +28,21 @@ NR_REQUESTS = 64
 FILLED, FAULTS = "fill 0", ("short", "fault")
 STORED = "stored"
 DISPATCH = "dispatch"
-# Whether an answer is one to a step that was not made.
-IS_REFUSED = re.compile("refused |notyet ").match
+# Back to the state before.
+BACK = "hold", "undo 1", "release"
 # What a queue calls what a client does.
 OPERATIONS = {"read": "fetch", "write": "store", "discard": "discard"}
 
 # The moves. A client calls what it calls next; a request is dispatched, finished or given back; the queue in service is a tick older.
-Call = collections.namedtuple("Call", "client place")
+# A call has its line, the name of its bio, if it has one, and how far each client is after it.
+Call = collections.namedtuple("Call", "client item line name pcs")
 Dispatch = collections.namedtuple("Dispatch", "")
-# An issue is the number of steps before the one that made it, or less than 0 if that was none of the search.
-Finish = collections.namedtuple("Finish", "tag issue outcome")
+# An issue is the number of steps before the one that made it, or less than 0 if that was none of the search. If it is stored, its bios have
+# these names.
+Finish = collections.namedtuple("Finish", "tag issue outcome bios")
 GiveBack = collections.namedtuple("GiveBack", "tag issue")
 Tick = collections.namedtuple("Tick", "")
+DISPATCHED = Dispatch()
 
 
 class Cut(Exception):
@@ -80,31 +81,35 @@ class Node:
         return found[::-1]
 
 
-def line_of(move, clients, serials):
+def line_of_item(client, item):
+    """What a client calls as a line."""
+    word, start, count, byte = item
+    if item is REAP:
+        return f"reap {client.seat} {client.session}"
+    return f"{word} {client.seat} {client.session} {start} {count}" + ("" if byte is None else f" {byte}")
+
+
+def line_of(move, serials):
     """A move as a line. An issue has the serial of its step."""
     kind = type(move)
     if kind is Call:
-        client = clients[move.client]
-        word, start, count, byte = client.items[move.place]
-        if word == "reap":
-            return f"reap {client.seat} {client.session}"
-        return f"{word} {client.seat} {client.session} {start} {count}" + ("" if byte is None else f" {byte}")
-    if kind is Dispatch:
-        return DISPATCH
-    if kind is Tick:
-        return "tick"
-    issue = serials[move.issue] if move.issue >= 0 else -move.issue
-    return f"requeue {move.tag} {issue}" if kind is GiveBack else f"finish {move.tag} {issue} {move.outcome}"
+        return move.line
+    if kind is Finish:
+        tag, issue, outcome, _ = move
+        return f"finish {tag} {serials[issue] if issue >= 0 else -issue} {outcome}"
+    if kind is GiveBack:
+        return f"requeue {move.tag} {serials[move.issue] if move.issue >= 0 else -move.issue}"
+    return DISPATCH if kind is Dispatch else "tick"
 
 
 class Live:
     """A host that stands at a state, and the lines that it will be asked next."""
 
-    def __init__(self, opening, names):
-        self.opening, self.names = opening, names
+    def __init__(self, opening, reader):
+        self.opening, self.names = opening, reader.names
+        # Whether it is asked behind each step what serials name.
+        self.has_serials = reader.has_serials()
         self.host, self.lines = None, []
-        # Each call that was made so far as a line, with the name of its bio, if it has one.
-        self.calls = {}
         self.begin()
 
     def begin(self):
@@ -138,53 +143,54 @@ class Live:
     def take(self, move):
         """It will take a step. Gives the place of its line among those that it will be asked."""
         if self.behind:
-            self.lines += ["hold", f"undo {self.behind}", "release"]
-            self.behind = 0
-        place = len(self.lines)
+            self.go_back()
         self.serial += 1
-        kind = type(move)
-        if kind is Call:
-            line, name = self.calls.get(move) or self.called(move)
-            if name is not None:
-                self.names.bios[str(self.serial)] = name
-        elif kind is Dispatch:
-            line = DISPATCH
-            self.names.issues[str(self.serial)] = len(self.serials)
-        else:
-            line = line_of(move, self.opening.clients, self.serials)
-        self.lines.append(line)
-        return place
+        if self.has_serials:
+            self.name(move)
+        self.lines.append(line_of(move, self.serials))
+        return len(self.lines) - 1
 
-    def called(self, move):
-        """A call as a line, with the name of its bio, which is kept."""
-        item = self.opening.clients[move.client].items[move.place]
-        name = None if item is REAP else self.names.of(item.act(), (move.client, move.place))
-        self.calls[move] = line_of(move, self.opening.clients, self.serials), name
-        return self.calls[move]
+    def go_back(self):
+        """It will take back the steps that it stands behind."""
+        self.lines += BACK if self.behind == 1 else ("hold", f"undo {self.behind}", "release")
+        self.behind = 0
+
+    def name(self, move):
+        """What the serial of its last step names."""
+        if type(move) is Dispatch:
+            self.names.issues[str(self.serial)] = len(self.serials)
+        elif type(move) is Call and move.name is not None:
+            self.names.bios[str(self.serial)] = move.name
 
     def go_to(self, node):
         """It will go to a state: back to where both ways part, and on."""
-        way = []
-        while node.parent is not None and (node.depth > len(self.way) or self.way[node.depth - 1] is not node):
-            way.append(node)
-            node = node.parent
-        if len(self.way) > node.depth:
-            self.behind += len(self.way) - node.depth
-            del self.way[node.depth:], self.serials[node.depth:]
-        for one in reversed(way):
-            self.take(one.move)
-            self.way.append(one)
-            self.serials.append(self.serial)
+        before, on, depth = self.way, [], node.depth
+        while depth and (depth > len(before) or before[depth - 1] is not node):
+            on.append(node)
+            node, depth = node.parent, depth - 1
+        if len(before) > depth:
+            self.behind += len(before) - depth
+            del before[depth:], self.serials[depth:]
+        if on and self.behind:
+            self.go_back()
+        lines, serials = self.lines, self.serials
+        # These are most of all steps.
+        for one in reversed(on):
+            self.serial += 1
+            if self.has_serials:
+                self.name(one.move)
+            lines.append(line_of(one.move, serials))
+            before.append(one)
+            serials.append(self.serial)
 
     def answers(self):
         """The answers to all lines. A step that is refused has made all that follows another one."""
         lines, self.lines = self.lines, []
         self.asked += len(lines)
-        answers = self.host.ask_many(lines)
-        if any(map(IS_REFUSED, answers)):
-            line, answer = next(it for it in zip(lines, answers) if IS_REFUSED(it[1]))
-            raise Ended(f"the search cannot go on: {line!r} is answered {grammar.named(answer)}")
-        return answers
+        try:
+            return self.host.ask_accepted(lines)
+        except Refused as fault:
+            raise Ended(f"the search cannot go on: {fault}") from None
 
 
 class Search:
@@ -198,6 +204,8 @@ class Search:
         self.outcomes = [FILLED, *FAULTS] if given.faults else [FILLED]
         # The seat of each client as a look has it. A seat that is no client's may get free, when somebody who has left is gone.
         self.places = [str(client.seat) for client in self.clients]
+        # By how far each client is: the calls that may come next, and how many reaps are the last calls of their clients.
+        self.ahead, self.reaps = {}, {}
         self.keys = set()
         self.states = self.edges = self.depth = 0
 
@@ -205,32 +213,45 @@ class Search:
 
     def moves(self, view):
         """The moves from a state, of which the reductions leave some out."""
-        calls, is_waiting, count = [], False, len(view.flight) + len(view.returned) + sum(map(len, view.queues.values()))
-        is_full = self.reader.is_frozen or count >= self.room
-        for client, (place, pc) in enumerate(zip(self.places, view.pcs)):
-            items = self.clients[client].items
-            if pc == len(items):
-                continue
-            if view.outboxes[place] if items[pc] is REAP else not is_full or self.joins(view, place, items[pc]):
-                calls.append(Call(client, pc))
-                if items[pc] is REAP and not self.given.all_states:
-                    return calls[-1:]
+        found, is_waiting, flight = [], False, view.flight
+        is_full = self.reader.is_frozen or len(flight) + view.waiting >= self.room
+        for place, call in self.ahead.get(view.pcs) or self.calls(view.pcs):
+            if view.outboxes[place] if call.item is REAP else not is_full or self.joins(view, place, call.item):
+                found.append(call)
+                if call.item is REAP and not self.given.all_states:
+                    return found[-1:]
             else:
                 is_waiting = True
-        has_more, has_tag = bool(view.returned) or any(view.queues.values()), len(view.flight) < self.tags
-        found = [*calls, Dispatch()] if has_more and has_tag else calls
+        has_more, has_tag = view.waiting > 0, len(flight) < self.tags
+        if has_more and has_tag:
+            found.append(DISPATCHED)
         if self.given.all_states or is_waiting or (has_more and not has_tag):
             found += self.finishes(view)
         if view.used[0] < self.given.requeues:
-            found += [GiveBack(tag, issue) for tag, issue, _ in view.flight]
+            found += [GiveBack(tag, issue) for tag, issue, _ in flight]
         if view.used[1] < self.given.ticks and view.has_service:
             found.append(Tick())
         return found
 
+    def calls(self, pcs):
+        """What each client calls next that has not called all yet, with its place in a look. That is kept."""
+        found = self.ahead[pcs] = []
+        for number, (client, place, pc) in enumerate(zip(self.clients, self.places, pcs)):
+            if pc < len(client.items):
+                item = client.items[pc]
+                name = None if item is REAP else self.reader.names.of(item.act(), (number, pc))
+                found.append((place, Call(number, item, line_of_item(client, item), name, (*pcs[:number], pc + 1, *pcs[number + 1:]))))
+        return found
+
     def finishes(self, view):
         """The completions of what is in flight."""
-        return [Finish(tag, issue, outcome) for tag, issue, request in view.flight
-                for outcome in (self.outcomes if request[1] == "fetch" else [STORED])]
+        found = []
+        for tag, issue, request in view.flight:
+            if request[1] == "fetch":
+                found += [Finish(tag, issue, outcome, None) for outcome in self.outcomes]
+            else:
+                found.append(Finish(tag, issue, STORED, request[-1]))
+        return found
 
     def joins(self, view, place, item):
         """Whether a host that is full takes a read, a write or a discard: it is not frozen, and has a request that it joins."""
@@ -250,7 +271,7 @@ class Search:
         # Nothing of a search is a circle, and its states are looked through again and again for one.
         gc.disable()
         try:
-            with Live(self.opening, self.reader.names) as self.live:
+            with Live(self.opening, self.reader) as self.live:
                 return self.go_through(self.first(), progress)
         except Cut as cut:
             return str(cut)
@@ -283,7 +304,7 @@ class Search:
 
     def go_on(self, nodes):
         """The new states that come of some."""
-        jobs, found, live, looks = [], [], self.live, self.reader.lines
+        jobs, found, live, looks, keys = [], [], self.live, self.reader.lines, self.keys
         count = len(looks)
         for node in nodes:
             live.go_to(node)
@@ -298,7 +319,7 @@ class Search:
             if self.observer:
                 self.take_apart(view, node, move, answers[at])
                 self.observe(view, self.observer.step(Edge(node, move, answers[at], view)))
-            if view.key not in self.keys:
+            if view.key not in keys:
                 self.bounds.look(self.states)
                 self.take_apart(view, node, move, answers[at])
                 found.append(Node(node, move, node.depth + 1, view))
@@ -313,10 +334,10 @@ class Search:
         pcs, content, used = before.pcs, before.content, before.used
         kind = type(move)
         if kind is Call:
-            pcs = (*pcs[:move.client], pcs[move.client] + 1, *pcs[move.client + 1:])
-        elif kind is Finish and move.outcome == STORED:
-            bios = next(request[-1] for _, issue, request in before.flight if issue == move.issue)
-            content = self.contents.stored(content, bios)
+            pcs = move.pcs
+        elif kind is Finish:
+            if move.bios is not None:
+                content = self.contents.stored(content, move.bios)
         elif kind is GiveBack:
             used = used[0] + 1, used[1]
         elif kind is Tick:
@@ -349,16 +370,22 @@ class Search:
         view = node.view
         self.keys.add(view.key)
         self.states += 1
-        self.depth = max(self.depth, node.depth)
+        # It goes breadth first.
+        self.depth = node.depth
         steps = self.steps_to(node)
         self.ways.found(view.content, steps, node)
         if not self.given.all_states:
-            stores = tuple((Finish(tag, issue, STORED), request[-1]) for tag, issue, request in view.flight if request[1] != "fetch")
-            self.ways.close(view.content, steps, node, stores)
+            stores = [(tag, issue, request[-1]) for tag, issue, request in view.flight if request[1] != "fetch"]
+            if not self.ways.is_closed(view.content, steps, [bios for *_, bios in stores]):
+                self.ways.close(view.content, steps, node, tuple((Finish(tag, issue, STORED, bios), bios) for tag, issue, bios in stores))
 
     def steps_to(self, node):
         """How many steps lead to the content of a state: a reap is none of them if its client calls nothing after it."""
-        return node.depth - sum(client.last_reaps[pc] for client, pc in zip(self.clients, node.view.pcs))
+        pcs = node.view.pcs
+        reaps = self.reaps.get(pcs)
+        if reaps is None:
+            reaps = self.reaps[pcs] = sum(client.last_reaps[pc] for client, pc in zip(self.clients, pcs))
+        return node.depth - reaps
 
     # What is told.
 
@@ -368,7 +395,7 @@ class Search:
         needed, have_more = [], set()
         for move in reversed(moves):
             if isinstance(move, Call):
-                if self.clients[move.client].items[move.place] is REAP and move.client not in have_more:
+                if move.item is REAP and move.client not in have_more:
                     needed.append(False)
                     continue
                 have_more.add(move.client)
@@ -376,7 +403,7 @@ class Search:
         lines, serials, serial = [], [], self.opening.serial
         for move, is_needed in zip([*moves, *after], [*needed[::-1], *(True for _ in after)]):
             if is_needed:
-                lines.append(line_of(move, self.clients, serials))
+                lines.append(line_of(move, serials))
             serial += is_needed
             serials.append(serial)
         return lines

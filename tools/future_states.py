@@ -19,19 +19,31 @@ from shown import BEST_EFFORT
 # A bio in an outbox, before what has become of it; and the sum of what a read found.
 IN_OUTBOX, READ_SUM = re.compile(r" \d+\+\d+(?:=[0-9a-f]{8})?:"), re.compile(r"(?<=read)=[0-9a-f]{8}")
 REQUEUED, FLIGHT, SERVICE, TREE = " requeued", " flight", " service ", " tree "
-# So many groups with their members are kept as they were told, and so many texts of all seats.
-MOST_KEPT, MOST_SEATS = 1 << 16, 1 << 12
+# So many groups with their members are kept as they were told, so many texts of all seats, and so many lines.
+MOST_KEPT, MOST_SEATS, MOST_LINES = 1 << 16, 1 << 12, 1 << 13
 
 # The seats of a line: what of them is a part of a key; and of each that is taken its queued requests, and its completed bios.
 Seats = collections.namedtuple("Seats", "key queues outboxes")
+
+
+class Line:
+    """What all lines say that are one to a search. It is a part of a key as it is, as there is one for all of them."""
+
+    __slots__ = ("key", "seats", "waiting", "in_flight", "has_service")
+
+    def __init__(self, key, seats, rest):
+        self.key, self.seats = key, seats
+        returned, _, rest = rest.partition(FLIGHT)
+        self.waiting = len(returned.split()) + sum(map(len, seats.queues.values()))
+        self.in_flight, _, rest = rest.partition(SERVICE)
+        self.has_service = not rest.startswith("none")
 
 
 class View:
     """A state: how far each client is, what is stored, what the search has used up, and what the looks say. Its key is all of it that decides
     what can come of it. The rest is taken apart where somebody goes on from here."""
 
-    __slots__ = ("looks", "seats", "rest", "in_flight", "flight", "returned", "queues", "outboxes", "pcs", "content", "used", "seen", "has_service",
-                 "key")
+    __slots__ = ("looks", "line", "flight", "returned", "queues", "outboxes", "waiting", "pcs", "content", "used", "seen", "has_service", "key")
 
     def __init__(self, looks, pcs, content, used):
         self.looks, self.pcs, self.content, self.used, self.seen = looks, pcs, content, used, ()
@@ -83,19 +95,37 @@ class Reader:
         self.lines, self.first_lines = ["show state"], ["show state", "show flight"]
         if has_names:
             self.lines = self.first_lines = [*self.first_lines, "show requeued", *(f"show queue {seat}" for seat in self.seats)]
-        # The requests of the flight parts so far.
+        # What was sent between two flight parts so far.
         self.known = {}
+        # The lines so far by what of them decides, and the last ones by their texts.
+        self.told, self.read = {}, {}
+
+    def has_serials(self):
+        """Whether serials are told behind a step, so that it must be known what they name."""
+        return len(self.lines) > 1
 
     def view(self, looks, pcs, content, used):
         """The state that looks tell, with how far each client is, what is stored, and what the search has used up."""
         view = View(looks, pcs, content, used)
-        seats, _, rest = looks[0].partition(REQUEUED)
-        view.seats, view.rest = seats_of(seats), rest
-        view.key = (pcs, content, used, view.seats.key, *self.key_of(rest))
+        view.line = self.read.get(looks[0]) or self.line_of(looks[0])
+        view.key = pcs, content, used, view.line
         if self.has_names:
             self.take_apart(view)
             view.key += (tuple(sorted(request for _, _, request in view.flight)), tuple(map(self.named, looks[2:])))
         return view
+
+    def line_of(self, text):
+        """The line of a text. Most texts come again, as other contents have the same machine."""
+        before, _, rest = text.partition(REQUEUED)
+        seats = seats_of(before)
+        key = (seats.key, *self.key_of(rest))
+        found = self.told.get(key)
+        if found is None:
+            found = self.told[key] = Line(key, seats, rest)
+        if len(self.read) >= MOST_LINES:
+            self.read.clear()
+        self.read[text] = found
+        return found
 
     def named(self, look):
         """The names of the bios of the dispatch list, or of a queue."""
@@ -110,11 +140,9 @@ class Reader:
 
     def take_apart(self, view):
         """What decides which moves a state has."""
-        returned, _, rest = view.rest.partition(FLIGHT)
-        view.returned = returned.split()
-        view.in_flight, _, rest = rest.partition(SERVICE)
-        view.has_service = not rest.startswith("none")
-        _, view.queues, view.outboxes = view.seats
+        line = view.line
+        view.waiting, view.has_service = line.waiting, line.has_service
+        _, view.queues, view.outboxes = line.seats
         if len(view.looks) > 1:
             view.flight = []
             for item in view.looks[1].split(" ")[1:]:
@@ -122,19 +150,22 @@ class Reader:
                 view.flight.append((tag, self.names.issues[issue], (seat, operation, self.names.in_item(item))))
 
     def sent(self, before, after):
+        """The request that is in flight after a dispatch and was not before, which is kept."""
+        key = before.line.in_flight, after.line.in_flight
+        if key not in self.known:
+            self.known[key] = self.new_in_flight(*map(str.split, key))
+        return self.known[key]
+
+    def new_in_flight(self, before, after):
         """The request that is in flight after a dispatch and was not before: its seat, its operation, and the names of the bios that it
         stores. What a read is called decides nothing."""
-        before, after = before.in_flight.split(), after.in_flight.split()
         # Both are in order, so the first that differs is new. The rest must be as it was.
         place = next((place for place, item in enumerate(before) if item != after[place]), len(before))
         item = after.pop(place)
         if before != after:
             raise ValueError(f"more than {item} has changed in flight")
-        if item not in self.known:
-            seat, operation, bios = item.split(":")
-            names = () if operation == "fetch" else tuple(self.names.spelled[bio] for bio in bios.split(","))
-            self.known[item] = seat, operation, names
-        return self.known[item]
+        seat, operation, bios = item.split(":")
+        return seat, operation, () if operation == "fetch" else tuple(self.names.spelled[bio] for bio in bios.split(","))
 
     def queued(self, view):
         """The names of all queued bios, which are known if names are a part of a state."""

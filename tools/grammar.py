@@ -39,6 +39,8 @@ NO_STEPS = {"hold", "release", "undo", "redo", "sector", "queue", "vtime", "clas
 
 # The first words of lines that ask and change nothing.
 QUERIES = {"sector", "queue", "vtime", "class", "entity", "line", "show"}
+# What an answer begins with that tells of a call which was not done.
+REFUSALS = ("refused ", "notyet ")
 # What names a moment of a line of steps; and what stands between a look and what it must answer, which names one too.
 MOMENTS = [form.split() for form in ["stored sector NUMBER", "issued seat SEAT", "serial SERIAL"]]
 EQUALS = " = "
@@ -60,7 +62,7 @@ def is_silent(line: str) -> bool:
 
 def is_refusal(answer: str) -> bool:
     """The call was not done, as things stand or not yet."""
-    return answer.startswith(("refused ", "notyet "))
+    return answer.startswith(REFUSALS)
 
 
 def named(answer: str) -> str:

@@ -14,7 +14,6 @@ from __future__ import annotations
 import argparse
 import contextlib
 import io
-import itertools
 import os
 import re
 import signal
@@ -36,12 +35,16 @@ PROGRAMS = [os.path.join(TOP, *path, "bfqhost") for path in (("crates", "bfqhost
 BUILDING = "bfqhost: "
 # Lines that are written together have at most so many bytes. A pipe takes them at once, so the two sides never wait for each other.
 TOGETHER = 4_096
+# So much of the answers is read at once.
+MOST_READ = 1 << 16
 # What stands before the name of a tool where it is installed.
 INSTALLED = "bfq-"
 # Why a line is bad that takes bytes from the payload.
 NO_BYTES = "there is no payload, or it has not so many bytes from there on: --payload FILE names one"
 # What the answer to a bad line begins with.
 BAD_LINE = b"bad line "
+# What the answers begin with that tell of a step that was not made.
+REFUSALS = tuple(word.encode() for word in grammar.REFUSALS)
 # How long a program may take to end when its input has ended.
 SECONDS = 5
 
@@ -72,6 +75,18 @@ class BadLine(Ended):
         other = NO_BYTES if grammar.takes_bytes(line) else "the program does not know it"
         self.why = grammar.why_bad(line) or other
         super().__init__(f"the program takes no line {line!r}: {self.why}")
+
+
+class Refused(Ended):
+    """The program has refused a line, which it should not."""
+
+    def __init__(self, line: str, answer: str) -> None:
+        super().__init__(f"{line!r} is answered {grammar.named(answer)}")
+
+
+def bytes_of(lines: Sequence[str]) -> bytes:
+    """Lines as they are written."""
+    return "\n".join([*lines, ""]).encode(errors="surrogateescape")
 
 
 def tell(text: object) -> None:
@@ -106,6 +121,8 @@ class Host:
         # Of pipes that were asked for none is lacking.
         assert self.process.stdin and self.process.stdout and self.process.stderr
         self.stdin, self.stdout, self.stderr = self.process.stdin, self.process.stdout, self.process.stderr
+        # What the program has said beyond what it was asked.
+        self.ahead = b""
         self.listener = threading.Thread(target=self.listen, daemon=True)
         self.listener.start()
 
@@ -124,28 +141,55 @@ class Host:
 
     def ask_all(self, lines: Sequence[str]) -> List[str]:
         """The answers to lines that are written together, of at most 4,096 bytes."""
-        text = "\n".join([*lines, ""]).encode(errors="surrogateescape")
+        text = bytes_of(lines)
         assert len(lines) == 1 or len(text) <= TOGETHER
+        return self.answers_in(self.told(text), lines)
+
+    def ask_accepted(self, lines: Sequence[str]) -> List[str]:
+        """The answers to any number of lines, none of which may be refused. It is the quickest way to ask many."""
+        text = bytes_of(lines)
+        parts: List[bytes] = []
+        begin = 0
+        while begin < len(text):
+            # A line that is too long to be written with another one is written alone.
+            end = text.rfind(b"\n", begin, begin + TOGETHER) + 1 or text.index(b"\n", begin) + 1
+            parts.append(self.told(text[begin:end]))
+            begin = end
+        told = b"".join(parts)
+        answers = self.answers_in(told, lines)
+        # Answers are looked at one by one only if one of them can be a refusal.
+        if told.startswith(REFUSALS) or any(b"\n" + word in told for word in REFUSALS):
+            line, answer = next(it for it in zip(lines, answers) if grammar.is_refusal(it[1]))
+            raise Refused(line, answer)
+        return answers
+
+    def told(self, text: bytes) -> bytes:
+        """What the program says of lines that are written together: an answer to each, or less if it has ended."""
         try:
             os.write(self.stdin.fileno(), text)
         except BrokenPipeError:
             # The program has ended. What it answered before can still be read, and tells why.
             pass
-        # All that is read at once is taken apart at once, as a search of futures reads some millions of them.
-        told = [*itertools.islice(self.stdout, len(lines))]
-        text = b"".join(told)
-        if len(told) == len(lines) and text.endswith(b"\n") and BAD_LINE not in text:
-            return text.decode(errors="replace").split("\n")[:-1]
-        told += [b""] * (len(lines) - len(told))
-        return [self.judged(line, answer) for line, answer in zip(lines, told)]
+        count = text.count(b"\n")
+        told, missing = self.ahead, count - self.ahead.count(b"\n")
+        while missing > 0 and (part := os.read(self.stdout.fileno(), MOST_READ)):
+            told += part
+            missing -= part.count(b"\n")
+        self.ahead = b""
+        if missing < 0 or not (missing or told.endswith(b"\n")):
+            # What it was not asked is taken for the next answers.
+            *answers, self.ahead = told.split(b"\n", count)
+            told = b"\n".join([*answers, b""])
+        return told
 
-    def ask_many(self, lines: Sequence[str]) -> List[str]:
-        """The answers to any number of lines, as `ask_each` gives them. It is the quicker of both."""
-        answers: List[str] = []
-        # As many as may be written together if each were as long as the longest.
-        count = max(1, TOGETHER // (max(map(len, lines), default=0) + 1))
-        for begin in range(0, len(lines), count):
-            answers += self.ask_all(lines[begin:begin + count])
+    def answers_in(self, told: bytes, lines: Sequence[str]) -> List[str]:
+        """The answers to lines. All that is told is taken apart at once, as a search of futures reads some millions of them."""
+        answers = told.decode(errors="replace").split("\n")
+        if len(answers) <= len(lines) or BAD_LINE in told:
+            *whole, rest = told.split(b"\n")
+            texts = [*(text + b"\n" for text in whole), rest, *(b"" for _ in lines)]
+            return [self.judged(line, text) for line, text in zip(lines, texts)]
+        answers.pop()
         return answers
 
     def ask_each(self, lines: Iterable[str]) -> Iterator[str]:
