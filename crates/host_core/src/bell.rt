@@ -37,13 +37,13 @@ impl Bell {
         self.parker.unpark();
     }
 
-    /// Returns at once while so many looks have found nothing, up to the most; from then on it sleeps until the bell is rung.
-    pub fn rest<R: Wait>(&self, rt: &R, looks: u32, most: u32) {
-        if looks < most {
+    /// Returns at once, or sleeps until the bell is rung.
+    pub fn rest<R: Wait>(&self, rt: &R, sleeps: bool) {
+        if sleeps {
+            self.parker.park(rt);
+        } else {
             // No yield: on a busy machine it gives the processor to strangers for milliseconds.
             hint::spin_loop();
-        } else {
-            self.parker.park(rt);
         }
     }
 }

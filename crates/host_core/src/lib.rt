@@ -24,6 +24,8 @@
 //! | [`Seat::stage`] | the call is the next that was staged, or it comes back and nothing has changed |
 //! | [`Seat::collect`] | the next reply, which its kind of seat allows, or none |
 //! | [`Seat::ask`] | one call staged and one reply collected; after Closed nothing is staged |
+//! | [`Seat::stage_waiting`], [`Seat::stage_both_waiting`] | one call, or two in this order, are the next that were staged |
+//! | [`Seat::collect_waiting`] | the next reply, which its kind of seat allows |
 //! | [`Desk::take`] | at most one call is taken, and it waits |
 //! | [`Desk::answer`], [`Desk::close`] | one reply more; there is always a place for it |
 //! | [`Desk::last`] | the issue of the work that it handed out last |
@@ -32,7 +34,8 @@
 //! | [`ClientReplies`], [`OperatorReplies`] | which replies may go to a client, and to the operator |
 //!
 //! A [`Seat`] is the side of who asks, and a [`Desk`] that of the host's core. Each may stand on a thread of its own. Who waits looks at
-//! its ring a number of times and then sleeps on its [`Bell`]. A bell carries nothing: each contract is the same without it.
+//! its ring a number of times, by its [`Patience`], and then sleeps on its [`Bell`]. A bell carries nothing: each contract is the same without
+//! it. Of a seat whose next call is here already only the reply to that one rings, so who asks two calls at once is woken once.
 //!
 //! A client's seat takes each call of a client, in whatever version of the frames it came.
 //!
@@ -103,6 +106,7 @@ mod desks;
 mod judges;
 mod judging;
 mod opening;
+mod patience;
 mod places;
 mod round;
 mod row;
@@ -123,6 +127,7 @@ pub use bell::Bell;
 pub use desk::Desk;
 pub use judges::Judges;
 pub use opening::{Caller, DeviceSeat, OperatorSeat, open_core};
+pub use patience::{DEVICE_LOOKS, IDLE_TURNS, LOOKS, Patience};
 pub use row_settling::SeatEnd;
 pub use seat::Seat;
 pub use seat_opening::open_seat;

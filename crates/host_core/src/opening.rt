@@ -8,6 +8,7 @@ ghost use Rattle.host_core.specs.Settling.{AreCallersOf, AreDevicesOf, IsOperato
 use crate::bell::Bell;
 use crate::desks::Desks;
 use crate::judges::Judges;
+use crate::patience::{DEVICE_LOOKS, LOOKS};
 use crate::seat::Seat;
 use crate::seat_rules::{ClientReplies, OperatorReplies};
 use crate::turns::Core;
@@ -27,12 +28,6 @@ pub type OperatorSeat = Seat<OperatorCall, OperatorReplies>;
 
 // How many clients a host has.
 const CALLERS: u8 = 16;
-// How often who waits at a seat looks for a reply before it sleeps. No contract depends on it.
-const LOOKS: u32 = 100;
-// The same at a device's seat, where the next request comes as soon as a client has its reply and has asked again: within some hundredths
-// of a millisecond, and to be woken costs as much. On a busy machine more looks take processors from those who work.
-const DEVICE_LOOKS: u32 = 2500;
-
 /// Makes a core over a journal without entries, the seats of 16 clients, one of each of `workers` devices, and the operator's. Nothing
 /// has come to them.
 ///

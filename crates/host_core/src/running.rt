@@ -1,15 +1,11 @@
 // The core at work: it takes turns until it has ended, and sleeps while there is nothing to do.
 
 use crate::judges::Judges;
+use crate::patience::{IDLE_TURNS, Patience};
 use crate::turns::Core;
 use std::alloc::Global;
 use std::sync::Wait;
 use std::thread;
-
-// How many turns in a row may do nothing before the core sleeps: a peer's next call comes within some hundredths of a millisecond, and to be
-// woken costs as much. More turns help on a quiet machine, and on a busy one they take processors from those who work. No contract depends
-// on it.
-const IDLE_TURNS: u32 = 100;
 
 impl<B: Judges> Core<B> {
     ghost use Rattle.std.specs.Prelude.{◌≡◌, ℕ, true};
@@ -39,23 +35,22 @@ impl<B: Judges> Core<B> {
         ensures shut { AreShut (seats_of self.new) }
         ensures desks { SameSeats self.old self.new }
     {
-        let mut looks = 0;
+        let mut patience = Patience::new(IDLE_TURNS);
         for _ in rt.forever() {
             let report = self.turn(alloc);
             let did_nothing = !report.ended && report.answered.is_none() && !report.dispatched;
             let is_idle = did_nothing && !self.starved;
-            watch(&self.book, is_idle && looks >= IDLE_TURNS);
+            watch(&self.book, is_idle && patience.is_over());
             if report.ended {
                 return;
             }
             if is_idle {
-                self.bell.rest(rt, looks, IDLE_TURNS);
-                looks = looks.saturating_add(1);
+                patience.rest(rt, &self.bell);
             } else if did_nothing {
                 // No bell tells when there is memory again.
                 thread::yield_now();
             } else {
-                looks = 0;
+                patience.found();
             }
         }
         unreachable!()

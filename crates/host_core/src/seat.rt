@@ -4,6 +4,7 @@ ghost use Rattle.host_core.specs.Seats.{seat_number, staged, collected, is_close
 ghost use Rattle.host_calls.specs.declared.ring.RingReply.TheVariants.{Answer as Answered, Closed as Closing};
 
 use crate::bell::Bell;
+use crate::patience::Patience;
 use host_calls::{Closed, RingReply};
 use plain::Answer;
 use rtrb::{Consumer, Producer, Protocol, PushError};
@@ -16,7 +17,7 @@ pub struct Seat<C, P: Protocol<RingReply>> {
     pub(crate) replies: Consumer<RingReply, Global, P>,
     pub(crate) core: Bell,
     pub(crate) own: Bell,
-    pub(crate) looks: u32,
+    pub(crate) patience: Patience,
     pub(crate) number: u8,
     pub(crate) closed: bool,
 }
@@ -29,7 +30,7 @@ impl<C: Drop, P: Protocol<RingReply>> Drop for Seat<C, P> {
             replies: _,
             core: _,
             own: _,
-            looks: _,
+            patience: _,
             number: _,
             closed: _,
         } = self;
@@ -169,7 +170,7 @@ impl<C: Drop, P: Protocol<RingReply>> Seat<C, P> {
                 Ok(()) => return,
                 Err(PushError::Full(back)) => call = back,
             }
-            self.own.rest(rt, 0, self.looks);
+            self.own.rest(rt, false);
         }
         unreachable!()
     }
@@ -183,14 +184,25 @@ impl<C: Drop, P: Protocol<RingReply>> Seat<C, P> {
         ensures closed { is_closed self.new ≡ closed_by false result }
         ensures staged { staged self.new ≡ staged self.old }
     {
-        let mut looks = 0;
         for _ in rt.forever() {
             if let Some(reply) = self.next_reply() {
+                self.patience.found();
+                self.tell_of_place();
                 return reply;
             }
-            self.own.rest(rt, looks, self.looks);
-            looks = looks.saturating_add(1);
+            self.patience.rest(rt, &self.own);
         }
         unreachable!()
+    }
+
+    // Rings the core if a call is not taken yet: it may wait for the place that is free now.
+    fn tell_of_place(&mut self)
+        ensures seat { SameSeat self.old self.new }
+        ensures staged { staged self.new ≡ staged self.old }
+        ensures collected { (collected self.new ≡ collected self.old) × (is_closed self.new ≡ is_closed self.old) }
+    {
+        if self.calls.slots() < self.calls.capacity() {
+            self.core.ring();
+        }
     }
 }

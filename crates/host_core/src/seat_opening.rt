@@ -4,6 +4,7 @@ ghost use Rattle.host_core.specs.Seats.{IsFresh};
 
 use crate::bell::Bell;
 use crate::desk::Desk;
+use crate::patience::Patience;
 use crate::seat::Seat;
 use host_calls::RingReply;
 use rtrb::{Protocol, RingBuffer};
@@ -12,8 +13,8 @@ use std::alloc::{AllocError, Global};
 // How many calls, and how many replies, a ring holds.
 const PLACES: usize = 4;
 
-/// Makes the seat of a number and the core's side of it. The seat rings the core's bell. Who sits there looks so often for a reply
-/// before it sleeps.
+/// Makes the seat of a number and the core's side of it. The seat rings the core's bell. Who sits there looks so often at most
+/// for a reply before it sleeps.
 ///
 /// # Errors
 ///
@@ -36,7 +37,7 @@ pub fn open_seat<C: Drop, P: Protocol<RingReply>>(
         replies: replies_out,
         core,
         own,
-        looks,
+        patience: Patience::new(looks),
         number,
         closed: false,
     };

@@ -5,7 +5,7 @@ ghost use Rattle.host_looks.specs.Looking.{SameSeat, Asked, asked, heard};
 
 use crate::same::is_same;
 use crate::told::{Queries, Told};
-use host_core::Bell;
+use host_core::{Bell, Patience};
 use rtrb::{Consumer, Producer};
 use script_line::Line;
 use std::alloc::Global;
@@ -65,7 +65,7 @@ impl LookSeat {
         ensures asked { asked self.new ≡ asked self.old }
         ensures heard { IfSome result (λ t. heard self.new ≡ heard self.old ++ Some t ∷ []) }
     {
-        let mut looks = 0;
+        let mut patience = Patience::new(LOOKS);
         for _ in rt.forever() {
             // This comes first: what the core told before it ended is there then.
             let is_ended = self.is_ended();
@@ -75,8 +75,7 @@ impl LookSeat {
             if is_ended {
                 return None;
             }
-            self.own.rest(rt, looks, LOOKS);
-            looks = looks.saturating_add(1);
+            patience.rest(rt, &self.own);
         }
         unreachable!()
     }

@@ -71,7 +71,7 @@ works-reads work disk disk1 before after (Requeue tag issue) works reads = reads
 module _ (number : ℕ) (taken : Option Work) (calls calls1 calls2 : List DeviceCall) (replies replies1 replies2 : List RingReply) (before middle after : Read) where
   made-more : (was : HasMade number taken calls replies before calls1 replies1 middle)
       → HasMade number (last_taken taken was.exchanges) calls1 replies1 (record middle { log = last_log taken before.log middle.log was.exchanges was.reads })
-          calls2 replies2 after
+      calls2 replies2 after
       → HasMade number taken calls replies before calls2 replies2 after
   made-more was more = record {
     exchanges = was.exchanges ++ more.exchanges;
@@ -90,18 +90,22 @@ module _ (number : ℕ) (round : Round) (s t u : Device) (before middle after : 
       let was = first calls asks taken log lost in
       let made = was.2 in
       let more = then was.0 was.1 (last_taken taken made.exchanges) (last_log taken log middle.log made.exchanges made.reads)
-          (last_loss taken log middle.log made.exchanges made.reads) in
+      (last_loss taken log middle.log made.exchanges made.reads) in
       (more.0, more.1, made-more number taken calls was.0 more.0 (collected s) (collected t) (collected u) (record before { log = log }) middle after made more.2)
 
 -- no round
 pub rounds-none : (number : ℕ) (s : Device) (before : Read) → IsRound number Told s before s before
-rounds-none number s before = λ calls asks taken log lost. (calls, asks, record {
-  exchanges = [];
-  calls = sym (append-nil calls);
-  replies = sym (append-nil (collected s));
-  does = refl;
-  reads = lost;
-})
+rounds-none number s before = λ calls asks taken log lost. (
+  calls,
+  asks,
+  record {
+    exchanges = [];
+    calls = sym (append-nil calls);
+    replies = sym (append-nil (collected s));
+    does = refl;
+    reads = lost;
+  },
+)
 
 -- no call was made
 pub made-none : (number : ℕ) (calls : List DeviceCall) (replies : List RingReply) (before : Read) → HasMade number None calls replies before calls replies before
@@ -149,24 +153,30 @@ pub round-told : (s t u : Device) (round : Round) (work : Work) (before after : 
     → collected t ≡ collected s ++ Answered (Accepted (Taken work)) ∷ [] → seat_number t ≡ seat_number s
     → HasTold (seat_number t) round work t before u after → IsRound (seat_number s) round s before u after
 round-told s t u round work before after calls0 replies same told = λ calls asks taken log lost.
-    let all = subst (λ n. HasTold n round work t before u after) same told in
-    (all.0, all.1, asked-told (seat_number s) taken calls (collected s) (collected t) (Answered (Accepted (Taken work))) before log all.0 (collected u) after replies lost
-      (subst (λ c. HasMade (seat_number s) (Some work) c (collected t) before all.0 (collected u) after) (calls0 ∙ asks) all.2))
+    let all = subst (λ n. HasTold n round work t before u after) same told in (
+      all.0,
+      all.1,
+      asked-told (seat_number s) taken calls (collected s) (collected t) (Answered (Accepted (Taken work))) before log all.0 (collected u) after replies lost
+          (subst (λ c. HasMade (seat_number s) (Some work) c (collected t) before all.0 (collected u) after) (calls0 ∙ asks) all.2),
+    )
 
 -- a round in which no work came, and other work is asked for
 pub round-asked : (s t u : Device) (reply : RingReply) (before : Read) → staged t ≡ staged s → collected t ≡ collected s ++ reply ∷ [] → seat_number t ≡ seat_number s
     → HasAsked (seat_number t) (staged t) u → collected u ≡ collected t → IsRound (seat_number s) Waits s before u before
-round-asked s t u reply before calls0 replies same again kept = λ calls asks taken log lost.
-    (calls ++ Take (seat_number s) ∷ [],
-      again ∙ ap (λ n. staged t ++ Take n ∷ []) same ∙ ap (λ c. c ++ Take (seat_number s) ∷ []) (calls0 ∙ asks),
-      asked (seat_number s) taken calls (collected s) (collected u) reply before log (kept ∙ replies) lost)
+round-asked s t u reply before calls0 replies same again kept = λ calls asks taken log lost. (
+  calls ++ Take (seat_number s) ∷ [],
+  again ∙ ap (λ n. staged t ++ Take n ∷ []) same ∙ ap (λ c. c ++ Take (seat_number s) ∷ []) (calls0 ∙ asks),
+  asked (seat_number s) taken calls (collected s) (collected u) reply before log (kept ∙ replies) lost,
+)
 
 -- the last round
 pub round-closed : (s t : Device) (end : WorkerEnd) (reply : RingReply) (before : Read) → staged t ≡ staged s → collected t ≡ collected s ++ reply ∷ []
     → IsRound (seat_number s) (Ended end) s before t before
-round-closed s t end reply before calls0 replies = λ calls asks taken log lost.
-    (calls ++ Take (seat_number s) ∷ [], inl (calls0 ∙ asks),
-      asked (seat_number s) taken calls (collected s) (collected t) reply before log replies lost)
+round-closed s t end reply before calls0 replies = λ calls asks taken log lost. (
+  calls ++ Take (seat_number s) ∷ [],
+  inl (calls0 ∙ asks),
+  asked (seat_number s) taken calls (collected s) (collected t) reply before log replies lost,
+)
 
 -- work was told
 pub told : (number : ℕ) (work : Work) (call : DeviceCall) (calls : List DeviceCall) (replies replies1 : List RingReply) (before after : Read)

@@ -3,7 +3,7 @@ ghost use Rattle.std.specs.Prelude.{◌≡◌, length};
 ghost use Rattle.host_core.specs.Seats.{staged, collected};
 
 use host_calls::{ClientCall, RingReply};
-use host_core::{Bell, ClientReplies, Desk, Seat, open_seat};
+use host_core::{Bell, ClientReplies, Desk, Patience, Seat, open_seat};
 use plain::{Answer, Code};
 use std::alloc::Global;
 use std::sync::Wait;
@@ -16,7 +16,7 @@ const CALLS: u64 = 1000;
 // Refuses so many calls, and then says that the core has ended. After so many looks that found none it sleeps.
 fn refuse_all<R: Wait>(rt: &R, mut desk: Desk<ClientCall, ClientReplies>, bell: &Bell, looks: u32) {
     let mut refused = 0u64;
-    let mut idle = 0u32;
+    let mut patience = Patience::new(looks);
     for _ in rt.forever() {
         desk.take();
         if desk.is_closed() || refused == CALLS {
@@ -25,10 +25,9 @@ fn refuse_all<R: Wait>(rt: &R, mut desk: Desk<ClientCall, ClientReplies>, bell: 
         if desk.waiting().is_some() {
             desk.answer(Answer::Refused(Code::NoSession));
             refused = refused.wrapping_add(1);
-            idle = 0;
+            patience.found();
         } else {
-            bell.rest(rt, idle, looks);
-            idle = idle.saturating_add(1);
+            patience.rest(rt, bell);
         }
     }
     if !desk.is_closed() {

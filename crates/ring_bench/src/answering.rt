@@ -6,7 +6,7 @@ ghost use Rattle.host_calls.specs.declared.ring.RingReply.TheVariants.{Answer as
 
 use bytes::Bytes;
 use host_calls::ClientCall;
-use host_core::{Asked, Bell, ClientReplies, Desk};
+use host_core::{Asked, Bell, ClientReplies, Desk, IDLE_TURNS, Patience};
 use plain::{Answer, Call, Code, Reply, Step};
 use sector_core::BioResult;
 use std::sync::Wait;
@@ -14,20 +14,14 @@ use std::sync::Wait;
 // What a read gives: 8 sectors.
 const ZEROS: [u8; 4096] = [0; 4096];
 
-/// How often who waits at a seat looks for a reply before it sleeps, as in a host.
-pub const LOOKS: u32 = 100;
-
-// How many turns in a row may answer nobody before the core sleeps, as in a host.
-const IDLE_TURNS: u32 = 100;
-
-/// Answers each call of the seats at once, and never ends.
+/// Answers each call of the seats at once, and never ends. It waits as the core of a host does.
 pub fn answer_all<R: Wait>(
     rt: &R,
     bell: &Bell,
     mut desks: Vec<Desk<ClientCall, ClientReplies>>,
     writes: bool,
 ) {
-    let mut idle = 0u32;
+    let mut patience = Patience::new(IDLE_TURNS);
     for _ in rt.forever() {
         let mut is_idle = true;
         for at in 0..desks.len() {
@@ -36,10 +30,9 @@ pub fn answer_all<R: Wait>(
             }
         }
         if is_idle {
-            bell.rest(rt, idle, IDLE_TURNS);
-            idle = idle.saturating_add(1);
+            patience.rest(rt, bell);
         } else {
-            idle = 0;
+            patience.found();
         }
     }
 }

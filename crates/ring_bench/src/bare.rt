@@ -2,9 +2,8 @@
 ghost use Rattle.std.specs.Prelude.{◌≡◌, length};
 ghost use Rattle.host_core.specs.Seats.{staged, collected};
 
-use crate::answering::LOOKS;
 use host_calls::ClientCall;
-use host_core::{Bell, ClientReplies, Desk, Seat, open_seat};
+use host_core::{Bell, ClientReplies, Desk, LOOKS, Patience, Seat, open_seat};
 use plain::{Answer, Code};
 use std::alloc::Global;
 use std::sync::Wait;
@@ -28,7 +27,7 @@ pub fn bare_calls<R: Threads + Wait + Copy + Drop + Send + 'static>(
 // Refuses so many calls.
 fn refuse_all<R: Wait>(rt: &R, mut desk: Desk<ClientCall, ClientReplies>, bell: &Bell, calls: u64) {
     let mut refused = 0u64;
-    let mut idle = 0u32;
+    let mut patience = Patience::new(LOOKS);
     for _ in rt.forever() {
         desk.take();
         if desk.is_closed() || refused == calls {
@@ -37,10 +36,9 @@ fn refuse_all<R: Wait>(rt: &R, mut desk: Desk<ClientCall, ClientReplies>, bell: 
         if desk.waiting().is_some() {
             desk.answer(Answer::Refused(Code::NoSession));
             refused = refused.wrapping_add(1);
-            idle = 0;
+            patience.found();
         } else {
-            bell.rest(rt, idle, LOOKS);
-            idle = idle.saturating_add(1);
+            patience.rest(rt, bell);
         }
     }
 }

@@ -1,7 +1,7 @@
 // The floor of a host that serves: its sockets, threads, rings, bells and frames, with a core that answers each call at once by its kind.
-use crate::answering::{LOOKS, answer_all};
+use crate::answering::answer_all;
 use host_calls::ClientCall;
-use host_core::{Bell, ClientReplies, Desk, open_seat};
+use host_core::{Bell, ClientReplies, Desk, LOOKS, open_seat};
 use host_paths::{Doors, ServeEnd, open_doors, remove_all, start_client};
 use script_line::number;
 use std::alloc::Global;

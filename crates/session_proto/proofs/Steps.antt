@@ -30,7 +30,7 @@ sound_stream held bytes calls sound come =
 
 -- a piece that is read now is read under the limit, and at no fault
 piece_under : (limit : ℕ) (held : HeldCalls) (bytes piece : List ℕ) (calls : List Client) → held.fault ≡ None → HaveCome held bytes calls
-    → length calls < limit → length piece ≤ 4096 → ReadsUnder limit (length calls) (bytes ++ piece)
+    → length calls < limit → length piece ≤ 8192 → ReadsUnder limit (length calls) (bytes ++ piece)
 piece_under limit held bytes piece calls sound come under few =
     inr (record {
       before = bytes;
@@ -86,7 +86,7 @@ input_breaks limit r0 r1 r2 held calls sound read end some past =
 
 -- a piece came, and there was no memory for it
 pub piece_unfed : (limit : ℕ) (r0 r1 r2 : Known) (held : HeldCalls) (calls : List Client) (piece : List ℕ) → held.fault ≡ None
-    → Consumes r1 r2 piece → 0 < length piece → length piece ≤ 4096 → length calls < limit
+    → Consumes r1 r2 piece → 0 < length piece → length piece ≤ 8192 → length calls < limit
     → ReadSoFar limit (length calls) r0 r1 held calls → Reads limit r0 r2 held calls (Err OutOfMemory)
 piece_unfed limit r0 r1 r2 held calls piece sound read some few under past = (
   held.bytes,
@@ -103,7 +103,7 @@ piece_unfed limit r0 r1 r2 held calls piece sound read some few under past = (
 
 -- a piece came, and its calls with it
 pub piece_fed : (limit : ℕ) (r0 r1 r2 : Known) (held next : HeldCalls) (calls : List Client) (piece : List ℕ) (fed : Fed Client) → held.fault ≡ None
-    → Consumes r1 r2 piece → length piece ≤ 4096 → length calls < limit
+    → Consumes r1 r2 piece → length piece ≤ 8192 → length calls < limit
     → ((bytes : List ℕ) (before : List Client) → HaveCome held bytes before → HaveCome next (bytes ++ piece) (before ++ fed.values.items))
     → ReadSoFar limit (length calls) r0 r1 held calls → Reads limit r0 r2 next calls (Ok fed)
 piece_fed limit r0 r1 r2 held next calls piece fed sound read few under comes past =

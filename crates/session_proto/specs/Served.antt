@@ -27,7 +27,7 @@ leave_of OutOfMemory = None
 
 -- a read takes at most this many bytes (our profile)
 abbrev pub most_piece : ℕ
-most_piece = 4096
+most_piece = 8192
 
 -- the last piece was read while the bytes before it began with no fault, and had fewer frames than the limit; so many calls are
 -- asked by now, those of all these frames among them

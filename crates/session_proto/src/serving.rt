@@ -16,8 +16,8 @@ use host_calls::ClientCall;
 use std::alloc::Global;
 use std::io::{Read, Write};
 
-// A read takes at most this many bytes, so that few calls wait at a time.
-const PIECE_BYTES: usize = 4096;
+// A read takes at most this many bytes, so that few calls wait at a time. A write of eight sectors comes whole, and its Reap with it.
+const PIECE_BYTES: usize = 8192;
 
 // Reads a piece and takes it apart. Gives its calls and its fault, or why the session ends there.
 fn read_calls<R: Read>(
@@ -27,7 +27,7 @@ fn read_calls<R: Read>(
     feeder: &mut ClientFeeder,
 ) -> Result<Fed<Client>, EndCause>
     requires some { 0 < length piece.old }
-    requires few { length piece.old ≤ 4096 }
+    requires few { length piece.old ≤ 8192 }
     requires sound { feeder.old.fault ≡ None }
     ensures reads { (start : Known) (limit : ℕ) (calls : List Client) → length calls < limit
         → ReadSoFar limit (length calls) start (R.remaining reader.old) feeder.old calls
@@ -98,7 +98,7 @@ fn serve_frames<R: Read, W: Write, A: Asks>(
 /// ended, or the session itself found no memory. A keeper refuses that Leave (3) where no session sits at the seat, as after one of
 /// the client's own. It may refuse it for want of memory or a full history too, or be held: then the session stands.
 ///
-/// A piece is read once all calls that came before it are answered, 4,096 bytes at most. Of the last piece, what is behind the last
+/// A piece is read once all calls that came before it are answered, 8,192 bytes at most. Of the last piece, what is behind the last
 /// frame that was answered is lost. The writer is not flushed, so it should keep nothing back.
 pub fn serve<R: Read, W: Write, A: Asks>(
     alloc: Global,

@@ -6,8 +6,12 @@ use Rattle.host_paths.proofs.Rounds.{rounds-more, rounds-none, seat-none, seat-t
 use Rattle.host_paths.proofs.worker.go_round.Goals as goal
 
 pub loop-init : goal.loop-init
-loop-init g c = (c.requires.owed, seat-none c.args.seat.now, c.requires.countable,
-  rounds-none (seat_number c.args.seat.now) c.args.seat.now (read_of g.I.Image.disk g.I.Image.log c.args.image.now))
+loop-init g c = (
+  c.requires.owed,
+  seat-none c.args.seat.now,
+  c.requires.countable,
+  rounds-none (seat_number c.args.seat.now) c.args.seat.now (read_of g.I.Image.disk g.I.Image.log c.args.image.now),
+)
 
 pub loop-preserved-in-Told : goal.loop-preserved-in-Told
 loop-preserved-in-Told g c =
@@ -18,8 +22,8 @@ loop-preserved-in-Told g c =
       seat-twice c.args.seat.now c.loop.seat c.work.new.seat was.1 c.work.ensures.seat,
       c.work.ensures.countable (subst IsGoing (sym c.in-Told.is) tt),
       rounds-more number Told c.args.seat.now c.loop.seat c.work.new.seat (read c.args.image.now) (read c.loop.image) (read c.work.new.image) was.3
-        (subst (λ r. IsRound number r c.loop.seat (read c.loop.image) c.work.new.seat (read c.work.new.image)) c.in-Told.is
-        (subst (λ n. IsRound n c.work.result c.loop.seat (read c.loop.image) c.work.new.seat (read c.work.new.image)) was.1.2 c.work.ensures.round)),
+          (subst (λ r. IsRound number r c.loop.seat (read c.loop.image) c.work.new.seat (read c.work.new.image)) c.in-Told.is
+          (subst (λ n. IsRound n c.work.result c.loop.seat (read c.loop.image) c.work.new.seat (read c.work.new.image)) was.1.2 c.work.ensures.round)),
     )
 
 pub loop-preserved : goal.loop-preserved
@@ -31,8 +35,8 @@ loop-preserved g c =
       seat-twice c.args.seat.now c.loop.seat c.work.new.seat was.1 c.work.ensures.seat,
       c.work.ensures.countable (subst IsGoing (sym c.in-Waits.is) tt),
       rounds-more number Waits c.args.seat.now c.loop.seat c.work.new.seat (read c.args.image.now) (read c.loop.image) (read c.work.new.image) was.3
-        (subst (λ r. IsRound number r c.loop.seat (read c.loop.image) c.work.new.seat (read c.work.new.image)) c.in-Waits.is
-        (subst (λ n. IsRound n c.work.result c.loop.seat (read c.loop.image) c.work.new.seat (read c.work.new.image)) was.1.2 c.work.ensures.round)),
+          (subst (λ r. IsRound number r c.loop.seat (read c.loop.image) c.work.new.seat (read c.work.new.image)) c.in-Waits.is
+          (subst (λ n. IsRound n c.work.result c.loop.seat (read c.loop.image) c.work.new.seat (read c.work.new.image)) was.1.2 c.work.ensures.round)),
     )
 
 pub returns-in-Ended-clause-rounds : goal.returns-in-Ended-clause-rounds
@@ -41,5 +45,5 @@ returns-in-Ended-clause-rounds g c =
     let read = read_of g.I.Image.disk g.I.Image.log in
     let number = seat_number c.args.seat.now in
     rounds-more number (Ended c.in-Ended.end) c.args.seat.now c.loop.seat c.work.new.seat (read c.args.image.now) (read c.loop.image) (read c.work.new.image) was.3
-        (subst (λ r. IsRound number r c.loop.seat (read c.loop.image) c.work.new.seat (read c.work.new.image)) c.in-Ended.is
-        (subst (λ n. IsRound n c.work.result c.loop.seat (read c.loop.image) c.work.new.seat (read c.work.new.image)) was.1.2 c.work.ensures.round))
+    (subst (λ r. IsRound number r c.loop.seat (read c.loop.image) c.work.new.seat (read c.work.new.image)) c.in-Ended.is
+    (subst (λ n. IsRound n c.work.result c.loop.seat (read c.loop.image) c.work.new.seat (read c.work.new.image)) was.1.2 c.work.ensures.round))

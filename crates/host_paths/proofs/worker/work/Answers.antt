@@ -13,12 +13,12 @@ returns-in-Answer-Accepted-Taken-clause-round g c =
     let is = work.is ∙ ap Answered (work.field-0-is ∙ ap Accepted work.field-0-0-is) in
     let read = read_of g.I.Image.disk g.I.Image.log in
     round-told c.args.seat.now c.reply.new.seat c.done.new.seat c.done.result work.work (read c.args.image.now) (read c.done.new.image)
-      c.reply.ensures.made.0 (c.reply.ensures.made.1 ∙ ap (λ r. collected c.args.seat.now ++ r ∷ []) is) c.reply.ensures.seat.2 c.done.ensures.told
+    c.reply.ensures.made.0 (c.reply.ensures.made.1 ∙ ap (λ r. collected c.args.seat.now ++ r ∷ []) is) c.reply.ensures.seat.2 c.done.ensures.told
 
 pub returns-in-Answer-clause-round : goal.returns-in-Answer-clause-round
 returns-in-Answer-clause-round g c =
     round-asked c.args.seat.now c.reply.new.seat c.ask.new.seat c.reply.result (read_of g.I.Image.disk g.I.Image.log c.args.image.now)
-      c.reply.ensures.made.0 c.reply.ensures.made.1 c.reply.ensures.seat.2 c.ask.ensures.asked c.ask.ensures.collected
+    c.reply.ensures.made.0 c.reply.ensures.made.1 c.reply.ensures.seat.2 c.ask.ensures.asked c.ask.ensures.collected
 
 pub returns-clause-round : goal.returns-clause-round
 returns-clause-round g c =

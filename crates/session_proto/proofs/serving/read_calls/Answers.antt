@@ -14,7 +14,7 @@ some_bytes (b ∷ bytes) some = omega arith
 pub returns-in-Ok-feed-clause-reads : goal.returns-in-Ok-feed-clause-reads
 returns-in-Ok-feed-clause-reads g c = λ start limit calls under past.
     let piece = take c.in-Ok.count c.read.new.buf in
-    let few : length piece ≤ 4096 = omega (arith, length-take c.in-Ok.count c.read.new.buf, c.in-Ok.ensures.bound, c.requires.few) in
+    let few : length piece ≤ 8192 = omega (arith, length-take c.in-Ok.count c.read.new.buf, c.in-Ok.ensures.bound, c.requires.few) in
     piece_fed limit start _ _ c.args.feeder.now c.feed.new.self calls piece c.in-Ok-feed.fed c.requires.sound c.in-Ok.ensures.bytes.0 few under
     c.in-Ok-feed.ensures.came past
 
@@ -35,7 +35,7 @@ pub returns-in-Err-clause-reads : goal.returns-in-Err-clause-reads
 returns-in-Err-clause-reads g c = λ start limit calls under past.
     let piece = take c.in-Ok.count c.read.new.buf in
     let some : 0 < length piece = omega (arith, c.in-Ok.ensures.bound, c.if-count-eq0.false) in
-    let few : length piece ≤ 4096 = omega (arith, length-take c.in-Ok.count c.read.new.buf, c.in-Ok.ensures.bound, c.requires.few) in
+    let few : length piece ≤ 8192 = omega (arith, length-take c.in-Ok.count c.read.new.buf, c.in-Ok.ensures.bound, c.requires.few) in
     piece_unfed limit start _ _ c.args.feeder.now calls piece c.requires.sound c.in-Ok.ensures.bytes.0 some few under past
 
 -- a piece with bytes makes what is held longer, if the version does not become known with it

@@ -6,7 +6,7 @@ use Rattle.session_proto.proofs.serving.serve_frames.Given as goal
 abbrev pub invariant-pieces : goal.invariant-pieces
 invariant-pieces g l =
     (l.is_bad ≡ is_some l.feeder.fault) × (l.is_bad ≡ false → length l.feeder.bytes < 32791)
-    × (l.counts.calls ≤ l.frame_limit) × (l.counts.written ≤ l.counts.calls * 32791) × (length l.piece ≡ 4096)
+    × (l.counts.calls ≤ l.frame_limit) × (l.counts.written ≤ l.counts.calls * 32791) × (length l.piece ≡ 8192)
     × SoFar g.A.Asks.asks l.frame_limit
     (record { input = g.R.Read.remaining l.initial.reader; output = g.W.Write.contents l.initial.writer; asker = l.initial.asker })
     (record { input = g.R.Read.remaining l.reader; output = g.W.Write.contents l.writer; asker = l.asker })
