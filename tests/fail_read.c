@@ -4,7 +4,8 @@
  *     FAIL_FILE=/tmp/image FAIL_NTH=7 FAIL_ERRNO=11 LD_PRELOAD=./fail_read.so PROGRAM
  *
  * The 7th read of that file fails with error 11, and takes nothing. The file is named as the system names it, with no link in the name, and
- * reads of others are as ever. With FAIL_COUNT=3 so do the two behind it. With READ_AT_MOST=200 no read of it gives more than 200 bytes. Reads are counted from the start of the
+ * reads of others are as ever. With FAIL_COUNT=3 so do the two behind it, and with FAIL_ALONE=1 all later ones of the same descriptor, and no
+ * others. With READ_AT_MOST=200 no read of it gives more than 200 bytes. Reads are counted from the start of the
  * program, over all that it has open of the file. At the end one line stands on standard error: `fail_read: R reads, F failed`. Without
  * FAIL_NTH, or with 0, none fails. */
 
@@ -15,7 +16,7 @@ extern long readlink(const char *, char *, size);
 #define NAME_BYTES 4096
 
 static size reads, failed, nth, count, most;
-static int error;
+static int error, is_alone, alone = -1;
 static const char *file;
 
 static long (*next_pread)(int, void *, size, long);
@@ -27,6 +28,7 @@ __attribute__((constructor)) static void find(void) {
     error = (int)number_of(getenv("FAIL_ERRNO"));
     count = getenv("FAIL_COUNT") ? number_of(getenv("FAIL_COUNT")) : 1;
     most = number_of(getenv("READ_AT_MOST"));
+    is_alone = !!getenv("FAIL_ALONE");
     file = getenv("FAIL_FILE");
     next_pread = dlsym(NEXT, "pread");
     next_pread64 = dlsym(NEXT, "pread64");
@@ -44,10 +46,18 @@ static int is_of_file(int descriptor) {
     return file && length > 0 && !file[length];
 }
 
+/* Whether the read of this number is to fail. */
+static int is_due(size number, int descriptor) {
+    if (!nth || !is_alone)
+        return nth && number >= nth && number - nth < count;
+    if (number == nth)
+        alone = descriptor;
+    return descriptor == alone;
+}
+
 /* Counts a read, and says whether it fails. */
-static int fails(void) {
-    size number = COUNTED(reads);
-    if (!nth || number < nth || number - nth >= count)
+static int fails(int descriptor) {
+    if (!is_due(COUNTED(reads), descriptor))
         return 0;
     COUNTED(failed);
     *__errno_location() = error;
@@ -57,7 +67,7 @@ static int fails(void) {
 static long read_by(long (*next)(int, void *, size, long), int descriptor, void *to, size bytes, long offset) {
     if (!is_of_file(descriptor))
         return next(descriptor, to, bytes, offset);
-    if (fails())
+    if (fails(descriptor))
         return -1;
     return next(descriptor, to, most && bytes > most ? most : bytes, offset);
 }

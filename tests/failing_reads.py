@@ -36,6 +36,9 @@ FAULT = "85 {:016x} 02"
 STORED = 65
 # How often an image is busy in a row: the last pause but for the longest one is 64 milliseconds.
 BUSY_READS = 7
+# So many reads are asked of two workers of which one is always busy. The second half may take so many seconds: if each waited for the longest
+# pause it would take two.
+READS_BESIDE, MOST_BESIDE = 40, 1
 
 
 class Script:
@@ -125,9 +128,9 @@ class Shim:
     def __init__(self, path, image):
         self.path, self.image = path, os.path.realpath(image)
 
-    def environment(self, nth, name, at_most=READ_AT_MOST, count=1):
+    def environment(self, nth, name, at_most=READ_AT_MOST, count=1, is_alone=False):
         return {**os.environ, "LD_PRELOAD": self.path, "FAIL_FILE": self.image, "READ_AT_MOST": str(at_most), "FAIL_NTH": str(nth),
-                "FAIL_COUNT": str(count), "FAIL_ERRNO": str(getattr(errno, name, 0))}
+                "FAIL_COUNT": str(count), "FAIL_ERRNO": str(getattr(errno, name, 0)), **({"FAIL_ALONE": "1"} if is_alone else {})}
 
 
 def told(said):
@@ -227,6 +230,27 @@ def of_pauses(program, shim):
         ended(host, 2 + BUSY_READS, BUSY_READS)
 
 
+def of_one_busy(program, shim):
+    """Of two workers one has an image that is always busy. It gives each read back, and waits. Meanwhile the other one answers: no read
+    waits for a worker that does."""
+    with tempfile.TemporaryDirectory(prefix="bfq-") as folder, contextlib.ExitStack() as stack:
+        # The first two reads are those of the opening.
+        env = shim.environment(3, "EAGAIN", 0, is_alone=True)
+        host = stack.enter_context(Served(program, shim.image, folder, clients=1, workers=2, env=env))
+        client = stack.enter_context(host.talk(0))
+        client.asks((ATTACH, attached(1)))
+        for number in range(READS_BESIDE):
+            if number == READS_BESIDE // 2:
+                began = time.monotonic()
+            client.send(fetch(1, 5, 2) + reap(1))
+            client.reply()
+            # Behind its kind and the bio.
+            same(f"read {number}", client.reply()[9:], sector_of(5) + sector_of(6))
+        took = time.monotonic() - began
+        same(f"whether {took:.3f} seconds are more than {MOST_BESIDE}", took > MOST_BESIDE, False)
+        host.operates((STOP, CLOSED))
+
+
 def of_opening(program, shim, nth):
     """A host of two workers, whose image cannot be read when one of them opens it."""
     with tempfile.TemporaryDirectory(prefix="bfq-") as folder:
@@ -246,6 +270,7 @@ def serves(program, shim):
     for nth in (1, 2):
         yield f"serve, the image cannot be read by worker {nth}", caught(of_opening, program, shim, nth)
     yield f"serve, the image is busy {BUSY_READS} times", caught(of_pauses, program, shim)
+    yield "serve, one of two workers is always busy", caught(of_one_busy, program, shim)
 
 
 def shim_of(program, folder):

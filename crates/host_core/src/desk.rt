@@ -90,7 +90,8 @@ impl<C: Staged, P: Protocol<RingReply>> Desk<C, P> {
         }
     }
 
-    /// Answers the call that waits, and rings the seat. If its next call is here already, the reply to that one rings.
+    /// Answers the call that waits, and rings the seat. If its next call is here already, with room for its reply, the reply to that one
+    /// rings.
     pub fn answer(&mut self, answer: Answer)
         requires open { (row_of C.asked_by C.named self.old).closed ≡ false }
         requires waits { (row_of C.asked_by C.named self.old).waiting ≢ [] }
@@ -113,7 +114,7 @@ impl<C: Staged, P: Protocol<RingReply>> Desk<C, P> {
         ensures row { row_of C.asked_by C.named self.new ≡ row_of C.asked_by C.named self.old }
         ensures desk { SameDesk self.old self.new }
     {
-        if self.replies.cached_slots() < 2 || self.calls.is_empty() {
+        if (self.replies.cached_slots() < 2 && self.replies.slots() < 2) || self.calls.is_empty() {
             self.bell.ring();
         }
     }

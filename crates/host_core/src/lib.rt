@@ -35,7 +35,8 @@
 //!
 //! A [`Seat`] is the side of who asks, and a [`Desk`] that of the host's core. Each may stand on a thread of its own. Who waits looks at
 //! its ring a number of times, by its [`Patience`], and then sleeps on its [`Bell`]. A bell carries nothing: each contract is the same without
-//! it. Of a seat whose next call is here already only the reply to that one rings, so who asks two calls at once is woken once.
+//! it. Of a seat whose next call is here already, with room for its reply,
+//! only the reply to that one rings. So who asks two calls at once is woken once.
 //!
 //! A client's seat takes each call of a client, in whatever version of the frames it came.
 //!
@@ -83,7 +84,7 @@
 //!
 //! | modules | what they have |
 //! |---|---|
-//! | `seat`, `desk`, `asked`, `seat_rules`, `bell`, `seat_opening`, `seat_settling` | the two sides of a seat, whatever its kind |
+//! | `seat`, `desk`, `asked`, `seat_rules`, `bell`, `patience`, `seat_opening`, `seat_settling` | the two sides of a seat, whatever its kind |
 //! | `judges` | what a core asks of whoever keeps its journal |
 //! | `desks`, `places`, `row_opening`, `closing`, `row_settling` | the desks of all seats in one row: the clients, then the devices, then the operator; how the row is opened, closed and settled |
 //! | `judging`, `visit`, `row` | a visit of one seat. A client or a device is answered only what is final: a call that is not yet right to answer waits at its seat. The operator is told at once, and can be told that it is not yet time only while the host is held. Only the operator can ask for the end |

@@ -28,6 +28,7 @@ pub type OperatorSeat = Seat<OperatorCall, OperatorReplies>;
 
 // How many clients a host has.
 const CALLERS: u8 = 16;
+
 /// Makes a core over a journal without entries, the seats of 16 clients, one of each of `workers` devices, and the operator's. Nothing
 /// has come to them.
 ///

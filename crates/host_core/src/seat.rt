@@ -1,5 +1,5 @@
 // Who sits at a seat: its calls go out, its replies come in.
-ghost use Rattle.std.specs.Prelude.{◌≡◌, ◌<◌, [], ◌∷◌, ◌++◌, length, false, true, None, OnOk, OnErr, IfOk, IfErr, IfSome, IsErr};
+ghost use Rattle.std.specs.Prelude.{◌≡◌, ◌<◌, ◌+◌, [], ◌∷◌, ◌++◌, length, false, true, None, OnOk, OnErr, IfOk, IfErr, IfSome, IsErr};
 ghost use Rattle.host_core.specs.Seats.{seat_number, staged, collected, is_closed, closed_by, IsFull, HasNothing, SameSeat};
 ghost use Rattle.host_calls.specs.declared.ring.RingReply.TheVariants.{Answer as Answered, Closed as Closing};
 
@@ -72,8 +72,10 @@ impl<C: Drop, P: Protocol<RingReply>> Seat<C, P> {
         }
     }
 
-    /// Stages a call, as soon as it has a place, and rings the core.
+    /// Stages a call, as soon as it has a place, and rings the core. Fewer than four may be open, as more find no places for their replies.
     pub fn stage_waiting<R: Wait>(&mut self, rt: &R, call: C)
+        requires open { is_closed self.old ≡ false }
+        requires few { length (staged self.old) < length (collected self.old) + 4 }
         ensures seat { SameSeat self.old self.new }
         ensures staged { staged self.new ≡ staged self.old ++ call ∷ [] }
         ensures collected { (collected self.new ≡ collected self.old) × (is_closed self.new ≡ is_closed self.old) }
@@ -82,8 +84,10 @@ impl<C: Drop, P: Protocol<RingReply>> Seat<C, P> {
         self.core.ring();
     }
 
-    /// Stages two calls, each as soon as it has a place, and rings the core once, so that it finds both.
+    /// Stages two calls, each as soon as it has a place, and rings the core once, behind both. Fewer than three may be open.
     pub fn stage_both_waiting<R: Wait>(&mut self, rt: &R, first: C, second: C)
+        requires open { is_closed self.old ≡ false }
+        requires few { length (staged self.old) < length (collected self.old) + 3 }
         ensures seat { SameSeat self.old self.new }
         ensures staged { staged self.new ≡ staged self.old ++ first ∷ second ∷ [] }
         ensures collected { (collected self.new ≡ collected self.old) × (is_closed self.new ≡ is_closed self.old) }
@@ -176,6 +180,9 @@ impl<C: Drop, P: Protocol<RingReply>> Seat<C, P> {
     }
 
     /// Waits for the next reply. One is to come: the core has not ended, and more calls were staged than replies collected.
+    ///
+    /// Where another call stands behind the one that is answered, it may wait for the reply to that one too. So who needs each reply at
+    /// once asks one call after the other (`ask`).
     pub fn collect_waiting<R: Wait>(&mut self, rt: &R) -> RingReply
         requires open { is_closed self.old ≡ false }
         requires owed { length (collected self.old) < length (staged self.old) }
@@ -195,7 +202,7 @@ impl<C: Drop, P: Protocol<RingReply>> Seat<C, P> {
         unreachable!()
     }
 
-    // Rings the core if a call is not taken yet: it may wait for the place that is free now.
+    // Rings the core if a call is not taken yet: the core may have waited for the place that is free now.
     fn tell_of_place(&mut self)
         ensures seat { SameSeat self.old self.new }
         ensures staged { staged self.new ≡ staged self.old }

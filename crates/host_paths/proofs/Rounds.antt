@@ -12,9 +12,9 @@ use Rattle.plain.specs.declared.answer.Work.{Work}
 use Rattle.plain.specs.declared.call.DeviceCall.{DeviceCall}
 use Rattle.plain.specs.declared.call.DeviceCall.TheVariants.{Take, Finish, Requeue}
 use Rattle.host_core.specs.Seats.{SameSeat, seat_number, staged, collected}
-use Rattle.host_paths.specs.Working.{Device, Exchange, Does, DoesAll, Loses, ReadsOf, ReadsAll, HasAsked, HasDone, HasMade, HasTold, IsRound, handed_out}
+use Rattle.host_paths.specs.Working.{Device, Exchange, Does, DoesAll, Loses, ReadsOf, ReadsAll, HasAsked, HasDone, HasMade, HasTold, IsAlone, IsLeft, IsRound, handed_out}
 use Rattle.host_paths.specs.declared.worker.Round.{Round}
-use Rattle.host_paths.specs.declared.worker.Round.TheVariants.{Told, Waits, Ended}
+use Rattle.host_paths.specs.declared.worker.Round.TheVariants.{Told, Pauses, Waits, Ended}
 use Rattle.host_paths.specs.declared.worker.WorkerEnd.{WorkerEnd}
 
 -- the work that was handed out last
@@ -93,6 +93,23 @@ module _ (number : ℕ) (round : Round) (s t u : Device) (before middle after : 
       (last_loss taken log middle.log made.exchanges made.reads) in
       (more.0, more.1, made-more number taken calls was.0 more.0 (collected s) (collected t) (collected u) (record before { log = log }) middle after made more.2)
 
+-- and work is asked for after it
+pub rounds-ask : (number : ℕ) (s t u : Device) (before after : Read) → IsRound number Waits s before t after → HasAsked number (staged t) u → collected u ≡ collected t
+    → IsRound number Told s before u after
+rounds-ask number s t u before after round asks same = λ calls asked0 taken log lost.
+    let was = round calls asked0 taken log lost in (
+      was.0,
+      asks ∙ ap (λ c. c ++ Take number ∷ []) was.1,
+      subst (λ r. HasMade number taken calls (collected s) (record before { log = log }) was.0 r after) (sym same) was.2,
+    )
+
+-- what is left where no work is asked for
+pub left-alone : (round : Round) (number : ℕ) (calls : List DeviceCall) (s : Device) → IsAlone round → staged s ≡ calls → IsLeft round number calls s
+left-alone (Ended end) number calls s alone is = inl is
+left-alone Waits number calls s alone is = is
+left-alone Told number calls s alone is = elim alone [ ]
+left-alone Pauses number calls s alone is = elim alone [ ]
+
 -- no round
 pub rounds-none : (number : ℕ) (s : Device) (before : Read) → IsRound number Told s before s before
 rounds-none number s before = λ calls asks taken log lost. (
@@ -160,14 +177,11 @@ round-told s t u round work before after calls0 replies same told = λ calls ask
           (subst (λ c. HasMade (seat_number s) (Some work) c (collected t) before all.0 (collected u) after) (calls0 ∙ asks) all.2),
     )
 
--- a round in which no work came, and other work is asked for
-pub round-asked : (s t u : Device) (reply : RingReply) (before : Read) → staged t ≡ staged s → collected t ≡ collected s ++ reply ∷ [] → seat_number t ≡ seat_number s
-    → HasAsked (seat_number t) (staged t) u → collected u ≡ collected t → IsRound (seat_number s) Waits s before u before
-round-asked s t u reply before calls0 replies same again kept = λ calls asks taken log lost. (
-  calls ++ Take (seat_number s) ∷ [],
-  again ∙ ap (λ n. staged t ++ Take n ∷ []) same ∙ ap (λ c. c ++ Take (seat_number s) ∷ []) (calls0 ∙ asks),
-  asked (seat_number s) taken calls (collected s) (collected u) reply before log (kept ∙ replies) lost,
-)
+-- a round in which no work came
+pub round-asked : (s t : Device) (reply : RingReply) (before : Read) → staged t ≡ staged s → collected t ≡ collected s ++ reply ∷ []
+    → IsRound (seat_number s) Waits s before t before
+round-asked s t reply before calls0 replies = λ calls asks taken log lost.
+    (calls ++ Take (seat_number s) ∷ [], calls0 ∙ asks, asked (seat_number s) taken calls (collected s) (collected t) reply before log replies lost)
 
 -- the last round
 pub round-closed : (s t : Device) (end : WorkerEnd) (reply : RingReply) (before : Read) → staged t ≡ staged s → collected t ≡ collected s ++ reply ∷ []

@@ -11,11 +11,11 @@ use Rattle.plain.specs.declared.answer.Code.TheVariants.{HistoryFull as NoHistor
 use Rattle.host_paths.specs.declared.worker.WorkerEnd.{WorkerEnd}
 use Rattle.host_paths.specs.declared.worker.WorkerEnd.TheVariants.{Closed, Faults, HistoryFull}
 use Rattle.host_paths.specs.declared.worker.Round.{Round}
-use Rattle.host_paths.specs.declared.worker.Round.TheVariants.{Ended}
+use Rattle.host_paths.specs.declared.worker.Round.TheVariants.{Ended, Waits}
 use Rattle.plain.specs.declared.answer.Reply.TheVariants.{Taken}
 use Rattle.plain.specs.declared.answer.Work.{Work}
 use Rattle.plain.specs.declared.call.DeviceCall.{DeviceCall}
-use Rattle.plain.specs.declared.call.DeviceCall.TheVariants.{Take}
+use Rattle.plain.specs.declared.call.DeviceCall.TheVariants.{Take, Finish}
 use Rattle.host_core.specs.Seats.{staged, collected, is_closed, seat_number}
 use Rattle.host_core.specs.declared.seat.Seat.{Seat}
 
@@ -84,10 +84,19 @@ pub record HasMade (number : ℕ) (taken : Option Work) (calls0 : List DeviceCal
 abbrev pub HasAsked : ℕ → List DeviceCall → Device → Type 0
 HasAsked number calls s = staged s ≡ calls ++ Take number ∷ []
 
--- from one state of a seat and of its image to another, where this work was taken last: each call got a reply, but for one at the end that asks
--- for work, if there is one
+abbrev pub IsFinish : DeviceCall → Type 0
+IsFinish (Finish tag issue outcome) = Unit {0}
+IsFinish call = ⊥
+
+-- or these calls, of which the last is a Finish, and one more that asks for work
+abbrev pub HasAskedBehind : ℕ → List DeviceCall → Device → Type 0
+HasAskedBehind number calls s = HasAsked number calls s
+    × ((before : List DeviceCall) × (call : DeviceCall) × (calls ≡ before ++ call ∷ []) × IsFinish call)
+
+-- from one state of a seat and of its image to another, where this work was taken last: each call got a reply, but for one that asks for work
+-- and stands last, behind a Finish, if there is one
 abbrev pub HasDone : Option Work → Device → Read → Device → Read → Type 0
-HasDone taken s before t after = (calls : List DeviceCall) × ((staged t ≡ calls) ⊎ HasAsked (seat_number s) calls t)
+HasDone taken s before t after = (calls : List DeviceCall) × ((staged t ≡ calls) ⊎ HasAskedBehind (seat_number s) calls t)
     × HasMade (seat_number s) taken (staged s) (collected s) before calls (collected t) after
 
 -- the last reply refused its call, as the history is full
@@ -119,9 +128,22 @@ IfEnded round P = Unit {0}
 abbrev pub IsOwed : Device → Type 0
 IsOwed s = (is_closed s ≡ false) × (length (staged s) ≡ length (collected s) + 1)
 
--- where another round follows, one that asks for work; else there may be none
+-- so a round leaves the seat, if another follows
+abbrev pub Stands : Round → Device → Type 0
+Stands (Ended end) s = Unit {0}
+Stands Waits s = IsOpen s
+Stands round s = IsOwed s
+
+-- a round that asks for no work
+abbrev pub IsAlone : Round → Type 0
+IsAlone (Ended end) = Unit {0}
+IsAlone Waits = Unit {0}
+IsAlone round = ⊥
+
+-- which calls were made, if each of these got a reply
 abbrev pub IsLeft : Round → ℕ → List DeviceCall → Device → Type 0
-IsLeft (Ended end) number calls s = (staged s ≡ calls) ⊎ HasAsked number calls s
+IsLeft (Ended end) number calls s = (staged s ≡ calls) ⊎ HasAskedBehind number calls s
+IsLeft Waits number calls s = staged s ≡ calls
 IsLeft round number calls s = HasAsked number calls s
 
 -- one round at the seat of this number, in which work that was asked for is told, whatever was taken before it, and read in vain for that
@@ -138,8 +160,3 @@ HasTold number round work s before t after = (calls : List DeviceCall) × IsLeft
 -- one call more got a reply
 abbrev pub IsReplied : Device → Device → Type 0
 IsReplied s t = (reply : RingReply) × (collected t ≡ collected s ++ reply ∷ [])
-
--- how it ends where no more work is asked for
-abbrev pub IsLastEnd : WorkerEnd → Device → Type 0
-IsLastEnd Faults s = IsOpen s
-IsLastEnd end s = IsEndOf end s

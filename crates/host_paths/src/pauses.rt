@@ -10,17 +10,20 @@ pub const FIRST: u64 = 1;
 // The longest. A busy image then makes at most ten tries a second.
 const LONGEST: u64 = 100;
 
-/// The pause after one of so many milliseconds: twice as long, and no longer than the longest.
-pub fn longer(pause: u64) -> u64
+// The pause after one of so many milliseconds: twice as long, and no longer than the longest.
+fn longer(pause: u64) -> u64
     ensures is { result ≡ min (pause * 2) 100 }
     ensures few { result ≤ 100 }
 {
     pause.saturating_mul(2).min(LONGEST)
 }
 
-/// Sleeps so many milliseconds.
-pub fn sleep(clock: &impl Clock, pause: u64) {
+/// Sleeps so many milliseconds, and gives the next pause.
+pub fn sleep(clock: &impl Clock, pause: u64) -> u64
+    ensures { result ≡ min (pause * 2) 100 }
+{
     thread::sleep(clock, Duration::from_millis(pause));
+    longer(pause)
 }
 
 /// Sleeps so many microseconds, and not at all for none.

@@ -6,7 +6,7 @@ ghost use Rattle.host_core.specs.Seats.{staged, collected, is_closed};
 use crate::opening::opened;
 use crate::workers::last_client;
 use host_calls::{ClientCall, OperatorCall, RingReply};
-use host_rings::{Caller, Core};
+use host_rings::{Caller, Core, OperatorSeat};
 use sector_core::Class;
 use std::alloc::Global;
 use std::sync::Wait;
@@ -136,5 +136,56 @@ fn four_calls_at_once_are_answered(rt: HostRuntime) -> Result<(), Fail> {
             "{sleeps_between}"
         );
     }
+    Ok(())
+}
+
+// A client whose first call waits while the host is held, with another one behind it. Gives whether it hears the end.
+fn kept_waiting<R: Threads + Sync + Wait>(
+    rt: &R,
+    mut seat: Caller,
+    mut operator: OperatorSeat,
+) -> bool
+    requires { IsIdle seat × IsIdle operator }
+{
+    let Ok(_held) = operator.ask(rt, OperatorCall::Hold) else {
+        return false;
+    };
+    seat.stage_both_waiting(rt, attach(), attach());
+    let (is_answered, _ended) = thread::join(
+        rt,
+        move || -> bool
+            requires { (is_closed seat ≡ false) × (length (collected seat) < length (staged seat)) }
+        { collect(rt, &mut seat) },
+        move || -> bool
+            requires { is_closed operator ≡ false → length (staged operator) ≡ length (collected operator) }
+        {
+            pause();
+            operator.ask(rt, OperatorCall::Stop).is_err()
+        },
+    );
+    !is_answered
+}
+
+// The same, at a core of its own.
+fn stopped_while_held<R: Threads + Sync + Wait>(rt: &R, alloc: Global) -> Result<bool, Fail> {
+    let (mut core, mut callers, _devices, operator) = opened(alloc, 1)?;
+    let seat = last_client(&mut callers)?;
+    let (_core, is_closed) = thread::join(
+        rt,
+        move || -> Core {
+            core.run(rt, alloc);
+            core
+        },
+        move || -> bool
+            requires { IsIdle seat × IsIdle operator }
+        { kept_waiting(rt, seat, operator) },
+    );
+    Ok(is_closed)
+}
+
+// Behind the end no reply comes that would ring, so the end rings whatever stands in the ring.
+#[test]
+fn the_end_wakes_who_has_two_calls(rt: HostRuntime) -> Result<(), Fail> {
+    assert_eq!(rt; stopped_while_held(&rt, rt.alloc())?, true);
     Ok(())
 }

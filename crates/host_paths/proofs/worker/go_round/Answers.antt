@@ -1,8 +1,8 @@
-use Rattle.std.proofs.Common.{subst, sym}
-use Rattle.host_core.specs.Seats.{seat_number}
-use Rattle.host_paths.specs.declared.worker.Round.TheVariants.{Told, Waits, Ended}
-use Rattle.host_paths.specs.Working.{IsGoing, IsRound, read_of}
-use Rattle.host_paths.proofs.Rounds.{rounds-more, rounds-none, seat-none, seat-twice}
+use Rattle.std.proofs.Common.{subst, sym, ◌∙◌}
+use Rattle.host_core.specs.Seats.{seat_number, staged}
+use Rattle.host_paths.specs.declared.worker.Round.TheVariants.{Told, Pauses, Waits, Ended}
+use Rattle.host_paths.specs.Working.{HasAsked, IsGoing, IsRound, Stands, read_of}
+use Rattle.host_paths.proofs.Rounds.{rounds-ask, rounds-more, rounds-none, seat-none, seat-twice}
 use Rattle.host_paths.proofs.worker.go_round.Goals as goal
 
 pub loop-init : goal.loop-init
@@ -18,7 +18,7 @@ loop-preserved-in-Told g c =
     let was = c.loop.invariant in
     let read = read_of g.I.Image.disk g.I.Image.log in
     let number = seat_number c.args.seat.now in (
-      c.work.ensures.owed (subst IsGoing (sym c.in-Told.is) tt),
+      subst (λ r. Stands r c.work.new.seat) c.in-Told.is c.work.ensures.stands,
       seat-twice c.args.seat.now c.loop.seat c.work.new.seat was.1 c.work.ensures.seat,
       c.work.ensures.countable (subst IsGoing (sym c.in-Told.is) tt),
       rounds-more number Told c.args.seat.now c.loop.seat c.work.new.seat (read c.args.image.now) (read c.loop.image) (read c.work.new.image) was.3
@@ -26,17 +26,33 @@ loop-preserved-in-Told g c =
           (subst (λ n. IsRound n c.work.result c.loop.seat (read c.loop.image) c.work.new.seat (read c.work.new.image)) was.1.2 c.work.ensures.round)),
     )
 
+pub loop-preserved-in-Pauses : goal.loop-preserved-in-Pauses
+loop-preserved-in-Pauses g c =
+    let was = c.loop.invariant in
+    let read = read_of g.I.Image.disk g.I.Image.log in
+    let number = seat_number c.args.seat.now in (
+      subst (λ r. Stands r c.work.new.seat) c.in-Pauses.is c.work.ensures.stands,
+      seat-twice c.args.seat.now c.loop.seat c.work.new.seat was.1 c.work.ensures.seat,
+      c.work.ensures.countable (subst IsGoing (sym c.in-Pauses.is) tt),
+      rounds-more number Pauses c.args.seat.now c.loop.seat c.work.new.seat (read c.args.image.now) (read c.loop.image) (read c.work.new.image) was.3
+          (subst (λ r. IsRound number r c.loop.seat (read c.loop.image) c.work.new.seat (read c.work.new.image)) c.in-Pauses.is
+          (subst (λ n. IsRound n c.work.result c.loop.seat (read c.loop.image) c.work.new.seat (read c.work.new.image)) was.1.2 c.work.ensures.round)),
+    )
+
 pub loop-preserved : goal.loop-preserved
 loop-preserved g c =
     let was = c.loop.invariant in
     let read = read_of g.I.Image.disk g.I.Image.log in
-    let number = seat_number c.args.seat.now in (
-      c.work.ensures.owed (subst IsGoing (sym c.in-Waits.is) tt),
-      seat-twice c.args.seat.now c.loop.seat c.work.new.seat was.1 c.work.ensures.seat,
+    let number = seat_number c.args.seat.now in
+    let same = c.work.ensures.seat.2 ∙ was.1.2 in (
+      c.ask.ensures.owed,
+      seat-twice c.args.seat.now c.work.new.seat c.ask.new.seat (seat-twice c.args.seat.now c.loop.seat c.work.new.seat was.1 c.work.ensures.seat) c.ask.ensures.seat,
       c.work.ensures.countable (subst IsGoing (sym c.in-Waits.is) tt),
-      rounds-more number Waits c.args.seat.now c.loop.seat c.work.new.seat (read c.args.image.now) (read c.loop.image) (read c.work.new.image) was.3
+      rounds-ask number c.args.seat.now c.work.new.seat c.ask.new.seat (read c.args.image.now) (read c.work.new.image)
+          (rounds-more number Waits c.args.seat.now c.loop.seat c.work.new.seat (read c.args.image.now) (read c.loop.image) (read c.work.new.image) was.3
           (subst (λ r. IsRound number r c.loop.seat (read c.loop.image) c.work.new.seat (read c.work.new.image)) c.in-Waits.is
-          (subst (λ n. IsRound n c.work.result c.loop.seat (read c.loop.image) c.work.new.seat (read c.work.new.image)) was.1.2 c.work.ensures.round)),
+          (subst (λ n. IsRound n c.work.result c.loop.seat (read c.loop.image) c.work.new.seat (read c.work.new.image)) was.1.2 c.work.ensures.round)))
+          (subst (λ n. HasAsked n (staged c.work.new.seat) c.ask.new.seat) same c.ask.ensures.asked) c.ask.ensures.collected,
     )
 
 pub returns-in-Ended-clause-rounds : goal.returns-in-Ended-clause-rounds

@@ -17,8 +17,7 @@ returns-in-Answer-Accepted-Taken-clause-round g c =
 
 pub returns-in-Answer-clause-round : goal.returns-in-Answer-clause-round
 returns-in-Answer-clause-round g c =
-    round-asked c.args.seat.now c.reply.new.seat c.ask.new.seat c.reply.result (read_of g.I.Image.disk g.I.Image.log c.args.image.now)
-    c.reply.ensures.made.0 c.reply.ensures.made.1 c.reply.ensures.seat.2 c.ask.ensures.asked c.ask.ensures.collected
+    round-asked c.args.seat.now c.reply.new.seat c.reply.result (read_of g.I.Image.disk g.I.Image.log c.args.image.now) c.reply.ensures.made.0 c.reply.ensures.made.1
 
 pub returns-clause-round : goal.returns-clause-round
 returns-clause-round g c =
