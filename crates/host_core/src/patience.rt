@@ -15,11 +15,15 @@ pub const DEVICE_LOOKS: u32 = 5000;
 // The least looks are the most divided by this.
 const LEAST_PART: u32 = 32;
 
-// One wait of so many has the most looks, so that it is noticed when looking is worth it again.
-const TRIES: u32 = 16;
+// Who slept looks less by this part the next time: so slowly that one late answer does not end a run of quick ones.
+const LOSS_PART: u32 = 8;
+
+// One wait of so many has the most looks, so that it is noticed when looking is worth it again. The number is odd: a client waits by turns for
+// the answer to a Submit and to a Reap, and a worker for those to a Finish and to a Take, and each kind of wait is to be tried.
+const TRIES: u32 = 15;
 
 /// How often one looks before one sleeps. If what one waited for came while one looked, one looks as often the next time, or twice as often as
-/// it took. If one slept, one looks half as often. So who is kept waiting does not look for long, as beside other work each look takes a
+/// it took. If one slept, one looks an eighth less often. So who is kept waiting does not look for long, as beside other work each look takes a
 /// processor from those who work. No contract depends on it.
 #[derive(Clone, Copy)]
 pub struct Patience {
@@ -67,7 +71,7 @@ impl Patience {
             return;
         }
         self.limit = if self.rests > self.looks() {
-            (self.limit / 2).max(self.most / LEAST_PART)
+            (self.limit - self.limit / LOSS_PART).max(self.most / LEAST_PART)
         } else {
             self.rests.saturating_mul(2).min(self.most).max(self.limit)
         };
