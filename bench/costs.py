@@ -22,11 +22,12 @@ ATTACHED = "attached"
 
 
 class Cost(NamedTuple):
-    """Of a read or a write: each of CALLS, the times that a thread gave up, and processor time in microseconds."""
+    """Of a read or a write: each of CALLS, the times that a thread gave up, and processor time in microseconds; and how many there are a second."""
 
     calls: dict
     switches: float
     time: float
+    rate: float
 
 
 def tasks(number):
@@ -78,18 +79,18 @@ def cost(make, clients, depth, writes, seconds):
         before, took = switches(number), processor(number)
         each, _ = measured(server, clients, depth, writes, seconds)
         done = each * seconds
-        return Cost(of_each, (switches(number) - before) / done, 1e6 * (processor(number) - took) / done)
+        return Cost(of_each, (switches(number) - before) / done, 1e6 * (processor(number) - took) / done, each)
 
 
 def middle(costs):
     """The median of each figure of several rounds."""
     return Cost({name: statistics.median(it.calls[name] for it in costs) for name in CALLS}, statistics.median(it.switches for it in costs),
-                statistics.median(it.time for it in costs))
+                statistics.median(it.time for it in costs), statistics.median(it.rate for it in costs))
 
 
 def row(it):
     """The figures of a line."""
-    return " ".join(f"{it.calls[name]:8.2f}" for name in CALLS) + f" {it.switches:8.2f} {it.time:8.1f}"
+    return " ".join(f"{it.calls[name]:8.2f}" for name in CALLS) + f" {it.switches:8.2f} {it.time:8.1f} {it.rate:9.0f}"
 
 
-HEAD = " ".join(f"{name:>8}" for name in CALLS) + f" {'switches':>8} {'us':>8}"
+HEAD = " ".join(f"{name:>8}" for name in CALLS) + f" {'switches':>8} {'us':>8} {'a second':>9}"

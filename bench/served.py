@@ -1,7 +1,7 @@
 #!/usr/bin/env python3
 """Reads and writes of clients over sockets: `bfqhost serve` beside its floor.
 
-    python3 bench/served.py [--rounds N] [--seconds S] [--costs]
+    python3 bench/served.py [--rounds N] [--seconds S] [--costs [--against PROGRAM]]
 
 The floor is `ring_bench floor` of crates/ring_bench: the same sockets, threads, rings, bells and frames, with a core that answers each call at
 once by its kind, and no machine and no image. It has 16 seats of clients, as a host has. Each read and write has 8 sectors. A client sends
@@ -19,11 +19,14 @@ With one client at depth 1 the host must reach 0.8 of the floor, or come as near
 within 5 times its half, or within 1.5 times the floor's own ratio. The status is 1 where it is not so. Of the other cells nothing is asked.
 
 With --costs it is told what a read and a write cost the host and the floor: system calls by `strace -c`, which slows both; and without it
-how often a thread waits, and processor time. Both take turns, and a figure is the median of the rounds. Of these nothing is asked.
+how often a thread waits, processor time, and how many there are a second. Both take turns, and a figure is the median of the rounds. Of these
+nothing is asked. With --against another `bfqhost` stands in the floor's place. Memory is taken as `./bfqhost` takes it, unless GLIBC_TUNABLES
+says otherwise.
 """
 
 import argparse
 import os
+import shutil
 import statistics
 import subprocess
 import sys
@@ -33,8 +36,8 @@ from dataclasses import dataclass
 
 sys.dont_write_bytecode = True
 import costs  # noqa: E402
-from loads import PROGRAM, TOP, Host, measured, quietest, serving  # noqa: E402
-from served import image_of  # noqa: E402
+from loads import HISTORY, PROGRAM, TOP, Host, measured, quietest, serving  # noqa: E402
+from served import Served, image_of  # noqa: E402
 
 FLOOR = os.path.join(TOP, "crates", "ring_bench", "out", "ring_bench")
 # So many seats of clients has a host, however many come. A floor has as many, so that a turn of its core looks at them all.
@@ -45,8 +48,17 @@ MOST_OF_HALF, MOST_OF_FLOORS_RATIO = 5, 1.5
 CELLS = [(1, 1, False), (1, 1, True), (1, 16, False), (1, 16, True), (4, 1, False), (4, 1, True), (4, 16, False), (4, 16, True)]
 # The cell of which something is asked: one client, at depth 1.
 JUDGED = (1, 1)
+# How `./bfqhost` has memory taken.
+TUNABLES = "glibc.malloc.hugetlb=1:glibc.malloc.arena_max=1"
 # Those whose costs are told.
 COSTED = [it for it in CELLS if it[0] == 1 or it[1] == 1]
+
+
+class Other(Host):
+    """A run of another program of the same words."""
+
+    def __init__(self, program, folder, image, clients):
+        Served.__init__(self, program, image, folder, "--history", str(HISTORY), clients=clients, workers=2)
 
 
 class Floor:
@@ -120,14 +132,16 @@ def told(cell, quiet, number):
     return part >= min(LEAST_OF_FLOOR, itself) and ratio(host_times) <= max(MOST_OF_HALF, MOST_OF_FLOORS_RATIO * ratio(floor_times))
 
 
-def tell_costs(image, rounds, seconds):
-    """What a read and a write cost the host, and the floor, in each cell."""
+def tell_costs(image, rounds, seconds, against):
+    """What a read and a write cost the host, and the floor or another program, in each cell."""
+    other = "other" if against else "floor"
     print(f"{'clients':>7} {'depth':>5} {'what':>6} {'of':>6} {costs.HEAD}")
     for clients, depth, writes in COSTED:
-        found = {"host": [], "floor": []}
+        found = {"host": [], other: []}
         for _ in range(rounds):
             found["host"].append(costs.cost(lambda at: Host(at, image, clients), clients, depth, writes, seconds))
-            found["floor"].append(costs.cost(lambda at: Floor(at, writes), clients, depth, writes, seconds))
+            beside = (lambda at: Other(against, at, image, clients)) if against else (lambda at: Floor(at, writes))
+            found[other].append(costs.cost(beside, clients, depth, writes, seconds))
         for name, rows in found.items():
             print(f"{clients:7} {depth:5} {'write' if writes else 'read':>6} {name:>6} {costs.row(costs.middle(rows))}", flush=True)
     return 0
@@ -138,13 +152,23 @@ def main():
     words.add_argument("--rounds", type=int, default=7)
     words.add_argument("--seconds", type=float, default=2)
     words.add_argument("--costs", action="store_true")
+    words.add_argument("--against", metavar="PROGRAM", type=os.path.abspath)
     given = words.parse_args()
-    for program in (PROGRAM, FLOOR):
+    if given.rounds < 1 or not given.seconds > 0:
+        words.error("rounds and seconds are more than 0")
+    if given.against and not given.costs:
+        words.error("--against goes with --costs")
+    if given.costs and not shutil.which("strace"):
+        sys.exit("bench: --costs wants strace, which is not here")
+    os.environ.setdefault("GLIBC_TUNABLES", TUNABLES)
+    if given.against and not os.path.exists(given.against):
+        sys.exit(f"bench: there is no {given.against}")
+    for program in [PROGRAM] if given.against else [PROGRAM, FLOOR]:
         if not os.path.exists(program):
             sys.exit(f"bench: no program; `rt run` in {os.path.dirname(os.path.dirname(program))} builds it")
     if given.costs:
         with tempfile.TemporaryDirectory(prefix="bfq-") as folder:
-            return tell_costs(image_of(folder, 4096), given.rounds, given.seconds)
+            return tell_costs(image_of(folder, 4096), given.rounds, given.seconds, given.against)
     is_good = True
     print(f"{'clients':>7} {'depth':>5} {'what':>6} {'host':>8} {'floor':>8} {'part':>5} {'floor itself':>12} {'rounds':>6} {'stolen':>6}"
           "   half, 99 of 100 of host and floor")

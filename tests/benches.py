@@ -166,19 +166,21 @@ def futures_bench_runs():
         yield "bench/futures.py", [str(fault)]
 
 
-def short_costs():
-    """bench/served.py --costs with one short round: the image is read once for a read of the host, and by nobody else."""
-    words = [sys.executable, os.path.join(TOP, "bench", "served.py"), "--costs", "--rounds", "1", "--seconds", "0.2"]
+def short_costs(beside, *against):
+    """bench/served.py --costs with one short round: the image is read once for a read of a host, and never by a floor."""
+    words = [sys.executable, os.path.join(TOP, "bench", "served.py"), "--costs", "--rounds", "1", "--seconds", "0.2", *against]
     ran = subprocess.run(words, stdin=subprocess.DEVNULL, capture_output=True, text=True, timeout=SECONDS, check=False)
     head, *rows = [row.split() for row in ran.stdout.splitlines()]
     same("the end", (ran.returncode, ran.stderr), (0, ""))
     same("the lines", [(*row[:3], row[3]) for row in rows], [(clients, depth, kind, of) for clients, depth in (("1", "1"), ("1", "16"), ("4", "1"))
-                                                            for kind in ("read", "write") for of in ("host", "floor")])
+                                                            for kind in ("read", "write") for of in ("host", beside)])
     for clients, depth, kind, of, *figures in rows:
         told = dict(zip(head[4:], map(float, figures)))
         # Who attaches and what is under way when the counting begins and ends are no reads of these.
-        is_near = abs(told["pread"] - (of == "host" and kind == "read")) < 0.2
-        same(f"{clients} {depth} {kind} {of}: {told}", (is_near, told["send"] > 0, told["switches"] >= 0, told["us"] > 0), (True, True, True, True))
+        is_near = abs(told["pread"] - (of != "floor" and kind == "read")) < 0.2
+        # Memory is taken from one place, whose size changes seldom.
+        is_steady = told["mprotect"] < 0.2
+        same(f"{clients} {depth} {kind} {of}: {told}", (is_near, is_steady, told["send"] > 0, told["switches"] >= 0, told["us"] > 0), (True,) * 5)
 
 
 def cost_runs():
@@ -195,7 +197,8 @@ def cost_runs():
         print("skipped: bench/served.py --costs: no strace here, or no leave to use it")
         return
     try:
-        short_costs()
+        short_costs("floor")
+        short_costs("other", "--against", builds("bfqhost")[0][0])
         yield "bench/served.py --costs", []
     except (OSError, ValueError, Wrong, subprocess.SubprocessError) as fault:
         yield "bench/served.py --costs", [str(fault)]
