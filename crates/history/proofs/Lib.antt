@@ -1,4 +1,5 @@
 pub mod Room
+pub mod Places
 pub mod Lines
 pub mod Ways
 pub mod Calls

@@ -1,3 +1,4 @@
+pub mod Places
 pub mod Line
 pub mod Roll
 pub mod Kept

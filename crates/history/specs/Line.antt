@@ -1,4 +1,5 @@
 -- Why a step can be undone and redone: its list leads from the machine on its one side to the machine on its other side.
+use Rattle.std.specs.List.{All}
 use Rattle.std.specs.Prelude.{true, ◌≡◌, ℕ, zero, suc, ◌+◌, ◌-◌, ◌≤◌, List, [], length, slice_index_or}
 use Rattle.change_record.specs.declared.change.Change.{Change}
 use Rattle.change_record.specs.Tables.{Tables}
@@ -7,10 +8,13 @@ use Rattle.change_record.specs.Tape.{step_at}
 use Rattle.change_record.specs.Machine.{meaning}
 use Rattle.plain.specs.declared.sizes.Sizes.{Sizes}
 use Rattle.plain.specs.declared.step.Step.TheVariants.{Dispatch}
+use Rattle.plain.specs.declared.call.Call.{Call}
 use Rattle.plain.specs.declared.call.Stamped.{Stamped}
 use Rattle.plain.specs.Opening.{Limits, opening}
 use Rattle.plain.specs.Step.{of_sizes, step}
 use Rattle.dispatch_core.specs.WellFormed.{IsSound}
+use Rattle.history.specs.declared.place.Place.{Place}
+use Rattle.history.specs.Places.{steps_in, IsPlaced}
 
 -- the step at a number
 abbrev pub stamped_at : List Stamped → ℕ → Stamped
@@ -47,3 +51,8 @@ pub record IsLine (line : List Stamped) (cursor last : ℕ) (sizes : Sizes) (t :
   pub well : IsSound (of_sizes sizes) (last + 1) t
   pub past : IsPast (of_sizes sizes) (last + 1) (step_at steps) (stamped_at line) cursor t
   pub future : IsFuture (of_sizes sizes) (last + 1) (step_at steps) (stamped_at line) (length line - cursor) cursor t
+
+-- each place of the line is that of a step of the journal, and these steps are such a line
+pub record IsRoll (journal : List Call) (places : List Place) (cursor last : ℕ) (sizes : Sizes) (t : Tables) (steps : List (List Change)) (current : List Change) : Type 0 where
+  pub placed : All (IsPlaced journal) places
+  pub line : IsLine (steps_in journal places) cursor last sizes t steps current

@@ -1,8 +1,10 @@
--- The line of steps and the machine of those before the cursor, as a keeper sees them.
+-- The line of steps, the machine of those before the cursor, and the journal, as a keeper sees them.
 use Rattle.std.specs.Prelude.{◌≡◌, ℕ, ◌+◌, Bool, List, [], ◌∷◌, ◌++◌, take, ◌⊎◌}
 use Rattle.plain.specs.Machine.{Plain}
 use Rattle.plain.specs.declared.sizes.Sizes.{Sizes}
 use Rattle.plain.specs.declared.step.Step.{Step}
+use Rattle.plain.specs.declared.call.Call.{Call}
+use Rattle.plain.specs.declared.call.Call.TheVariants.{Do}
 use Rattle.plain.specs.declared.call.Stamped.{Stamped}
 use Rattle.plain.specs.declared.answer.Answer.{Answer}
 use Rattle.plain.specs.declared.answer.Answer.TheVariants.{Accepted, Refused, NotYet}
@@ -19,24 +21,29 @@ pub record Line : Type 0 where
   -- how many exchanges each step's list has, and how many were made
   pub lengths : List ℕ
   pub turns : ℕ
+  pub journal : List Call
+  -- how many more entries the journal has room for
+  pub spare : ℕ
 
 -- the machine of the steps that stand
 abbrev pub plain_at : Line → Plain
 plain_at r = fold (of_sizes r.sizes) (take r.cursor r.steps)
 
--- the line is the same
+-- the line and the journal are the same
 pub record SameLine (old new : Line) : Type 0 where
   pub sizes : new.sizes ≡ old.sizes
   pub steps : new.steps ≡ old.steps
   pub cursor : new.cursor ≡ old.cursor
   pub last : new.last ≡ old.last
+  pub journal : new.journal ≡ old.journal
 
--- an accepted step cuts the line at the cursor and is its last, under the next serial
+-- an accepted step cuts the line at the cursor and is its last, under the next serial; and it is the journal's next entry
 pub record AddsStep (old : Line) (s : Step) (new : Line) : Type 0 where
   pub sizes : new.sizes ≡ old.sizes
   pub steps : new.steps ≡ take old.cursor old.steps ++ record { serial = old.last + 1; step = s } ∷ []
   pub cursor : new.cursor ≡ old.cursor + 1
   pub last : new.last ≡ old.last + 1
+  pub journal : new.journal ≡ old.journal ++ Do s ∷ []
 
 -- what the line is after the plain step's answer
 abbrev pub LineAfter : Line → Step → Answer → Line → Type 0

@@ -11,10 +11,10 @@ ghost use Rattle.dispatch_core.specs.Running.{plain_of, sizes_of, IsFor};
 ghost use Rattle.history.specs.Turns.{Turns};
 
 use crate::moves::{redo_steps, undo_steps};
+use crate::place::StampedStep;
 use crate::roll::Roll;
-use change_record::push_within;
 use dispatch_core::{Answer, Cause, Code, Reply, Step, View};
-use plain::{Call, Stamped};
+use plain::Call;
 use sector_core::{Config, OutOfMemory};
 use std::alloc::Global;
 use std::marker::Model;
@@ -23,7 +23,6 @@ use std::marker::Model;
 pub struct Keeper {
     roll: Roll,
     held: bool,
-    journal: Vec<Call>,
     most: u32,
 }
 
@@ -33,26 +32,24 @@ impl Drop for Keeper {
         let Keeper {
             roll: _,
             held: _,
-            journal: _,
             most: _,
         } = self;
     }
 }
 
 impl Model for Keeper {
-    ghost use Rattle.std.specs.Prelude.{vec_len, vec_capacity};
     ghost use Rattle.history.specs.Keeping.{state_of, IsKeeper};
     ghost use Rattle.history.specs.Kept.{Kept};
 
     ghost Value = { Kept };
 
     ghost view = { λ k. record {
-      state = state_of k.roll k.held k.journal.items k.most;
+      state = state_of k.roll k.held k.most;
       lengths = k.roll.lengths;
       turns = k.roll.turns;
     } };
 
-    ghost invariant = { λ k. IsKeeper k.roll k.held k.journal.items (vec_len k.journal) (vec_capacity k.journal) k.most };
+    ghost invariant = { λ k. IsKeeper k.roll k.held k.most };
 }
 
 impl Keeper {
@@ -71,7 +68,6 @@ impl Keeper {
         Ok(Keeper {
             roll,
             held: false,
-            journal: Vec::new(alloc),
             most: config.history_max,
         })
     }
@@ -103,14 +99,14 @@ impl Keeper {
         ensures few { result ≤ self.now.state.most }
         ensures replay { self.now.state ≡ replay self.now.state.limits self.now.state.most self.now.state.journal }
     {
-        self.journal.len()
+        self.roll.journal_len()
     }
 
     /// The accepted call of a number, from 0.
     pub fn entry(&self, at: usize) -> Option<&Call>
         ensures { option_copied result ≡ slice_get self.now.state.journal at }
     {
-        self.journal.get(at)
+        self.roll.entry(at)
     }
 
     fn take_step(&mut self, alloc: Global, step: &Step) -> Answer
@@ -120,26 +116,8 @@ impl Keeper {
         if self.held {
             return Answer::NotYet(Cause::Held);
         }
-        let room = has_room(&self.journal, self.most);
-        let entry = entry_of(&mut self.journal, self.roll.cursor(), step);
-        // A call drops the entry: so no way out proves the drop of each part of it anew.
-        match self.roll.step(alloc, room, entry.is_some(), step) {
-            Answer::Refused(code) => {
-                drop(entry);
-                return Answer::Refused(code);
-            }
-            Answer::NotYet(cause) => {
-                drop(entry);
-                return Answer::NotYet(cause);
-            }
-            Answer::Accepted(reply) => match entry {
-                Some(entry) => {
-                    push_within(&mut self.journal, entry);
-                    return Answer::Accepted(reply);
-                }
-                None => unreachable!(),
-            },
-        }
+        let room = has_room(&self.roll, self.most);
+        return self.roll.step(alloc, room, step);
     }
 
     fn hold(&mut self) -> Answer
@@ -149,13 +127,14 @@ impl Keeper {
         if self.held {
             return Answer::Refused(Code::AlreadyHeld);
         }
-        if !has_room(&self.journal, self.most) {
+        if !has_room(&self.roll, self.most) {
             return Answer::Refused(Code::HistoryFull);
         }
-        if !reserved(&mut self.journal, self.roll.cursor()) {
+        let standing = self.roll.cursor();
+        if !self.roll.reserve(standing) {
             return Answer::Refused(Code::OutOfMemory);
         }
-        push_within(&mut self.journal, Call::Hold);
+        self.roll.note(Call::Hold);
         self.held = true;
         return moved(&self.roll);
     }
@@ -167,13 +146,14 @@ impl Keeper {
         if !self.held {
             return Answer::Refused(Code::NotHeld);
         }
-        if !has_room(&self.journal, self.most) {
+        if !has_room(&self.roll, self.most) {
             return Answer::Refused(Code::HistoryFull);
         }
-        if !reserved(&mut self.journal, self.roll.cursor()) {
+        let standing = self.roll.cursor();
+        if !self.roll.reserve(standing) {
             return Answer::Refused(Code::OutOfMemory);
         }
-        push_within(&mut self.journal, Call::Release);
+        self.roll.note(Call::Release);
         self.held = false;
         return Answer::Accepted(Reply::Done);
     }
@@ -191,11 +171,11 @@ impl Keeper {
         if self.roll.cursor() < k as usize {
             return Answer::Refused(Code::NothingToUndo);
         }
-        if !has_room(&self.journal, self.most) {
+        if !has_room(&self.roll, self.most) {
             return Answer::Refused(Code::HistoryFull);
         }
         undo_steps(&mut self.roll, k as usize);
-        push_within(&mut self.journal, Call::Undo { k });
+        self.roll.note(Call::Undo { k });
         return moved(&self.roll);
     }
 
@@ -213,58 +193,26 @@ impl Keeper {
         if self.roll.length() < end {
             return Answer::Refused(Code::NothingToRedo);
         }
-        if !has_room(&self.journal, self.most) {
+        if !has_room(&self.roll, self.most) {
             return Answer::Refused(Code::HistoryFull);
         }
-        if !reserved(&mut self.journal, end) {
+        if !self.roll.reserve(end) {
             return Answer::Refused(Code::OutOfMemory);
         }
         match redo_steps(&mut self.roll, k as usize) {
             Ok(()) => {}
             Err(_) => return Answer::Refused(Code::OutOfMemory),
         }
-        push_within(&mut self.journal, Call::Redo { k });
+        self.roll.note(Call::Redo { k });
         return moved(&self.roll);
     }
 }
 
 // Whether the journal may hold one more entry.
-fn has_room(journal: &Vec<Call>, most: u32) -> bool
-    ensures { result ≡ nat_lt (length journal.now.items) most }
+fn has_room(roll: &Roll, most: u32) -> bool
+    ensures { result ≡ nat_lt (length roll.now.journal) most }
 {
-    journal.len() < most as usize
-}
-
-// Makes room in the journal for one entry, and for one more for each of so many steps.
-fn reserved(journal: &mut Vec<Call>, steps: usize) -> bool
-    requires { steps < 2 ^ 40 }
-    ensures items { journal.new.items ≡ journal.old.items }
-    ensures len { vec_len journal.new ≡ vec_len journal.old }
-    ensures room { IsTrue result → vec_len journal.new + (steps + 1) ≤ vec_capacity journal.new }
-    ensures capacity { vec_capacity journal.old ≤ vec_capacity journal.new }
-{
-    match journal.reserve(steps + 1) {
-        Ok(()) => true,
-        Err(_) => false,
-    }
-}
-
-// A copy of the step for the journal, which has room for it and for an entry for each step that would stand.
-fn entry_of(journal: &mut Vec<Call>, cursor: usize, step: &Step) -> Option<Call>
-    requires { cursor < 2 ^ 32 }
-    ensures items { journal.new.items ≡ journal.old.items }
-    ensures len { vec_len journal.new ≡ vec_len journal.old }
-    ensures entry { IfSome result (λ entry. entry ≡ DoStep step.now) }
-    ensures room { IfSome result (λ entry. vec_len journal.new + (cursor + 2) ≤ vec_capacity journal.new) }
-    ensures capacity { vec_capacity journal.old ≤ vec_capacity journal.new }
-{
-    if !reserved(journal, cursor + 1) {
-        return None;
-    }
-    match step.clone() {
-        Ok(copy) => Some(Call::Do(copy)),
-        Err(_) => None,
-    }
+    roll.journal_len() < most as usize
 }
 
 // What an accepted Hold, Undo or Redo answers.
@@ -333,8 +281,8 @@ impl<'a> KeeperView<'a> {
     }
 
     /// The step at a place of the line, from 0, with its serial.
-    pub fn stamped(&self, place: u32) -> Option<&'a Stamped>
-        ensures { option_copied result ≡ slice_get self.now.state.line place }
+    pub fn stamped(&self, place: u32) -> Option<StampedStep<'a>>
+        ensures { result ≡ slice_get self.now.state.line place }
     {
         let keeper = self.keeper;
         keeper.roll.stamped(place as usize)

@@ -15,6 +15,8 @@ pub fn undo_steps(roll: &mut Roll, count: usize)
     ensures last { roll.new.last ≡ roll.old.last }
     ensures lengths { roll.new.lengths ≡ roll.old.lengths }
     ensures turns { MakesTurns roll.old.turns (changes_of roll.old.lengths (roll.old.cursor - count) count) roll.new.turns }
+    ensures journal { roll.new.journal ≡ roll.old.journal }
+    ensures spare { roll.new.spare ≡ roll.old.spare }
 {
     for _ in 0..count {
         roll.undo();
@@ -32,6 +34,8 @@ pub fn redo_steps(roll: &mut Roll, count: usize) -> Result<(), OutOfMemory>
     ensures lengths { roll.new.lengths ≡ roll.old.lengths }
     ensures turns { OnOk result (MakesTurns roll.old.turns (changes_of roll.old.lengths roll.old.cursor count) roll.new.turns) }
     ensures turned_back { OnErr result (TakesBack roll.old.turns (changes_of roll.old.lengths roll.old.cursor count) roll.new.turns) }
+    ensures journal { roll.new.journal ≡ roll.old.journal }
+    ensures spare { roll.new.spare ≡ roll.old.spare }
 {
     for done in 0..count {
         match roll.redo() {

@@ -30,4 +30,6 @@ loop-preserved c =
       e.last ∙ inv.3,
       e.lengths ∙ inv.4,
       omega (arith, at, more, made, before),
+      e.journal ∙ inv.6,
+      e.spare ∙ inv.7,
     )

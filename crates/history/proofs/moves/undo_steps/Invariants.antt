@@ -10,3 +10,5 @@ invariant-loop l =
     × (l.roll.last ≡ l.fn.roll.last)
     × (l.roll.lengths ≡ l.fn.roll.lengths)
     × MakesTurns l.fn.roll.turns (changes_of l.fn.roll.lengths (l.fn.roll.cursor - l.counter) l.counter) l.roll.turns
+    × (l.roll.journal ≡ l.fn.roll.journal)
+    × (l.roll.spare ≡ l.fn.roll.spare)
