@@ -87,8 +87,8 @@ fn line_of(view: &KeeperView<'_>) -> Digest {
     let mut digest = Digest::new();
     for place in 0..view.length() {
         if let Some(stamped) = view.stamped(place) {
-            digest.add(stamped.serial);
-            add_step(&mut digest, &stamped.step);
+            digest.add(stamped.serial());
+            add_step(&mut digest, stamped.step());
         }
     }
     digest

@@ -1,6 +1,5 @@
 // What a look prints.
 ghost use Rattle.std.specs.Prelude.{◌≡◌, ◌++◌, List, ℕ, OnOk};
-ghost use Rattle.std.specs.Option.{option_copied};
 ghost use Rattle.host_console.specs.Looks.{Looked, host_look, step_look, step_at, hold_text};
 ghost use Rattle.host_console.specs.State.{run_text};
 
@@ -10,8 +9,7 @@ use crate::requests::{put_queue, put_requeued};
 use crate::seats::{put_outbox, put_seat};
 use crate::state::put_state;
 use crate::steps::{put_numbered, scheduler_word};
-use history::KeeperView;
-use plain::Stamped;
+use history::{KeeperView, StampedStep};
 use script_line::Look;
 use std::io::{self, Write};
 
@@ -73,14 +71,14 @@ fn put_step(view: &KeeperView<'_>, number: u32, out: &mut Vec<u8>) -> io::Result
     ensures { OnOk result (out.new.items ≡ out.old.items ++ step_look number (step_at view.now.state number)) }
 {
     match stamped_at(view, number) {
-        Some(stamped) => put_numbered(number, stamped, out),
+        Some(stamped) => put_numbered(number, &stamped, out),
         None => write!(out, "step {number} none"),
     }
 }
 
 // The step of a number from 1 on.
-fn stamped_at<'a>(view: &KeeperView<'a>, number: u32) -> Option<&'a Stamped>
-    ensures { option_copied result ≡ step_at view.now.state number }
+fn stamped_at<'a>(view: &KeeperView<'a>, number: u32) -> Option<StampedStep<'a>>
+    ensures { result ≡ step_at view.now.state number }
 {
     match number.checked_sub(1) {
         Some(place) => view.stamped(place),

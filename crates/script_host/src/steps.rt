@@ -5,17 +5,17 @@ ghost use Rattle.host_console.specs.Views.{scheduler_text};
 ghost use Rattle.host_console.specs.Looks.{fill_text, outcome_text, class_end, line_text, step_look, IsSetting};
 
 use dispatch_core::Step;
-use plain::Stamped;
+use history::StampedStep;
 use sector_core::{Class, FailKind, Op, Outcome, Range, Scheduler};
 use std::io::{self, Write};
 
 /// Appends a step of the line under its number. It fails only for want of memory.
-pub fn put_numbered(number: u32, stamped: &Stamped, out: &mut Vec<u8>) -> io::Result<()>
+pub fn put_numbered(number: u32, stamped: &StampedStep<'_>, out: &mut Vec<u8>) -> io::Result<()>
     ensures { OnOk result (out.new.items ≡ out.old.items ++ step_look number (Some stamped.now)) }
 {
-    let serial = stamped.serial;
+    let serial = stamped.serial();
     write!(out, "step {number} {serial} ")?;
-    put_step(&stamped.step, out)
+    put_step(stamped.step(), out)
 }
 
 /// Appends the line of a step: bytes that are not all alike are two dots. It fails only for want of memory.
