@@ -156,15 +156,15 @@ step-line line k last z t u steps current changes s h trail w made =
     }
 
 -- an accepted step was taken with room
-pub made : (l : Limits) (m next : Plain) (n : ℕ) (room : Bool) (s : Step) (reply : Reply) → Applies l m n room s next (Accepted reply) → next ≡ (step l m n true s).0
-made l m next n true s reply (inl e) = ap (λ o. o.0) e
-made l m next n false s reply (inl e) = absurd (no_room l m n s (subst IsAccepted (ap (λ o. o.1) e) tt))
-made l m next n room s reply (inr e) = absurd (subst IsAccepted e.1 tt)
-
 pub roomed : (l : Limits) (m next : Plain) (n : ℕ) (room : Bool) (s : Step) (reply : Reply) → Applies l m n room s next (Accepted reply) → room ≡ true
 roomed l m next n true s reply h = refl
 roomed l m next n false s reply (inl e) = absurd (no_room l m n s (subst IsAccepted (ap (λ o. o.1) e) tt))
 roomed l m next n false s reply (inr e) = absurd (subst IsAccepted e.1 tt)
+
+pub made : (l : Limits) (m next : Plain) (n : ℕ) (room : Bool) (s : Step) (reply : Reply) → Applies l m n room s next (Accepted reply) → next ≡ (step l m n true s).0
+made l m next n true s reply (inl e) = ap (λ o. o.0) e
+made l m next n false s reply (inl e) = absurd (no_room l m n s (subst IsAccepted (ap (λ o. o.1) e) tt))
+made l m next n room s reply (inr e) = absurd (subst IsAccepted e.1 tt)
 
 pub may-other : (old new : Line) (m next : Plain) (room : Bool) (s : Step) (answer : Answer) → m ≡ plain_at old
     → Applies (of_sizes old.sizes) m (old.last + 1) room s next answer → (IsAccepted answer → ⊥) → SameLine old new → MayStep old room s answer new

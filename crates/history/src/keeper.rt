@@ -1,9 +1,9 @@
 // The keeper.
-ghost use Rattle.std.specs.Prelude.{◌≡◌, ◌+◌, ◌-◌, ◌≤◌, ◌<◌, ◌^◌, nat_lt, [], ◌∷◌, ◌++◌, IfOk, IfErr, IfSome, IsTrue, length, take, drop, map, slice_get, vec_len, vec_capacity};
+ghost use Rattle.std.specs.Prelude.{◌≡◌, ◌+◌, ◌≤◌, ◌<◌, ◌^◌, nat_lt, [], IfOk, length, slice_get};
 ghost use Rattle.std.specs.Option.{option_copied};
 ghost use Rattle.plain.specs.Step.{of_sizes};
-ghost use Rattle.plain.specs.Keeper.{State, opened, machine_of, called};
-ghost use Rattle.plain.specs.Headline.{MayCall, MayRun, replay};
+ghost use Rattle.plain.specs.Keeper.{opened, machine_of};
+ghost use Rattle.plain.specs.Headline.{MayCall, replay};
 ghost use Rattle.plain.specs.declared.call.Call.TheVariants.{Do as DoStep, Hold as HoldAll, Release as ReleaseAll, Undo as UndoSteps, Redo as RedoSteps};
 ghost use Rattle.plain.specs.declared.answer.Answer.TheVariants.{Accepted};
 ghost use Rattle.plain.specs.declared.answer.Reply.TheVariants.{Moved};

@@ -1,8 +1,6 @@
 // The journal, the line of steps, and the machine of those before the cursor.
 ghost use Rattle.std.specs.Prelude.{◌≡◌, ◌+◌, ◌-◌, ◌<◌, ◌≤◌, ◌^◌, ◌%◌, slice_get, slice_index_or, [], ◌∷◌, ◌++◌, IfOk, OnOk, OnErr, length, IsTrue};
 ghost use Rattle.std.specs.Option.{option_copied};
-ghost use Rattle.plain.specs.Step.{of_sizes};
-ghost use Rattle.plain.specs.Keeper.{fold};
 ghost use Rattle.dispatch_core.specs.Running.{plain_of, sizes_of, IsFor};
 ghost use Rattle.change_record.specs.Tape.{TakesBack};
 ghost use Rattle.history.specs.Roll.{plain_at, SameLine, LengthsAfter, MayStep};
