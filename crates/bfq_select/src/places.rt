@@ -8,7 +8,7 @@ ghost use Rattle.bfq_select.specs.Service.{IsSized, IsBounded};
 ghost use Rattle.bfq_select.specs.Course.{Exchanges};
 
 use crate::reading::vtimes_of;
-use change_record::{Change, Parts, Tape};
+use change_record::{Change, MemberPlace, Parts, Tape};
 use plain::{InService, Member};
 use sector_core::{Class, Entity};
 
@@ -27,7 +27,7 @@ pub fn set_member(parts: &mut Parts, tape: &mut Tape, group: u8, entity: Entity,
         Change::TreeMember {
             group,
             entity,
-            member: Some(member),
+            member: MemberPlace::of(Some(member)),
         },
     );
 }

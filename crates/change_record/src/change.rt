@@ -1,13 +1,12 @@
 // One exchange on one place.
-use arrayvec::ArrayVec;
-use plain::{InService, Member, Seat, Vtimes};
+use crate::{MemberPlace, Outbox};
+use boxed::Boxed;
+use plain::{InService, Seat, Vtimes};
 use process_queue::Link;
 use request_pool::Request;
 use sector_core::{Bio, Block, Entity, Scheduler, Slot};
+use std::mem::size_of;
 use tag_set::Issue;
-
-/// The slots of a seat's completed bios, the first to be reaped first.
-pub type Outbox = ArrayVec<Slot, 32>;
 
 /// What the tables of a machine are made for.
 #[derive(Clone, Copy)]
@@ -27,22 +26,24 @@ pub struct Making {
 }
 
 /// An exchange: a place of the tables, and the value that is to stand there, or after a turn the one that stood there.
+///
+/// A wide value stands in a box of its own, which goes from the tape to the tables and back.
 #[derive(Drop)]
 pub enum Change {
     /// The overlay at a sector.
     Sector {
         sector: u64,
-        block: Option<Block>,
+        block: Option<Boxed<Block>>,
     },
     /// A slot of the requests.
     RequestSlot {
         slot: Slot,
-        request: Option<Request>,
+        request: Option<Boxed<Request>>,
     },
     /// A slot of the bios.
     BioSlot {
         slot: Slot,
-        bio: Option<Bio>,
+        bio: Option<Boxed<Bio>>,
     },
     /// What a tag bears.
     Tag {
@@ -84,7 +85,7 @@ pub enum Change {
     TreeMember {
         group: u8,
         entity: Entity,
-        member: Option<Member>,
+        member: MemberPlace,
     },
     /// The virtual times of a group, one of each class.
     Vtime {
@@ -111,3 +112,6 @@ pub enum Change {
         slot: Option<InService>,
     },
 }
+
+// A tape has some four of them for each call, and never drops one of a step that stands or waits.
+const _: () = prove!(size_of::<Change>() <= 32);

@@ -18,13 +18,17 @@
 
 mod change;
 mod laws;
+mod member_place;
+mod outbox;
 mod parts;
 mod room;
 mod tape;
 mod turns;
 
-pub use change::{Change, Making, Outbox};
+pub use change::{Change, Making};
 pub use laws::{back_leads_forth, turned_twice};
+pub use member_place::MemberPlace;
+pub use outbox::Outbox;
 pub use parts::Parts;
 pub use plain::{Expiry, InService, Seat};
 pub use room::push_within;

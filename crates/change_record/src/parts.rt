@@ -8,12 +8,12 @@ ghost use Rattle.overlay.specs.Blocks.{exchanged};
 ghost use Rattle.change_record.specs.Exchange.{IsBesideOverlay, after, left_by, AddsBlock, FitsAt, FitsIn, tree_of};
 ghost use Rattle.plain.specs.Classes.{with_member, with_vtimes};
 
-use crate::{Change, Making, Outbox};
-use arrayvec::ArrayVec;
+use crate::{Change, Making, MemberPlace, Outbox};
+use boxed::Boxed;
 use class_trees::ClassTrees;
 use group_tree::GroupTree;
 use overlay::Overlay;
-use plain::{InService, Member, Seat, Vtimes};
+use plain::{InService, Seat, Vtimes};
 use process_queue::{Link, ProcessQueue};
 use request_pool::{Request, RequestPool};
 use sector_core::{Bio, Block, Entity, OutOfMemory, Scheduler, Slot, empty_table};
@@ -333,7 +333,7 @@ impl Parts {
 fn exchange_block(
     overlay: &mut Overlay,
     sector: u64,
-    block: &mut Option<Block>,
+    block: &mut Option<Boxed<Block>>,
 ) -> Result<(), OutOfMemory>
     ensures overlay { OnOk result (overlay.new ≡ exchanged overlay.old sector block.old) }
     ensures left { OnOk result (block.new ≡ map.get overlay.old sector) }
@@ -355,7 +355,7 @@ fn exchange_block(
 }
 
 // Puts a request, or none, at a slot, and what stood there into its stead. If there is no such slot nothing changes.
-fn swap_request(pool: &mut RequestPool, slot: Slot, request: &mut Option<Request>)
+fn swap_request(pool: &mut RequestPool, slot: Slot, request: &mut Option<Boxed<Request>>)
     ensures pool { pool.new ≡ record pool.old { requests = slice_set pool.old.requests slot request.old } }
     ensures left { request.new ≡ slice_index_or pool.old.requests slot request.old }
 {
@@ -364,7 +364,7 @@ fn swap_request(pool: &mut RequestPool, slot: Slot, request: &mut Option<Request
 }
 
 // Puts a bio, or none, at a slot, and what stood there into its stead. If there is no such slot nothing changes.
-fn swap_bio(pool: &mut RequestPool, slot: Slot, bio: &mut Option<Bio>)
+fn swap_bio(pool: &mut RequestPool, slot: Slot, bio: &mut Option<Boxed<Bio>>)
     ensures pool { pool.new ≡ record pool.old { bios = slice_set pool.old.bios slot bio.old } }
     ensures left { bio.new ≡ slice_index_or pool.old.bios slot bio.old }
 {
@@ -398,13 +398,13 @@ fn exchange_member(
     trees: &mut Vec<ClassTrees>,
     group: u8,
     entity: Entity,
-    member: &mut Option<Member>,
+    member: &mut MemberPlace,
 )
     ensures trees { trees.new.items ≡ slice_set trees.old.items group (with_member (tree_of trees.old.items group) entity member.old) }
     ensures left { member.new ≡ slice_index_or (tree_of trees.old.items group).members entity member.old }
 {
     if let Some(tree) = trees.get_mut(usize::from(group)) {
-        *member = tree.exchange(entity, *member);
+        *member = MemberPlace::of(tree.exchange(entity, member.member()));
     }
 }
 
@@ -473,7 +473,7 @@ fn empty_outboxes(alloc: Global) -> Result<Vec<Outbox>, OutOfMemory>
 {
     let mut boxes = Vec::with_capacity(alloc, 16)?;
     for _ in 0..16u8 {
-        boxes.push(ArrayVec::new())?;
+        boxes.push(Outbox::empty(alloc))?;
     }
     Ok(boxes)
 }

@@ -1,11 +1,12 @@
 // The tape, flat: the changes of all steps one after the other, and where each step ends.
-ghost use Rattle.std.specs.Prelude.{◌≡◌, ◌+◌, ◌≤◌, ◌<◌, ◌%◌, ◌^◌, [], ◌∷◌, ◌++◌, IsOk, OnOk, OnErr, length, slice_set, slice_index, slice_range, take, drop, vec_len, ◌-◌};
+ghost use Rattle.std.specs.Prelude.{◌≡◌, ◌+◌, ◌≤◌, ◌<◌, ◌%◌, ◌^◌, [], ◌∷◌, ◌++◌, IfOk, IsOk, OnOk, OnErr, length, slice_set, slice_index, slice_range, take, drop, vec_len, ◌-◌};
 ghost use Rattle.change_record.specs.Exchange.{after, left_by, AddsBlock, FitsIn, IsPut, FitBack, FitForth, ArePuts, back_tables, back_left, forth_tables, forth_left};
 ghost use Rattle.change_record.specs.Trail.{KeepsTrail};
 ghost use Rattle.change_record.specs.Tape.{step_at, begin_of, AreEnds, spliced, TakesBack};
 
 use crate::turns::{turn_back, turn_fitting, turn_forth};
 use crate::{Change, Parts, push_within};
+use boxed::Boxed;
 use sector_core::OutOfMemory;
 use std::alloc::Global;
 use std::marker::Model;
@@ -52,6 +53,22 @@ impl Tape {
             changes: Vec::new(alloc),
             ends: Vec::new(alloc),
         }
+    }
+
+    /// Where what goes into the tables gets its memory.
+    pub fn allocator(&self) -> Global {
+        *self.changes.allocator()
+    }
+
+    /// A box for a value that goes into the tables.
+    ///
+    /// # Errors
+    ///
+    /// There is no memory for it.
+    pub fn boxed<T: Drop>(&self, value: T) -> Result<Boxed<T>, OutOfMemory>
+        ensures { IfOk result (λ boxed. boxed ≡ value) }
+    {
+        Ok(Boxed::new(self.allocator(), value)?)
     }
 
     /// How many steps it holds.

@@ -1,5 +1,5 @@
 // What becomes of the bios of a finished request.
-ghost use Rattle.std.specs.Prelude.{◌≡◌, ◌+◌, ◌*◌, ◌≤◌, ◌<◌, ◌^◌, [], ◌∷◌, None, IfOk, OnOk, IfSome, IsSome, Some, length, unwrap_or};
+ghost use Rattle.std.specs.Prelude.{◌≡◌, ◌+◌, ◌*◌, ◌≤◌, ◌<◌, ◌^◌, [], ◌∷◌, None, IfOk, OnOk, IfSome, IsSome, Some, drop, length, take, unwrap_or};
 ghost use Rattle.std.specs.FinMap as blocks;
 ghost use Rattle.change_record.specs.Trail.{KeepsTrail};
 ghost use Rattle.process_queue.specs.Merge.{bios_at};
@@ -10,6 +10,7 @@ ghost use Rattle.dispatch_core.specs.Ranges.{total_count};
 ghost use Rattle.dispatch_core.specs.Ready.{IsReady, HasBytes, HasPayload};
 ghost use Rattle.dispatch_core.specs.WellFormed.{at};
 
+use boxed::Boxed;
 use bytes::Bytes;
 use change_record::{Change, Parts, Tape};
 use overlay::Overlay;
@@ -42,11 +43,12 @@ pub fn complete(
         let done = done_bio(alloc, parts, *slot, &rest)?;
         let count = done.range.count;
         put_blocks(parts, tape, &done, &rest)?;
+        let bio = tape.boxed(done)?;
         tape.exchange(
             parts,
             Change::BioSlot {
                 slot: *slot,
-                bio: Some(done),
+                bio: Some(bio),
             },
         );
         rest = without_first(rest, count);
@@ -225,7 +227,7 @@ fn store(
 {
     let mut rest = payload;
     for sector in range.start..range.end() {
-        let block = Block::new(rest.split_to(SECTOR_BYTES)?);
+        let block = first_block(tape, &mut rest)?;
         tape.try_exchange(
             parts,
             Change::Sector {
@@ -235,6 +237,16 @@ fn store(
         )?;
     }
     Ok(())
+}
+
+// Takes the block of the first sector off some bytes, into a box; its bytes are shared.
+fn first_block(tape: &Tape, bytes: &mut Bytes) -> Result<Boxed<Block>, OutOfMemory>
+    requires { 512 ≤ length bytes.old }
+    ensures block { IfOk result (λ block. block ≡ take 512 bytes.old) }
+    ensures rest { OnOk result (bytes.new ≡ drop 512 bytes.old) }
+{
+    let block = Block::new(bytes.split_to(SECTOR_BYTES)?);
+    Ok(tape.boxed(block)?)
 }
 
 // Puts blocks of zeros into the overlay.
@@ -249,11 +261,12 @@ fn clear(parts: &mut Parts, tape: &mut Tape, range: Range) -> Result<(), OutOfMe
     ensures spare { tape.new.spare ≡ tape.old.spare }
 {
     for sector in range.start..range.end() {
+        let block = tape.boxed(Block::zeros())?;
         tape.try_exchange(
             parts,
             Change::Sector {
                 sector,
-                block: Some(Block::zeros()),
+                block: Some(block),
             },
         )?;
     }

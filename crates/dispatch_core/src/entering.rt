@@ -8,7 +8,7 @@ ghost use Rattle.plain.specs.Looks.{service_of};
 ghost use Rattle.dispatch_core.specs.Changes.{entered};
 
 use crate::Sizes;
-use change_record::{Change, Parts, Tape};
+use change_record::{Change, MemberPlace, Parts, Tape};
 use plain::{GROUPS, Member, SEATS, State};
 use sector_core::{Class, Entity};
 
@@ -62,7 +62,7 @@ pub fn enter(
         Change::TreeMember {
             group,
             entity,
-            member: Some(member),
+            member: MemberPlace::of(Some(member)),
         },
     );
     tape.exchange(parts, Change::Pending { entity, weight });

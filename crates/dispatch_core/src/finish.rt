@@ -16,9 +16,9 @@ ghost use Rattle.dispatch_core.specs.WellFormed.{at, WellFormed};
 use crate::complete::{complete, drop_all};
 use crate::dispatch::range_of_request;
 use crate::leave::owe_fewer;
-use crate::slots::{list_from, list_joined, outbox_slots};
+use crate::slots::{list_from, outbox_slots};
 use crate::{Answer, Code, Reply, Sizes};
-use change_record::{Change, Parts, Tape};
+use change_record::{Change, Outbox, Parts, Tape};
 use sector_core::{Effect, Op, OutOfMemory, Outcome, Slot};
 use std::alloc::Global;
 
@@ -129,7 +129,7 @@ fn end_request(
         return Ok(());
     }
     complete(alloc, parts, tape, slots, effect)?;
-    deliver(parts, tape, tag, slot, seat, slots);
+    deliver(parts, tape, tag, slot, seat, slots)?;
     Ok(())
 }
 
@@ -183,22 +183,30 @@ fn seat_of(parts: &Parts, session: u64) -> Option<u8>
 }
 
 // Frees the request's slot and its tag, and puts its bios at the end of the seat's outbox.
-fn deliver(parts: &mut Parts, tape: &mut Tape, tag: u8, slot: Slot, seat: u8, slots: &[Slot])
+fn deliver(
+    parts: &mut Parts,
+    tape: &mut Tape,
+    tag: u8,
+    slot: Slot,
+    seat: u8,
+    slots: &[Slot],
+) -> Result<(), OutOfMemory>
     requires room { 3 ≤ tape.old.room }
     requires fits { length (outbox_at parts.old.tables.outboxes seat) + length slots.now ≤ 32 }
-    ensures tables { parts.new.tables ≡ record parts.old.tables {
+    ensures tables { OnOk result (parts.new.tables ≡ record parts.old.tables {
       requests = slice_set parts.old.tables.requests slot None;
       tags = slice_set parts.old.tables.tags tag None;
       outboxes = slice_set parts.old.tables.outboxes seat (record { items = outbox_at parts.old.tables.outboxes seat ++ slots.now });
-    } }
+    }) }
     ensures trail { KeepsTrail tape.old.current parts.old.tables tape.new.current parts.new.tables }
     ensures steps { tape.new.steps ≡ tape.old.steps }
-    ensures count { length tape.new.current ≡ length tape.old.current + 3 }
+    ensures count { OnOk result (length tape.new.current ≡ length tape.old.current + 3) }
     ensures spare { tape.new.spare ≡ tape.old.spare }
 {
-    let outbox = list_joined(outbox_slots(parts, seat), slots);
+    let outbox = Outbox::joined(tape.allocator(), outbox_slots(parts, seat), slots)?;
     free_request(parts, tape, tag, slot);
     tape.exchange(parts, Change::OutboxWhole { seat, outbox });
+    Ok(())
 }
 
 // Frees a request's slot and its tag.

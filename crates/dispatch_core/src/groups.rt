@@ -12,7 +12,7 @@ ghost use Rattle.dispatch_core.specs.WellFormed.{WellFormed};
 
 use crate::entering::{enter, stands};
 use crate::{Answer, Code, Reply, Sizes};
-use change_record::{Change, Parts, Tape};
+use change_record::{Change, MemberPlace, Parts, Tape};
 use group_tree::MOST_LEVELS;
 use plain::{SEATS, Vtimes};
 use sector_core::{Class, OutOfMemory};
@@ -107,7 +107,7 @@ pub fn run_group_drop(
         Change::TreeMember {
             group: parent,
             entity,
-            member: None,
+            member: MemberPlace::of(None),
         },
     );
     tape.exchange(

@@ -10,8 +10,7 @@ ghost use Rattle.dispatch_core.specs.Relation.{Answers, Leaves};
 
 use crate::slots::{list_from, outbox_slots};
 use crate::{Answer, Code, Reply, Sizes};
-use arrayvec::ArrayVec;
-use change_record::{Change, Parts, Tape};
+use change_record::{Change, MemberPlace, Outbox, Parts, Tape};
 use plain::{SEATS, Seat};
 use sector_core::{OutOfMemory, Slot};
 
@@ -83,7 +82,7 @@ fn clear_outbox(parts: &mut Parts, tape: &mut Tape, seat: u8)
     ensures room { tape.old.room ≤ tape.new.room + 1 }
     ensures spare { tape.new.spare ≡ tape.old.spare }
 {
-    let outbox = ArrayVec::new();
+    let outbox = Outbox::empty(tape.allocator());
     tape.exchange(parts, Change::OutboxWhole { seat, outbox });
 }
 
@@ -132,7 +131,7 @@ fn go(parts: &mut Parts, tape: &mut Tape, seat: u8)
         Change::TreeMember {
             group,
             entity: seat,
-            member: None,
+            member: MemberPlace::of(None),
         },
     );
     tape.exchange(

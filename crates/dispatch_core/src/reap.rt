@@ -1,5 +1,5 @@
 // Reap: the first completed bio of a session is handed out.
-ghost use Rattle.std.specs.Prelude.{◌≡◌, ◌+◌, ◌-◌, ◌≤◌, IfOk, MatchResult, unwrap_or, None, Some, drop, length, slice_set};
+ghost use Rattle.std.specs.Prelude.{◌≡◌, ◌+◌, ◌-◌, ◌≤◌, IfOk, MatchResult, OnOk, unwrap_or, None, Some, drop, length, slice_set};
 ghost use Rattle.change_record.specs.Trail.{KeepsTrail};
 ghost use Rattle.change_record.specs.Machine.{meaning, outbox_at};
 ghost use Rattle.sector_core.specs.declared.bio.BioResult.TheVariants.{Written};
@@ -10,9 +10,9 @@ ghost use Rattle.dispatch_core.specs.Ready.{MayReap};
 ghost use Rattle.dispatch_core.specs.Relation.{Answers, Declines, Leaves};
 ghost use Rattle.dispatch_core.specs.WellFormed.{WellFormed};
 
-use crate::slots::{list_from, outbox_slots};
+use crate::slots::outbox_slots;
 use crate::{Answer, Cause, Code, Reply, Sizes};
-use change_record::{Change, Parts, Tape};
+use change_record::{Change, Outbox, Parts, Tape};
 use plain::{SEATS, Seat};
 use sector_core::{Bio, BioResult, OutOfMemory, Slot};
 
@@ -42,7 +42,7 @@ pub fn run_reap(
     let number = bio.serial;
     let result = result_of_bio(bio)?;
     tape.reserve(3)?;
-    take_out(parts, tape, seat, entry, place);
+    take_out(parts, tape, seat, entry, place)?;
     Ok(Answer::Accepted(Reply::Completed {
         bio: number,
         result,
@@ -97,23 +97,29 @@ fn result_of_bio(bio: &Bio) -> Result<BioResult, OutOfMemory>
 }
 
 // Takes the first bio out of the outbox and out of its slot.
-fn take_out(parts: &mut Parts, tape: &mut Tape, seat: u8, entry: Seat, place: Slot)
+fn take_out(
+    parts: &mut Parts,
+    tape: &mut Tape,
+    seat: u8,
+    entry: Seat,
+    place: Slot,
+) -> Result<(), OutOfMemory>
     requires room { 3 ≤ tape.old.room }
     requires some { 1 ≤ entry.unreaped }
     requires waits { 1 ≤ length (outbox_at parts.old.tables.outboxes seat) }
-    ensures tables { parts.new.tables ≡ record parts.old.tables {
+    ensures tables { OnOk result (parts.new.tables ≡ record parts.old.tables {
       outboxes = slice_set parts.old.tables.outboxes seat (record { items = drop 1 (outbox_at parts.old.tables.outboxes seat) });
       bios = slice_set parts.old.tables.bios place None;
       seats = slice_set parts.old.tables.seats seat (Some (with_unreaped (entry.unreaped - 1) entry));
-    } }
+    }) }
     ensures trail { KeepsTrail tape.old.current parts.old.tables tape.new.current parts.new.tables }
     ensures steps { tape.new.steps ≡ tape.old.steps }
-    ensures count { length tape.new.current ≡ length tape.old.current + 3 }
+    ensures count { OnOk result (length tape.new.current ≡ length tape.old.current + 3) }
     ensures spare { tape.new.spare ≡ tape.old.spare }
 {
     let slots = outbox_slots(parts, seat);
     let (_, rest) = slots.split_at(1);
-    let outbox = list_from(rest);
+    let outbox = Outbox::joined(tape.allocator(), rest, &[])?;
     let entry = Seat {
         unreaped: entry.unreaped - 1,
         ..entry
@@ -133,4 +139,5 @@ fn take_out(parts: &mut Parts, tape: &mut Tape, seat: u8, entry: Seat, place: Sl
             entry: Some(entry),
         },
     );
+    Ok(())
 }

@@ -19,6 +19,7 @@ ghost use Rattle.dispatch_core.specs.WellFormed.{WellFormed};
 use crate::{Answer, Cause, Code, Reply, Sizes};
 use arrayvec::ArrayVec;
 use bfq_select::{VtimeFull, activate};
+use boxed::Boxed;
 use bytes::Bytes;
 use change_record::{Change, Parts, Tape};
 use plain::Seat;
@@ -56,15 +57,11 @@ pub fn submit_new(
     if !room {
         return Ok(Answer::Refused(Code::HistoryFull));
     }
-    let bio = Bio {
-        serial,
-        range,
-        payload: payload.clone()?,
-        result: None,
-    };
+    let bio = boxed_bio(tape, serial, range, payload)?;
+    let request = tape.boxed(request_of(session, op, place))?;
     tape.reserve(9)?;
     let wakes = is_woken(parts, seat);
-    insert(parts, tape, seat, entry, slot, place, session, op, bio);
+    insert(parts, tape, seat, entry, slot, place, request, bio);
     match wake(parts, tape, seat, wakes) {
         Ok(()) => return Ok(Answer::Accepted(Reply::Queued { bio: serial })),
         Err(_) => {
@@ -113,6 +110,32 @@ fn wake(parts: &mut Parts, tape: &mut Tape, seat: u8, wakes: bool) -> Result<(),
     Ok(())
 }
 
+/// A bio that is not completed, in a box; its bytes are shared.
+pub fn boxed_bio(
+    tape: &Tape,
+    serial: u64,
+    range: Range,
+    payload: &Bytes,
+) -> Result<Boxed<Bio>, OutOfMemory>
+    ensures { IfOk result (λ bio. bio ≡ record { serial = serial; range = range; payload = payload.now; result = None }) }
+{
+    Ok(tape.boxed(Bio {
+        serial,
+        range,
+        payload: payload.clone()?,
+        result: None,
+    })?)
+}
+
+// A request of one bio, by its slot.
+fn request_of(session: u64, op: Op, place: Slot) -> Request
+    ensures { result ≡ record { session = session; op = op; bios = record { items = place ∷ [] } } }
+{
+    let mut bios = ArrayVec::new();
+    bios.push(place);
+    Request { session, op, bios }
+}
+
 // Puts the bio and its request into their slots, and the request at the end of the seat's queue.
 fn insert(
     parts: &mut Parts,
@@ -121,15 +144,14 @@ fn insert(
     entry: Seat,
     slot: Slot,
     place: Slot,
-    session: u64,
-    op: Op,
-    bio: Bio,
+    request: Boxed<Request>,
+    bio: Boxed<Bio>,
 )
     requires room { 4 ≤ tape.old.room }
     requires few { entry.unreaped < 32 }
     ensures tables { parts.new.tables ≡ record parts.old.tables {
       bios = slice_set parts.old.tables.bios place (Some bio);
-      requests = slice_set parts.old.tables.requests slot (Some (record { session = session; op = op; bios = record { items = place ∷ [] } }));
+      requests = slice_set parts.old.tables.requests slot (Some request);
       links = slice_set parts.old.tables.links slot (Some (record { seat = seat; serial = bio.serial }));
       seats = slice_set parts.old.tables.seats seat (Some (with_unreaped (entry.unreaped + 1) entry));
     } }
@@ -139,10 +161,7 @@ fn insert(
     ensures left { tape.old.room ≤ tape.new.room + 4 }
     ensures spare { tape.new.spare ≡ tape.old.spare }
 {
-    let serial = bio.serial;
-    let mut bios = ArrayVec::new();
-    bios.push(place);
-    let request = Request { session, op, bios };
+    let serial = bio.get().serial;
     let entry = Seat {
         unreaped: entry.unreaped + 1,
         ..entry

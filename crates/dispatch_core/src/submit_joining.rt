@@ -14,7 +14,9 @@ ghost use Rattle.dispatch_core.specs.Relation.{Answers, Leaves};
 ghost use Rattle.dispatch_core.specs.WellFormed.{WellFormed};
 
 use crate::slots::list_joined;
+use crate::submit_alone::boxed_bio;
 use crate::{Answer, Code, Reply, Sizes};
+use boxed::Boxed;
 use bytes::Bytes;
 use change_record::{Change, Parts, Tape};
 use plain::Seat;
@@ -52,13 +54,8 @@ pub fn submit_joined(
     let Some(request) = parts.pool().request(found.slot) else {
         unreachable!()
     };
-    let request = with_slot(request, place, found.front);
-    let bio = Bio {
-        serial,
-        range,
-        payload: payload.clone()?,
-        result: None,
-    };
+    let request = tape.boxed(with_slot(request, place, found.front))?;
+    let bio = boxed_bio(tape, serial, range, payload)?;
     tape.reserve(3)?;
     put_bio(parts, tape, seat, entry, found.slot, place, request, bio);
     Ok(Answer::Accepted(Reply::Queued { bio: serial }))
@@ -90,8 +87,8 @@ fn put_bio(
     entry: Seat,
     slot: Slot,
     place: Slot,
-    request: Request,
-    bio: Bio,
+    request: Boxed<Request>,
+    bio: Boxed<Bio>,
 )
     requires room { 3 ≤ tape.old.room }
     requires few { entry.unreaped < 32 }

@@ -14,7 +14,7 @@ ghost use Rattle.dispatch_core.specs.WellFormed.{WellFormed, taken};
 
 use crate::{Answer, Code, Reply, Sizes};
 use bfq_select::member_in;
-use change_record::{Change, Parts, Tape};
+use change_record::{Change, MemberPlace, Parts, Tape};
 use plain::{Member, Vtimes};
 use sector_core::{Entity, OutOfMemory, Scheduler};
 
@@ -228,7 +228,7 @@ fn begin_entity(sizes: Sizes, parts: &mut Parts, tape: &mut Tape, entity: Entity
         Change::TreeMember {
             group,
             entity,
-            member: Some(member),
+            member: MemberPlace::of(Some(member)),
         },
     );
 }

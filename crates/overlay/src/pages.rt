@@ -3,6 +3,7 @@ ghost use Rattle.std.specs.Prelude.{◌≡◌, ◌<◌, ◌^◌, IfOk, IfErr, On
 ghost use Rattle.overlay.specs.Pages.{IsNumbered, Puts, has_page, stands};
 
 use crate::page::Page;
+use boxed::Boxed;
 use sector_core::Block;
 use std::collections::BTreeMap;
 
@@ -12,8 +13,8 @@ pub(crate) fn put_at(
     pages: &mut BTreeMap<u64, Page>,
     number: u64,
     at: usize,
-    block: Block,
-) -> Result<Option<Block>, Option<Block>>
+    block: Boxed<Block>,
+) -> Result<Option<Boxed<Block>>, Option<Boxed<Block>>>
     requires at { at < 8 }
     requires number { number < 2 ^ 61 }
     ensures new { OnOk result (Puts pages.old.entries pages.new.entries number at (Some block)) }
@@ -40,8 +41,8 @@ fn add_page(
     pages: &mut BTreeMap<u64, Page>,
     number: u64,
     at: usize,
-    block: Block,
-) -> Result<(), Option<Block>>
+    block: Boxed<Block>,
+) -> Result<(), Option<Boxed<Block>>>
     requires at { at < 8 }
     requires number { number < 2 ^ 61 }
     requires absent { has_page pages.old.entries number ≡ false }
@@ -59,7 +60,7 @@ fn add_page(
 // Takes out what stands at a place. The page goes with the last block that it has. It is apart for the width of a page on
 // the stack, too.
 #[inline(never)]
-pub(crate) fn take_at(pages: &mut BTreeMap<u64, Page>, number: u64, at: usize) -> Option<Block>
+pub(crate) fn take_at(pages: &mut BTreeMap<u64, Page>, number: u64, at: usize) -> Option<Boxed<Block>>
     requires { at < 8 }
     ensures new { Puts pages.old.entries pages.new.entries number at None }
     ensures old { result ≡ stands pages.old.entries number at }

@@ -17,6 +17,7 @@ ghost use Rattle.sector_core.specs.Table.{IsFirstFree, AllTaken};
 ghost use Rattle.request_pool.specs.Slots.{seat_slots};
 
 use arrayvec::ArrayVec;
+use boxed::Boxed;
 use sector_core::{Bio, Op, OutOfMemory, Slot, empty_table, first_free};
 use std::alloc::Global;
 use std::marker::Model;
@@ -42,8 +43,8 @@ pub struct Request {
 /// The slots of requests and of bios.
 #[derive(Drop)]
 pub struct RequestPool {
-    requests: Vec<Option<Request>>,
-    bios: Vec<Option<Bio>>,
+    requests: Vec<Option<Boxed<Request>>>,
+    bios: Vec<Option<Boxed<Bio>>>,
 }
 
 impl Model for RequestPool {
@@ -74,7 +75,8 @@ impl RequestPool {
         ensures { option_copied result ≡ slice_index_or self.now.requests slot None }
     {
         match self.requests.get(usize::from(slot)) {
-            Some(place) => place.as_ref(),
+            Some(Some(boxed)) => Some(boxed.get()),
+            Some(None) => None,
             None => None,
         }
     }
@@ -84,7 +86,8 @@ impl RequestPool {
         ensures { option_copied result ≡ slice_index_or self.now.bios slot None }
     {
         match self.bios.get(usize::from(slot)) {
-            Some(place) => place.as_ref(),
+            Some(Some(boxed)) => Some(boxed.get()),
+            Some(None) => None,
             None => None,
         }
     }
@@ -116,7 +119,7 @@ impl RequestPool {
     }
 
     /// Puts a request, or none, in a slot and hands back what stood there.
-    pub fn exchange_request(&mut self, slot: Slot, request: Option<Request>) -> Option<Request>
+    pub fn exchange_request(&mut self, slot: Slot, request: Option<Boxed<Request>>) -> Option<Boxed<Request>>
         ensures new { self.new ≡ record self.old { requests = slice_set self.old.requests slot request } }
         ensures old { result ≡ slice_index_or self.old.requests slot request }
     {
@@ -127,7 +130,7 @@ impl RequestPool {
     }
 
     /// Puts a bio, or none, in a slot and hands back what stood there.
-    pub fn exchange_bio(&mut self, slot: Slot, bio: Option<Bio>) -> Option<Bio>
+    pub fn exchange_bio(&mut self, slot: Slot, bio: Option<Boxed<Bio>>) -> Option<Boxed<Bio>>
         ensures new { self.new ≡ record self.old { bios = slice_set self.old.bios slot bio } }
         ensures old { result ≡ slice_index_or self.old.bios slot bio }
     {

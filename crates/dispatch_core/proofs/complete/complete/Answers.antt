@@ -1,6 +1,8 @@
 use Rattle.std.proofs.lemmas.List.{drop_more}
-use Rattle.std.proofs.Common.{◌+◌, length, get_or, drop, sym, ap, ◌∙◌, subst, arith}
-use Rattle.dispatch_core.proofs.Words.{Effect, total_count}
+use Rattle.std.proofs.Common.{◌≡◌, ◌+◌, Some, length, get_or, drop, sym, ap, ◌∙◌, subst, arith}
+use Rattle.change_record.specs.Exchange.{after}
+use Rattle.change_record.specs.declared.change.Change.TheVariants.{BioSlot}
+use Rattle.dispatch_core.proofs.Words.{Bio, Effect, total_count}
 use Rattle.dispatch_core.specs.Counts.{blocks_put}
 use Rattle.dispatch_core.specs.Ready.{IsReady}
 use Rattle.dispatch_core.proofs.Completing.{completed_tables, first_taken, first_ends, first_done, first_ends_done, first_payload, first_total, first_bytes, tables_more, total_more, ready_more, ready_at, tables_at, changes_at}
@@ -61,6 +63,16 @@ returns-in_err-put_blocks-clause-room c =
     let changes = changes_at c.loop-slot.parts.tables.bios c.args.slots.now c.loop-slot.slot-index c.loop-slot-test.true in
     omega (arith, total, changes, c.loop-slot.invariant.room, c.put_blocks.ensures.room)
 
+pub returns-in_err-bio-clause-room : goal.returns-in_err-bio-clause-room
+returns-in_err-bio-clause-room c =
+    let s = get_or c.args.slots.now c.loop-slot.slot-index 0 in
+    let others = drop (c.loop-slot.slot-index + 1) c.args.slots.now in
+    let ready = ready_at c.loop-slot.parts.tables.bios c.args.slots.now c.loop-slot.slot-index c.loop-slot.rest c.loop-slot-test.true c.loop-slot.invariant.ready in
+    let done = first_done c.loop-slot.rest c.loop-slot.parts.tables s others ready c.in_ok-done.done c.in_ok-done.ensures in
+    let total = first_total c.loop-slot.rest c.loop-slot.parts.tables s others ready c.in_ok-done.done done in
+    let changes = changes_at c.loop-slot.parts.tables.bios c.args.slots.now c.loop-slot.slot-index c.loop-slot-test.true in
+    omega (arith, total, changes, c.loop-slot.invariant.room, c.put_blocks.ensures.room)
+
 pub exchange-requires-clause-room : goal.exchange-requires-clause-room
 exchange-requires-clause-room c =
     let s = get_or c.args.slots.now c.loop-slot.slot-index 0 in
@@ -87,12 +99,13 @@ loop-slot-preserved c =
     let done = first_done c.loop-slot.rest c.loop-slot.parts.tables s others ready c.in_ok-done.done c.in_ok-done.ensures in
     let total = first_total c.loop-slot.rest c.loop-slot.parts.tables s others ready c.in_ok-done.done done in
     let changes = changes_at c.loop-slot.parts.tables.bios c.args.slots.now c.loop-slot.slot-index c.loop-slot-test.true in
-    let more = total_more c.loop-slot.rest c.loop-slot.parts.tables s others ready c.put_blocks.new.parts.tables c.exchange.new.parts.tables c.in_ok-done.done done c.in_ok-put_blocks.ensures.tables c.exchange.ensures.tables in
+    let stored = subst (λ (bio : Bio). c.exchange.new.parts.tables ≡ after c.put_blocks.new.parts.tables (BioSlot s (Some bio))) c.in_ok-bio.ensures c.exchange.ensures.tables in
+    let more = total_more c.loop-slot.rest c.loop-slot.parts.tables s others ready c.put_blocks.new.parts.tables c.exchange.new.parts.tables c.in_ok-done.done done c.in_ok-put_blocks.ensures.tables stored in
     let left = c.without_first-rest.ensures in
     let P : Effect → Type 0 = λ o. IsReady c.exchange.new.parts.tables.bios others o in
     record {
-      tables = ap (λ o. completed_tables o c.exchange.new.parts.tables others) left ∙ tables_more c.loop-slot.rest c.loop-slot.parts.tables s others ready c.put_blocks.new.parts.tables c.exchange.new.parts.tables c.in_ok-done.done done c.in_ok-put_blocks.ensures.tables c.exchange.ensures.tables ∙ tables_at c.loop-slot.rest c.loop-slot.parts.tables c.args.slots.now c.loop-slot.slot-index c.loop-slot-test.true ∙ c.loop-slot.invariant.tables;
-      ready = subst P (sym left) (ready_more c.loop-slot.rest c.loop-slot.parts.tables s others ready c.put_blocks.new.parts.tables c.exchange.new.parts.tables c.in_ok-done.done done c.in_ok-put_blocks.ensures.tables c.exchange.ensures.tables);
+      tables = ap (λ o. completed_tables o c.exchange.new.parts.tables others) left ∙ tables_more c.loop-slot.rest c.loop-slot.parts.tables s others ready c.put_blocks.new.parts.tables c.exchange.new.parts.tables c.in_ok-done.done done c.in_ok-put_blocks.ensures.tables stored ∙ tables_at c.loop-slot.rest c.loop-slot.parts.tables c.args.slots.now c.loop-slot.slot-index c.loop-slot-test.true ∙ c.loop-slot.invariant.tables;
+      ready = subst P (sym left) (ready_more c.loop-slot.rest c.loop-slot.parts.tables s others ready c.put_blocks.new.parts.tables c.exchange.new.parts.tables c.in_ok-done.done done c.in_ok-put_blocks.ensures.tables stored);
       trail = λ o h. c.exchange.ensures.trail o (c.put_blocks.ensures.trail o (c.loop-slot.invariant.trail o h));
       steps = c.exchange.ensures.steps ∙ c.put_blocks.ensures.steps ∙ c.loop-slot.invariant.steps;
       room = omega (arith, total, changes, more, c.loop-slot.invariant.room, c.put_blocks.ensures.room, c.exchange.ensures.room);

@@ -6,27 +6,24 @@ use Rattle.dispatch_core.proofs.Contents.{with_blocks-more, only_overlay}
 use Rattle.dispatch_core.proofs.Recorded.{one_more}
 use Rattle.dispatch_core.proofs.complete.store.Goals as goal
 
-pub new-block-requires : goal.new-block-requires
-new-block-requires c =
-    let long : 512 ≤ length c.loop-sector.rest = omega (arith, c.loop-sector.invariant.bytes, c.loop-sector-test.true) in
-    ap length c.in_ok-split_to.ensures.front ∙ length-take-le 512 c.loop-sector.rest long
+pub first_block-requires : goal.first_block-requires
+first_block-requires c = omega (arith, c.loop-sector.invariant.bytes, c.loop-sector-test.true)
 
 pub returns-in_err-try_exchange-clause-trail : goal.returns-in_err-try_exchange-clause-trail
 returns-in_err-try_exchange-clause-trail c = λ o h. c.try_exchange.ensures.trail o (c.loop-sector.invariant.trail o h)
 
 pub loop-sector-preserved : goal.loop-sector-preserved
 loop-sector-preserved c =
-    let first : c.new-block.result ≡ take 512 c.loop-sector.rest = c.new-block.ensures ∙ c.in_ok-split_to.ensures.front in
-    let put : c.try_exchange.new.parts.tables.overlay ≡ blocks.insert c.loop-sector.parts.tables.overlay c.loop-sector.sector c.new-block.result = ap (λ (t : Tables). t.overlay) c.in_ok-try_exchange.ensures.tables in
+    let put : c.try_exchange.new.parts.tables.overlay ≡ blocks.insert c.loop-sector.parts.tables.overlay c.loop-sector.sector c.in_ok-block.block = ap (λ (t : Tables). t.overlay) c.in_ok-try_exchange.ensures.tables in
     record {
-      blocks = with_blocks-more c.loop-sector.parts.tables.overlay c.try_exchange.new.parts.tables.overlay c.new-block.result c.loop-sector.rest c.split_to.new.self c.loop-sector.sector c.end-sector-end.result
+      blocks = with_blocks-more c.loop-sector.parts.tables.overlay c.try_exchange.new.parts.tables.overlay c.in_ok-block.block c.loop-sector.rest c.first_block.new.bytes c.loop-sector.sector c.end-sector-end.result
           (with_blocks c.args.parts.now.tables.overlay c.args.range.start c.args.range.count c.args.payload)
-          c.loop-sector-test.true first c.in_ok-split_to.ensures.rest put c.loop-sector.invariant.blocks;
-      others = only_overlay c.args.parts.now.tables c.loop-sector.parts.tables c.try_exchange.new.parts.tables (blocks.insert c.loop-sector.parts.tables.overlay c.loop-sector.sector c.new-block.result) c.loop-sector.invariant.others c.in_ok-try_exchange.ensures.tables;
+          c.loop-sector-test.true c.in_ok-block.ensures.block c.in_ok-block.ensures.rest put c.loop-sector.invariant.blocks;
+      others = only_overlay c.args.parts.now.tables c.loop-sector.parts.tables c.try_exchange.new.parts.tables (blocks.insert c.loop-sector.parts.tables.overlay c.loop-sector.sector c.in_ok-block.block) c.loop-sector.invariant.others c.in_ok-try_exchange.ensures.tables;
       trail = λ o h. c.try_exchange.ensures.trail o (c.loop-sector.invariant.trail o h);
       steps = c.try_exchange.ensures.steps ∙ c.loop-sector.invariant.steps;
       room = omega (arith, c.loop-sector.invariant.room, c.try_exchange.ensures.room);
       count = omega (arith, c.loop-sector.invariant.count, one_more c.loop-sector.tape.current c.try_exchange.new.self.current _ c.in_ok-try_exchange.ensures.recorded);
       spare = c.try_exchange.ensures.spare ∙ c.loop-sector.invariant.spare;
-      bytes = omega (arith, c.loop-sector.invariant.bytes, c.loop-sector-test.true, ap length c.in_ok-split_to.ensures.rest, length-drop 512 c.loop-sector.rest);
+      bytes = omega (arith, c.loop-sector.invariant.bytes, c.loop-sector-test.true, ap length c.in_ok-block.ensures.rest, length-drop 512 c.loop-sector.rest);
     }

@@ -21,7 +21,8 @@ returns-clause-answers c =
     let unused : is_used (bfq_of t) c.args.group ≡ false = search rules in
     let below : c.args.group < 32 = stands_below (bfq_of t) c.args.group there in
     let above : c.match-parent.parent ≡ group_of (bfq_of t) (16 + c.args.group) = elim c.match-parent.branch [ in-Some w ↦ search rules | in-None w ↦ search rules ] in
-    let one : c.exchange.new.parts.tables ≡ after t (TreeMember c.match-parent.parent (16 + c.args.group) None) = c.exchange.ensures.tables in
+    let one : c.exchange.new.parts.tables ≡ after t (TreeMember c.match-parent.parent (16 + c.args.group) None) =
+    c.exchange.ensures.tables ∙ ap (λ place. after t (TreeMember c.match-parent.parent (16 + c.args.group) place)) c.of.ensures in
     let two : c.exchange-2.new.parts.tables ≡ after c.exchange.new.parts.tables (GroupEntry (16 + c.args.group) None) = c.exchange-2.ensures.tables in
     let now : c.exchange-2.new.parts.tables ≡ after (after t (TreeMember (group_of (bfq_of t) (16 + c.args.group)) (16 + c.args.group) None)) (GroupEntry (16 + c.args.group) None) =
     two ∙ ap (λ u. after u (GroupEntry (16 + c.args.group) None)) (one ∙ ap (λ g. after t (TreeMember g (16 + c.args.group) None)) above) in
@@ -35,7 +36,8 @@ returns-clause-leaves c =
     let there : stands (bfq_of t) c.args.group ≡ true = search rules in
     let below : c.args.group < 32 = stands_below (bfq_of t) c.args.group there in
     let above : c.match-parent.parent ≡ group_of (bfq_of t) (16 + c.args.group) = elim c.match-parent.branch [ in-Some w ↦ search rules | in-None w ↦ search rules ] in
-    let one : c.exchange.new.parts.tables ≡ after t (TreeMember c.match-parent.parent (16 + c.args.group) None) = c.exchange.ensures.tables in
+    let one : c.exchange.new.parts.tables ≡ after t (TreeMember c.match-parent.parent (16 + c.args.group) None) =
+    c.exchange.ensures.tables ∙ ap (λ place. after t (TreeMember c.match-parent.parent (16 + c.args.group) place)) c.of.ensures in
     let two : c.exchange-2.new.parts.tables ≡ after c.exchange.new.parts.tables (GroupEntry (16 + c.args.group) None) = c.exchange-2.ensures.tables in
     let now : c.exchange-2.new.parts.tables ≡ after (after t (TreeMember (group_of (bfq_of t) (16 + c.args.group)) (16 + c.args.group) None)) (GroupEntry (16 + c.args.group) None) =
     two ∙ ap (λ u. after u (GroupEntry (16 + c.args.group) None)) (one ∙ ap (λ g. after t (TreeMember g (16 + c.args.group) None)) above) in

@@ -29,7 +29,7 @@ returns-clause-answers c =
     let t = c.args.parts.now.tables in
     let bio : Bio = c.in-Some.bio.now in
     let here : at t.bios c.in-Ok.found.1 ≡ Some bio = search rules in
-    let now : c.take_out.new.parts.tables ≡ reaped_tables t c.args.seat c.in-Ok.found.0 c.in-Ok.found.1 (drop 1 (outbox_at t.outboxes c.args.seat)) = c.take_out.ensures.tables in
+    let now : c.take_out.new.parts.tables ≡ reaped_tables t c.args.seat c.in-Ok.found.0 c.in-Ok.found.1 (drop 1 (outbox_at t.outboxes c.args.seat)) = c.in_ok-take_out.ensures.tables in
     reaped-answers (of_sizes c.args.sizes) c.args.serial t c.args.room c.args.seat c.args.session c.in-Ok.found.0 c.in-Ok.found.1 c.requires c.in-Ok.ensures bio here c.take_out.new.parts.tables now c.in_ok-result.result c.in_ok-result.ensures
 
 pub returns-clause-leaves : goal.returns-clause-leaves
@@ -37,11 +37,11 @@ returns-clause-leaves c =
     let t = c.args.parts.now.tables in
     let bio : Bio = c.in-Some.bio.now in
     let here : at t.bios c.in-Ok.found.1 ≡ Some bio = search rules in
-    let now : c.take_out.new.parts.tables ≡ reaped_tables t c.args.seat c.in-Ok.found.0 c.in-Ok.found.1 (drop 1 (outbox_at t.outboxes c.args.seat)) = c.take_out.ensures.tables in (
+    let now : c.take_out.new.parts.tables ≡ reaped_tables t c.args.seat c.in-Ok.found.0 c.in-Ok.found.1 (drop 1 (outbox_at t.outboxes c.args.seat)) = c.in_ok-take_out.ensures.tables in (
       reaped-well (of_sizes c.args.sizes) c.args.serial t c.args.room c.args.seat c.args.session c.in-Ok.found.0 c.in-Ok.found.1 c.requires c.in-Ok.ensures bio here c.take_out.new.parts.tables now,
       omega (arith, c.take_out.ensures.spare, c.in_ok-reserve.ensures.spare),
-      omega (arith, c.take_out.ensures.count, ap length c.reserve.ensures.current),
-      omega (arith, c.take_out.ensures.count, ap length c.reserve.ensures.current),
+      omega (arith, c.in_ok-take_out.ensures.count, ap length c.reserve.ensures.current),
+      omega (arith, c.in_ok-take_out.ensures.count, ap length c.reserve.ensures.current),
     )
 
 pub returns-clause-trail : goal.returns-clause-trail

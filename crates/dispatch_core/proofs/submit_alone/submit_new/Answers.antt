@@ -46,8 +46,8 @@ returns-then-not-room-clause-answers c =
     let goes = submit_goes l (meaning t) c.args.serial c.args.room c.args.seat c.args.session c.args.op c.args.range c.args.payload.now entry may.within may.sits may.stays may.session_is may.some_sectors may.few_sectors may.payload_fits may.in_image may.thawed may.few room_left in
     sym (goes ∙ if_late c.args.room (meaning t) _ c.if-not-room.true)
 
-pub returns-in_err-clone-clause-answers : goal.returns-in_err-clone-clause-answers
-returns-in_err-clone-clause-answers c =
+pub returns-in_err-bio-clause-answers : goal.returns-in_err-bio-clause-answers
+returns-in_err-bio-clause-answers c =
     let l = of_sizes c.args.sizes in
     let t = c.args.parts.now.tables in
     let entry = c.args.entry in
@@ -58,6 +58,19 @@ returns-in_err-clone-clause-answers c =
     let goes = submit_goes l (meaning t) c.args.serial c.args.room c.args.seat c.args.session c.args.op c.args.range c.args.payload.now entry may.within may.sits may.stays may.session_is may.some_sectors may.few_sectors may.payload_fits may.in_image may.thawed may.few room_left in
     let P : Plain × Answer → Type 0 = λ o. MayGiveWay o.1 in
     Answers-err (λ m. submit l m c.args.serial c.args.room c.args.seat c.args.session c.args.op c.args.range c.args.payload.now) t t c.from_residual.result (search rules) (subst P (sym goes) (gives_way c.args.room (meaning t) _ c.if-not-room.false))
+
+pub returns-in_err-request-clause-answers : goal.returns-in_err-request-clause-answers
+returns-in_err-request-clause-answers c =
+    let l = of_sizes c.args.sizes in
+    let t = c.args.parts.now.tables in
+    let entry = c.args.entry in
+    let may = c.requires.may in
+    let alone = merge_none t c.args.seat c.args.session c.args.op c.args.range c.requires.alone in
+    let free : at t.requests c.in-Some.slot ≡ None = search rules in
+    let room_left = not_both (needs_request (meaning t) c.args.seat c.args.session c.args.op c.args.range) _ (requests_free l c.args.serial t c.in-Some.slot c.requires.well (search rules)) in
+    let goes = submit_goes l (meaning t) c.args.serial c.args.room c.args.seat c.args.session c.args.op c.args.range c.args.payload.now entry may.within may.sits may.stays may.session_is may.some_sectors may.few_sectors may.payload_fits may.in_image may.thawed may.few room_left in
+    let P : Plain × Answer → Type 0 = λ o. MayGiveWay o.1 in
+    Answers-err (λ m. submit l m c.args.serial c.args.room c.args.seat c.args.session c.args.op c.args.range c.args.payload.now) t t c.from_residual-in_err-request.result (search rules) (subst P (sym goes) (gives_way c.args.room (meaning t) _ c.if-not-room.false))
 
 pub returns-in_err-reserve-clause-answers : goal.returns-in_err-reserve-clause-answers
 returns-in_err-reserve-clause-answers c =

@@ -35,8 +35,8 @@ unreachable-requires c =
     let both : None ≡ Some queued_here.request = sym none ∙ here in
     absurd cc
 
-pub with_slot-request-requires : goal.with_slot-request-requires
-with_slot-request-requires c =
+pub with_slot-requires : goal.with_slot-requires
+with_slot-requires c =
     let l = of_sizes c.args.sizes in
     let t = c.args.parts.now.tables in
     let r : Request = c.in-Some.request.now in
@@ -45,8 +45,8 @@ with_slot-request-requires c =
     let same : length (bios_at t.bios r.bios.items) ≡ length r.bios.items = length-bios_at t.bios r.bios.items (request_taken l c.args.serial t c.args.found.slot r c.requires.well here) in
     omega (arith, same, joined.few_bios)
 
-pub returns-in_err-clone-clause-answers : goal.returns-in_err-clone-clause-answers
-returns-in_err-clone-clause-answers c =
+pub returns-in_err-request-clause-answers : goal.returns-in_err-request-clause-answers
+returns-in_err-request-clause-answers c =
     let l = of_sizes c.args.sizes in
     let t = c.args.parts.now.tables in
     let may = c.requires.may in
@@ -59,6 +59,21 @@ returns-in_err-clone-clause-answers c =
     goes ∙ ap (λ b. accepted b (meaning t) (submitted (meaning t) c.args.serial c.args.seat c.args.session c.args.op c.args.range c.args.payload.now) (Queued c.args.serial)) c.if-not-room.false in
     let P : Plain × Answer → Type 0 = λ o. MayGiveWay o.1 in
     Answers-err (λ m. submit l m c.args.serial c.args.room c.args.seat c.args.session c.args.op c.args.range c.args.payload.now) t t c.from_residual.result (search rules) (subst P (sym accepts) tt)
+
+pub returns-in_err-bio-clause-answers : goal.returns-in_err-bio-clause-answers
+returns-in_err-bio-clause-answers c =
+    let l = of_sizes c.args.sizes in
+    let t = c.args.parts.now.tables in
+    let may = c.requires.may in
+    let r : Request = c.in-Some.request.now in
+    let here : at t.requests c.args.found.slot ≡ Some r = search rules in
+    let some = merge_some t c.args.seat c.args.session c.args.op c.args.range c.args.found c.requires.joins r here in
+    let goes = submit_joins l (meaning t) c.args.serial c.args.room c.args.seat c.args.session c.args.op c.args.range c.args.payload.now c.args.entry may.within may.sits may.stays may.session_is may.some_sectors may.few_sectors may.payload_fits may.in_image may.thawed may.few _ some in
+    let accepts : submit l (meaning t) c.args.serial c.args.room c.args.seat c.args.session c.args.op c.args.range c.args.payload.now
+    ≡ (submitted (meaning t) c.args.serial c.args.seat c.args.session c.args.op c.args.range c.args.payload.now, Accepted (Queued c.args.serial)) =
+    goes ∙ ap (λ b. accepted b (meaning t) (submitted (meaning t) c.args.serial c.args.seat c.args.session c.args.op c.args.range c.args.payload.now) (Queued c.args.serial)) c.if-not-room.false in
+    let P : Plain × Answer → Type 0 = λ o. MayGiveWay o.1 in
+    Answers-err (λ m. submit l m c.args.serial c.args.room c.args.seat c.args.session c.args.op c.args.range c.args.payload.now) t t c.from_residual-in_err-bio.result (search rules) (subst P (sym accepts) tt)
 
 pub returns-in_err-reserve-clause-answers : goal.returns-in_err-reserve-clause-answers
 returns-in_err-reserve-clause-answers c =
