@@ -10,15 +10,18 @@
 //!
 //! As in blk-mq all requests are allocated when the queue is made. A slot that is not there has nothing, and an
 //! exchange there does nothing.
+//!
+//! Each table has a bound below which no slot is free, and the bios of each seat one of their own. A look for the
+//! first free slot begins there. The bounds come from the tables alone, and the exchanges keep them.
 
-ghost use Rattle.std.specs.Prelude.{◌≡◌, ◌+◌, ◌*◌, ◌<◌, ◌≤◌, ℕ, None, IfOk, IfSome, IsSome, MatchOption, length, replicate, slice_index_or, slice_set};
+ghost use Rattle.std.specs.Prelude.{◌≡◌, ◌+◌, ◌*◌, ◌<◌, ◌≤◌, ◌==◌, ℕ, None, IfOk, IfSome, IsSome, MatchOption, cond, length, min, replicate, slice_index_or, slice_set, true, false};
 ghost use Rattle.std.specs.Option.{option_copied};
 ghost use Rattle.sector_core.specs.Table.{IsFirstFree, AllTaken};
-ghost use Rattle.request_pool.specs.Slots.{seat_slots};
+ghost use Rattle.request_pool.specs.Slots.{AreTaken, seat_slots};
 
 use arrayvec::ArrayVec;
 use boxed::Boxed;
-use sector_core::{Bio, Op, OutOfMemory, Slot, empty_table, first_free};
+use sector_core::{Bio, Op, OutOfMemory, Slot, empty_table};
 use std::alloc::Global;
 use std::marker::Model;
 use std::mem;
@@ -45,18 +48,20 @@ pub struct Request {
 pub struct RequestPool {
     requests: Vec<Option<Boxed<Request>>>,
     bios: Vec<Option<Boxed<Bio>>>,
+    // Each request below this slot is taken.
+    lowest_request: usize,
+    // Of each seat: so many of its first bios are taken.
+    lowest_bios: [u8; 16],
 }
 
 impl Model for RequestPool {
-    ghost use Rattle.std.specs.Prelude.{◌≤◌, ◌≡◌, length};
-    ghost use Rattle.request_pool.specs.Slots.{Slots};
+    ghost use Rattle.request_pool.specs.Slots.{IsPool, Slots};
 
     ghost Value = { Slots };
 
     ghost view = { λ p. record { requests = p.requests.items; bios = p.bios.items } };
 
-    // numbers of slots fit a `Slot`
-    ghost invariant = { λ p. (length p.requests.items ≤ 65535) × (length p.bios.items ≡ 512) };
+    ghost invariant = { λ p. IsPool p.requests.items p.bios.items p.lowest_request p.lowest_bios };
 }
 
 impl RequestPool {
@@ -67,6 +72,8 @@ impl RequestPool {
         Ok(RequestPool {
             requests: empty_table(alloc, usize::from(requests))?,
             bios: empty_table(alloc, 512)?,
+            lowest_request: 0,
+            lowest_bios: [0; 16],
         })
     }
 
@@ -96,7 +103,8 @@ impl RequestPool {
     pub fn free_request(&self) -> Option<Slot>
         ensures { MatchOption result (AllTaken self.now.requests) (λ slot. IsFirstFree self.now.requests slot) }
     {
-        match first_free(self.requests.as_slice()) {
+        let end = self.requests.len();
+        match first_free_in(self.requests.as_slice(), self.lowest_request, end) {
             Some(slot) => Some(slot as u16),
             None => None,
         }
@@ -111,20 +119,29 @@ impl RequestPool {
     {
         let start = usize::from(seat) * 32;
         let end = start + 32;
-        let slots = &self.bios[start..end];
-        match first_free(slots) {
-            Some(place) => Some((start + place) as u16),
+        let from = start + usize::from(self.lowest_bios[usize::from(seat)]);
+        match first_free_in(self.bios.as_slice(), from, end) {
+            Some(place) => Some(place as u16),
             None => None,
         }
     }
 
     /// Puts a request, or none, in a slot and hands back what stood there.
-    pub fn exchange_request(&mut self, slot: Slot, request: Option<Boxed<Request>>) -> Option<Boxed<Request>>
+    pub fn exchange_request(
+        &mut self,
+        slot: Slot,
+        request: Option<Boxed<Request>>,
+    ) -> Option<Boxed<Request>>
         ensures new { self.new ≡ record self.old { requests = slice_set self.old.requests slot request } }
         ensures old { result ≡ slice_index_or self.old.requests slot request }
     {
-        match self.requests.get_mut(usize::from(slot)) {
-            Some(place) => mem::replace(place, request),
+        let slot = usize::from(slot);
+        let taken = request.is_some();
+        match self.requests.get_mut(slot) {
+            Some(place) => {
+                self.lowest_request = bound_after(self.lowest_request, slot, taken);
+                mem::replace(place, request)
+            }
             None => request,
         }
     }
@@ -134,9 +151,46 @@ impl RequestPool {
         ensures new { self.new ≡ record self.old { bios = slice_set self.old.bios slot bio } }
         ensures old { result ≡ slice_index_or self.old.bios slot bio }
     {
-        match self.bios.get_mut(usize::from(slot)) {
-            Some(place) => mem::replace(place, bio),
+        let slot = usize::from(slot);
+        let taken = bio.is_some();
+        match self.bios.get_mut(slot) {
+            Some(place) => {
+                let lowest = &mut self.lowest_bios[slot / 32];
+                *lowest = bound_after(usize::from(*lowest), slot % 32, taken) as u8;
+                mem::replace(place, bio)
+            }
             None => bio,
         }
+    }
+}
+
+// The first free slot from one on, before an end.
+fn first_free_in<T>(table: &[Option<T>], from: usize, end: usize) -> Option<usize>
+    requires { end ≤ length table.now }
+    ensures within { IfSome result (λ slot. (from ≤ slot) × (slot < end)) }
+    ensures free { IfSome result (λ slot. slice_index_or table.now slot None ≡ None) }
+    ensures taken { MatchOption result (AreTaken table.now from end) (λ slot. AreTaken table.now from slot) }
+{
+    for slot in from..end {
+        if table[slot].is_none() {
+            return Some(slot);
+        }
+    }
+    None
+}
+
+// The bound of a table, below which each slot is taken, once this slot is taken or free.
+fn bound_after(bound: usize, slot: usize, taken: bool) -> usize
+    requires { slot < 65536 }
+    ensures taken { taken ≡ true → result ≡ cond (slot == bound) (slot + 1) bound }
+    ensures free { taken ≡ false → result ≡ min slot bound }
+{
+    if !taken {
+        slot.min(bound)
+    } else if slot == bound {
+        // all below it were taken before, and now it is too
+        slot + 1
+    } else {
+        bound
     }
 }

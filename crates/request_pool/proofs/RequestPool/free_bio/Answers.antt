@@ -1,30 +1,35 @@
-use Rattle.std.proofs.Common.{◌≡◌, ℕ, ◌+◌, ◌-◌, ◌*◌, ◌<◌, List, Option, None, IsSome, slice_index_or, take, drop, ap, ◌∙◌, subst, arith}
+use Rattle.std.proofs.Common.{◌≡◌, ℕ, ◌+◌, ◌*◌, ◌/◌, ◌%◌, ◌<◌, List, Option, None, IsSome, slice_index_or, drop, inl, inr, ap, ◌∙◌, sym, subst, arith}
+use Rattle.std.proofs.lemmas.Bool.{cases_lt}
 use Rattle.std.proofs.lemmas.List.{get_or-take, get_or-drop, length-take}
-use Rattle.sector_core.specs.Table.{AllTaken}
 use Rattle.sector_core.specs.declared.bio.Bio.{Bio}
-use Rattle.request_pool.specs.Slots.{seat_slots}
+use Rattle.request_pool.specs.Slots.{AreTaken, AreTakenOfSeats, seat_slots}
 use Rattle.request_pool.proofs.RequestPool.free_bio.Goals as goal
 
-pub returns-in-None-clause-slot : goal.returns-in-None-clause-slot
-returns-in-None-clause-slot c =
-    let start : ℕ = c.from-start.result * 32 in
-    let at : start ≡ 32 * c.args.seat = omega (arith, c.from-start.ensures) in
-    let long : (start + 32) - start ≡ 32 = omega arith in
-    let here : c.deref.result.now ≡ c.args.self.now.bios = c.deref.ensures.value ∙ ap (λ p. p.bios) c.self.view_is in
-    let P : List (Option Bio) → Type 0 = λ slots. AllTaken slots in
-    subst P (ap (λ n. take n (drop start c.deref.result.now)) long ∙ ap (λ n. take 32 (drop n c.deref.result.now)) at
-    ∙ ap (λ bios. seat_slots c.args.seat bios) here) c.in-None.ensures
+-- where the slots below a seat's bound are taken, and those from it on too, all of the seat are
+all_of_seat : (bios : List (Option Bio)) (bounds : List ℕ) (seat : ℕ) → AreTakenOfSeats bios bounds
+    → AreTaken bios (32 * seat + slice_index_or bounds seat 0) (32 * seat + 32)
+    → (k : ℕ) → k < 32 → IsSome (slice_index_or (seat_slots seat bios) k None)
+all_of_seat bios bounds seat below from k within =
+    let slot : ℕ = 32 * seat + k in
+    let place : slot % 32 ≡ k = omega (arith, within) in
+    let number : slot / 32 ≡ seat = omega (arith, within) in
+    let here = get_or-take 32 (drop (32 * seat) bios) k None within ∙ get_or-drop (32 * seat) bios k None in
+    subst (λ (bio : Option Bio). IsSome bio) (sym here) (elim (cases_lt k (slice_index_or bounds seat 0)) [
+      | inl less ↦ below slot (subst (λ j. j < slice_index_or bounds (slot / 32) 0) (sym place) (subst (λ j. k < slice_index_or bounds j 0) (sym number) less))
+      | inr more ↦ from slot (omega (arith, more)) (omega (arith, within))
+    ])
 
-pub returns-in-Some-clause-lowest : goal.returns-in-Some-clause-lowest
-returns-in-Some-clause-lowest c k from below =
+pub returns-in-None-clause-slot : goal.returns-in-None-clause-slot
+returns-in-None-clause-slot c k within =
     let start : ℕ = c.from-start.result * 32 in
-    let bios : List (Option Bio) = c.deref.result.now in
+    let bios : List (Option Bio) = c.self.inside.bios.items in
+    let bounds : List ℕ = c.self.inside.lowest_bios in
     let at : start ≡ 32 * c.args.seat = omega (arith, c.from-start.ensures) in
-    let here : bios ≡ c.args.self.now.bios = c.deref.ensures.value ∙ ap (λ p. p.bios) c.self.view_is in
-    let first = c.in-Some.ensures in
-    let under : k - start < c.in-Some.place = omega (arith, at, from, below) in
-    let few : k - start < start + 32 - start = omega (arith, under, first.within, length-take (start + 32 - start) (drop start bios)) in
-    let whole : start + (k - start) ≡ k = omega (arith, at, from) in
-    let P : Option Bio → Type 0 = λ bio. IsSome bio in
-    subst P (get_or-take (start + 32 - start) (drop start bios) (k - start) None few ∙ get_or-drop start bios (k - start) None
-    ∙ ap (λ i. slice_index_or bios i None) whole ∙ ap (λ bios. slice_index_or bios k None) here) (first.lower (k - start) under)
+    let index : c.from.result ≡ c.args.seat = c.from.ensures in
+    let bound : c.from-2.result ≡ slice_index_or bounds c.args.seat 0 = c.from-2.ensures ∙ ap (λ n. slice_index_or bounds n 0) index in
+    let few : k < 32 = omega (arith, within, length-take 32 (drop (32 * c.args.seat) c.args.self.now.bios)) in
+    let from : AreTaken bios (32 * c.args.seat + slice_index_or bounds c.args.seat 0) (32 * c.args.seat + 32) = λ slot low below.
+    subst (λ (all : List (Option Bio)). IsSome (slice_index_or all slot None)) c.as_slice.ensures.value
+    (c.in-None.ensures.taken slot (omega (arith, at, bound, low)) (omega (arith, at, below))) in
+    subst (λ (all : List (Option Bio)). IsSome (slice_index_or (seat_slots c.args.seat all) k None)) (ap (λ p. p.bios) c.self.view_is)
+    (all_of_seat bios bounds c.args.seat c.self.invariant.bios_taken from k few)
