@@ -182,7 +182,7 @@ fn first_free_in<T>(table: &[Option<T>], from: usize, end: usize) -> Option<usiz
 // The bound of a table, below which each slot is taken, once this slot is taken or free.
 fn bound_after(bound: usize, slot: usize, taken: bool) -> usize
     requires { slot < 65536 }
-    ensures taken { taken ≡ true → result ≡ cond (slot == bound) (slot + 1) bound }
+    ensures taken { taken ≡ true → result ≡ cond (slot == bound) (bound + 1) bound }
     ensures free { taken ≡ false → result ≡ min slot bound }
 {
     if !taken {
