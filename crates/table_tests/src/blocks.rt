@@ -1,4 +1,5 @@
 // What no clause says: that a block can be added while memory is left. A block is told by its letter.
+use boxed::Boxed;
 use bytes::Bytes;
 use overlay::Overlay;
 use sector_core::Block;
@@ -31,13 +32,18 @@ fn stands(overlay: &Overlay, sector: u64) -> Option<u8> {
 }
 
 // A block comes to a sector, or none: what comes back.
-fn put(overlay: &mut Overlay, sector: u64, letter: Option<u8>) -> Result<Option<u8>, Fail> {
+fn put(
+    alloc: Global,
+    overlay: &mut Overlay,
+    sector: u64,
+    letter: Option<u8>,
+) -> Result<Option<u8>, Fail> {
     let block = match letter {
-        Some(letter) => Some(storing(letter)),
+        Some(letter) => Some(Boxed::new(alloc, storing(letter))?),
         None => None,
     };
     match overlay.exchange(sector, block) {
-        Ok(Some(old)) => Ok(Some(letter_of(&old))),
+        Ok(Some(old)) => Ok(Some(letter_of(old.get()))),
         Ok(None) => Ok(None),
         Err(_) => Err(Fail::from("memory for a block")),
     }
@@ -48,11 +54,11 @@ fn come_and_gone(alloc: Global) -> Result<[Option<u8>; 7], Fail> {
     let mut overlay = Overlay::new(alloc);
     Ok([
         stands(&overlay, 5),
-        put(&mut overlay, 5, Some(b'A'))?,
+        put(alloc, &mut overlay, 5, Some(b'A'))?,
         stands(&overlay, 5),
         stands(&overlay, 4),
-        put(&mut overlay, 5, Some(b'B'))?,
-        put(&mut overlay, 5, None)?,
+        put(alloc, &mut overlay, 5, Some(b'B'))?,
+        put(alloc, &mut overlay, 5, None)?,
         stands(&overlay, 5),
     ])
 }
@@ -71,9 +77,9 @@ fn blocks_come_and_go(rt: HostRuntime) -> Result<(), Fail> {
 struct Told(u64, Option<u8>, Option<u8>, Option<(u64, u32)>);
 
 // Does that again, and tells what came of it.
-fn again(overlay: &mut Overlay, told: Told) -> Result<Told, Fail> {
+fn again(alloc: Global, overlay: &mut Overlay, told: Told) -> Result<Told, Fail> {
     let Told(sector, letter, ..) = told;
-    let old = put(overlay, sector, letter)?;
+    let old = put(alloc, overlay, sector, letter)?;
     let run = match overlay.next_run(8, 64) {
         Some(run) => Some((run.start, run.count)),
         None => None,
@@ -101,7 +107,7 @@ fn pages_come_and_go(rt: HostRuntime) -> Result<(), Fail> {
         Told(15, b, None, Some((15, 1))),
         Told(7, None, a, Some((15, 1))),
     ] {
-        assert_eq!(rt; again(&mut overlay, told)?, told);
+        assert_eq!(rt; again(rt.alloc(), &mut overlay, told)?, told);
     }
     Ok(())
 }

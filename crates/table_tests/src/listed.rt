@@ -1,11 +1,12 @@
 // The queues beside a plain table of links, and the children of groups beside a plain table of parents, after each of a list of
 // acts that is the same each time.
 use arrayvec::ArrayVec;
+use boxed::Boxed;
 use bytes::Bytes;
 use group_tree::GroupTree;
 use process_queue::{Link, ProcessQueue};
 use request_pool::{Request, RequestPool};
-use sector_core::{Bio, Op, OutOfMemory, Range, Slot};
+use sector_core::{Bio, Op, Range, Slot};
 use std::alloc::Global;
 use std::test::Fail;
 
@@ -86,12 +87,14 @@ fn bio(start: u64) -> Bio {
     }
 }
 
-fn pool(alloc: Global) -> Result<RequestPool, OutOfMemory> {
+fn pool(alloc: Global) -> Result<RequestPool, Fail> {
     let mut pool = RequestPool::new(alloc, SLOTS)?;
     for slot in 0..SLOTS {
         if let Some(start) = start_of(slot) {
-            let _none = pool.exchange_bio(slot, Some(bio(start)));
-            let _none = pool.exchange_request(slot, Some(request(slot)));
+            let bio = Boxed::new(alloc, bio(start))?;
+            let request = Boxed::new(alloc, request(slot))?;
+            let _none = pool.exchange_bio(slot, Some(bio));
+            let _none = pool.exchange_request(slot, Some(request));
         }
     }
     Ok(pool)

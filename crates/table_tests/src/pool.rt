@@ -1,8 +1,11 @@
-// What no clause says: that a pool can be made while memory is left.
+// What no clause says: that a pool can be made while memory is left. And slots that are taken and freed out of order, where a
+// look for the first free one begins behind none.
 use arrayvec::ArrayVec;
+use boxed::Boxed;
 use bytes::Bytes;
 use request_pool::{Request, RequestPool};
 use sector_core::{Bio, Op, Range, Slot};
+use std::alloc::Global;
 use std::process::Abort;
 use std::test::Fail;
 
@@ -13,6 +16,7 @@ enum Told {
     Request(Slot, Option<u64>),
     // A request comes into a slot: what came back.
     PutRequest(Slot, u64, Option<u64>),
+    TakeRequest(Slot, Option<u64>),
     // The request of the first slot is taken out and put into the second: what came back there.
     MoveRequest(Slot, Slot, Option<u64>),
     // For a seat.
@@ -24,21 +28,23 @@ enum Told {
     NoSuchSeat,
 }
 
-fn request_of(session: u64) -> Request {
-    Request {
+fn request_of(alloc: Global, session: u64) -> Result<Boxed<Request>, Fail> {
+    let request = Request {
         session,
         op: Op::Fetch,
         bios: ArrayVec::new(),
-    }
+    };
+    Ok(Boxed::new(alloc, request)?)
 }
 
-fn fetch(serial: u64) -> Bio {
-    Bio {
+fn fetch(alloc: Global, serial: u64) -> Result<Boxed<Bio>, Fail> {
+    let bio = Bio {
         serial,
         range: Range { start: 0, count: 1 },
         payload: Bytes::new(),
         result: None,
-    }
+    };
+    Ok(Boxed::new(alloc, bio)?)
 }
 
 fn session_of(request: Option<&Request>) -> Option<u64> {
@@ -55,49 +61,76 @@ fn serial_of(bio: Option<&Bio>) -> Option<u64> {
     }
 }
 
+fn session_in(request: &Option<Boxed<Request>>) -> Option<u64> {
+    match request {
+        Some(boxed) => Some(boxed.get().session),
+        None => None,
+    }
+}
+
+fn serial_in(bio: &Option<Boxed<Bio>>) -> Option<u64> {
+    match bio {
+        Some(boxed) => Some(boxed.get().serial),
+        None => None,
+    }
+}
+
 // Puts bios into these slots, and tells how many came back.
-fn put_bios(pool: &mut RequestPool, from: Slot, end: Slot, serial: u64) -> u32 {
+fn put_bios(
+    alloc: Global,
+    pool: &mut RequestPool,
+    slots: (Slot, Slot),
+    serial: u64,
+) -> Result<u32, Fail> {
     let mut back = 0u32;
-    for slot in from..end {
-        if pool.exchange_bio(slot, Some(fetch(serial))).is_some() {
+    for slot in slots.0..slots.1 {
+        let bio = fetch(alloc, serial)?;
+        if pool.exchange_bio(slot, Some(bio)).is_some() {
             back = back.saturating_add(1);
         }
     }
-    back
+    Ok(back)
 }
 
 // Does that again, and tells what came of it.
-fn again(pool: &mut RequestPool, told: Told) -> Told {
-    match told {
+fn again(alloc: Global, pool: &mut RequestPool, told: Told) -> Result<Told, Fail> {
+    let came = match told {
         Told::FreeRequest(_) => Told::FreeRequest(pool.free_request()),
         Told::Request(slot, _) => Told::Request(slot, session_of(pool.request(slot))),
         Told::PutRequest(slot, session, _) => {
-            let old = pool.exchange_request(slot, Some(request_of(session)));
-            Told::PutRequest(slot, session, session_of(old.as_ref()))
+            let request = request_of(alloc, session)?;
+            let old = pool.exchange_request(slot, Some(request));
+            Told::PutRequest(slot, session, session_in(&old))
+        }
+        Told::TakeRequest(slot, _) => {
+            let old = pool.exchange_request(slot, None);
+            Told::TakeRequest(slot, session_in(&old))
         }
         Told::MoveRequest(from, to, _) => {
             let taken = pool.exchange_request(from, None);
             let old = pool.exchange_request(to, taken);
-            Told::MoveRequest(from, to, session_of(old.as_ref()))
+            Told::MoveRequest(from, to, session_in(&old))
         }
         Told::FreeBio(seat, _) if seat < 16 => Told::FreeBio(seat, pool.free_bio(seat)),
         Told::FreeBio(..) | Told::NoSuchSeat => Told::NoSuchSeat,
         Told::Bio(slot, _) => Told::Bio(slot, serial_of(pool.bio(slot))),
         Told::PutBios(from, end, serial, _) => {
-            Told::PutBios(from, end, serial, put_bios(pool, from, end, serial))
+            let back = put_bios(alloc, pool, (from, end), serial)?;
+            Told::PutBios(from, end, serial, back)
         }
         Told::TakeBio(slot, _) => {
             let old = pool.exchange_bio(slot, None);
-            Told::TakeBio(slot, serial_of(old.as_ref()))
+            Told::TakeBio(slot, serial_in(&old))
         }
-    }
+    };
+    Ok(came)
 }
 
 // All of that comes again at a new pool of so many requests, in this order.
 fn expect(rt: &(impl Abort + AllocGlobal), requests: u16, all: &[Told]) -> Result<(), Fail> {
     let mut pool = RequestPool::new(rt.alloc(), requests)?;
     for told in all {
-        assert_eq!(rt; again(&mut pool, *told), *told);
+        assert_eq!(rt; again(rt.alloc(), &mut pool, *told)?, *told);
     }
     Ok(())
 }
@@ -132,6 +165,103 @@ fn bios(rt: HostRuntime) -> Result<(), Fail> {
         Told::FreeBio(3, None),
         Told::TakeBio(127, Some(3)),
         Told::FreeBio(3, Some(127)),
+    ];
+    expect(&rt, 1, &all)
+}
+
+// Whatever the order, the first free slot is found: one below another that is free, and one behind all that are taken.
+#[test]
+fn first_free_requests(rt: HostRuntime) -> Result<(), Fail> {
+    let all = [
+        Told::PutRequest(0, 1, None),
+        Told::PutRequest(1, 2, None),
+        Told::PutRequest(2, 3, None),
+        Told::FreeRequest(Some(3)),
+        Told::TakeRequest(1, Some(2)),
+        Told::FreeRequest(Some(1)),
+        Told::TakeRequest(0, Some(1)),
+        Told::FreeRequest(Some(0)),
+        // Slot 1 is still free.
+        Told::PutRequest(0, 4, None),
+        Told::FreeRequest(Some(1)),
+        Told::PutRequest(1, 5, None),
+        Told::FreeRequest(Some(3)),
+        Told::PutRequest(3, 6, None),
+        Told::FreeRequest(None),
+        // There is no slot 4.
+        Told::PutRequest(4, 7, Some(7)),
+        Told::FreeRequest(None),
+        Told::TakeRequest(4, None),
+        Told::FreeRequest(None),
+        // A slot that is taken gets another request.
+        Told::PutRequest(3, 8, Some(6)),
+        Told::FreeRequest(None),
+        Told::TakeRequest(2, Some(3)),
+        Told::FreeRequest(Some(2)),
+        Told::TakeRequest(0, Some(4)),
+        Told::FreeRequest(Some(0)),
+        Told::PutRequest(2, 9, None),
+        Told::FreeRequest(Some(0)),
+        Told::MoveRequest(3, 0, None),
+        Told::FreeRequest(Some(3)),
+    ];
+    expect(&rt, 4, &all)
+}
+
+// The same of the bios of two seats: neither changes what is free of the other.
+#[test]
+fn first_free_bios(rt: HostRuntime) -> Result<(), Fail> {
+    let all = [
+        Told::PutBios(0, 32, 1, 0),
+        Told::FreeBio(0, None),
+        Told::FreeBio(1, Some(32)),
+        Told::TakeBio(5, Some(1)),
+        Told::FreeBio(0, Some(5)),
+        Told::PutBios(32, 40, 2, 0),
+        Told::FreeBio(1, Some(40)),
+        Told::TakeBio(33, Some(2)),
+        Told::FreeBio(1, Some(33)),
+        Told::FreeBio(0, Some(5)),
+        Told::TakeBio(0, Some(1)),
+        Told::FreeBio(0, Some(0)),
+        Told::PutBios(5, 6, 3, 0),
+        Told::FreeBio(0, Some(0)),
+        Told::PutBios(0, 1, 3, 0),
+        Told::FreeBio(0, None),
+        Told::PutBios(33, 64, 4, 6),
+        Told::FreeBio(1, None),
+        // The last slot of one seat is beside the first of the next.
+        Told::TakeBio(31, Some(1)),
+        Told::FreeBio(0, Some(31)),
+        Told::FreeBio(1, None),
+        Told::TakeBio(32, Some(2)),
+        Told::FreeBio(0, Some(31)),
+        Told::FreeBio(1, Some(32)),
+        // A slot that is free is freed again.
+        Told::TakeBio(32, None),
+        Told::FreeBio(1, Some(32)),
+    ];
+    expect(&rt, 1, &all)
+}
+
+// The last seat, and a slot behind all.
+#[test]
+fn first_free_bios_of_the_last_seat(rt: HostRuntime) -> Result<(), Fail> {
+    let all = [
+        Told::FreeBio(15, Some(480)),
+        Told::PutBios(480, 511, 1, 0),
+        Told::FreeBio(15, Some(511)),
+        // There is no slot 512.
+        Told::PutBios(511, 513, 2, 1),
+        Told::FreeBio(15, None),
+        Told::TakeBio(512, None),
+        Told::FreeBio(15, None),
+        Told::TakeBio(500, Some(1)),
+        Told::TakeBio(490, Some(1)),
+        Told::FreeBio(15, Some(490)),
+        Told::PutBios(490, 491, 3, 0),
+        Told::FreeBio(15, Some(500)),
+        Told::FreeBio(0, Some(0)),
     ];
     expect(&rt, 1, &all)
 }

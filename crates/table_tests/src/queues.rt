@@ -1,10 +1,12 @@
 // What no clause says: that queues can be made while memory is left. The rules of merges and of the next request at numbers,
 // taken from their words.
 use arrayvec::ArrayVec;
+use boxed::Boxed;
 use bytes::Bytes;
 use process_queue::{Link, Place, ProcessQueue};
 use request_pool::{Request, RequestPool};
 use sector_core::{Bio, Op, Range, Slot};
+use std::alloc::Global;
 use std::process::Abort;
 use std::test::Fail;
 
@@ -54,16 +56,23 @@ fn bio(range: Range) -> Bio {
 }
 
 // Puts a request in a slot of the pool, with its bios in the slots of bios from `from` on. Tells whether they fit.
-fn put(pool: &mut RequestPool, slot: Slot, from: Slot, all: Bios) -> bool {
+fn put(
+    alloc: Global,
+    pool: &mut RequestPool,
+    slot: Slot,
+    from: Slot,
+    all: Bios,
+) -> Result<bool, Fail> {
     let mut bios = ArrayVec::new();
     let mut range = Range {
         start: all.start,
         count: all.count,
     };
     for place in from..=from.saturating_add(all.more) {
-        let _none = pool.exchange_bio(place, Some(bio(range)));
+        let bio = Boxed::new(alloc, bio(range))?;
+        let _none = pool.exchange_bio(place, Some(bio));
         if bios.try_push(place).is_err() {
-            return false;
+            return Ok(false);
         }
         range = Range {
             start: range.start.saturating_add(u64::from(range.count)),
@@ -75,14 +84,15 @@ fn put(pool: &mut RequestPool, slot: Slot, from: Slot, all: Bios) -> bool {
         op: Op::Fetch,
         bios,
     };
-    let _old = pool.exchange_request(slot, Some(request));
-    true
+    let boxed = Boxed::new(alloc, request)?;
+    let _old = pool.exchange_request(slot, Some(boxed));
+    Ok(true)
 }
 
 // Does that again, and tells what came of it.
-fn again(tables: &mut Tables, told: Told) -> Told {
+fn again(alloc: Global, tables: &mut Tables, told: Told) -> Result<Told, Fail> {
     let queues = &mut tables.queues;
-    match told {
+    let came = match told {
         Told::Link(slot, new, _) => {
             let old = match new {
                 Some(link) => queues.link(slot, link.seat, link.serial),
@@ -94,14 +104,21 @@ fn again(tables: &mut Tables, told: Told) -> Told {
         Told::Firsts(..) => Told::Firsts(queues.first(0), queues.first(1)),
         Told::IsEmpty(seat, _) => Told::IsEmpty(seat, queues.is_empty(seat)),
         Told::Nth(seat, place, _) => Told::Nth(seat, place, queues.nth(seat, place)),
-        Told::Put(slot, from, bios) if put(&mut tables.pool, slot, from, bios) => told,
-        Told::Put(..) | Told::TooManyBios => Told::TooManyBios,
+        Told::Put(slot, from, bios) => {
+            if put(alloc, &mut tables.pool, slot, from, bios)? {
+                told
+            } else {
+                Told::TooManyBios
+            }
+        }
+        Told::TooManyBios => Told::TooManyBios,
         Told::Merge(seat, session, op, bio, _) => {
             let place = queues.merge_place(&tables.pool, seat, session, op, bio);
             Told::Merge(seat, session, op, bio, place)
         }
         Told::Next(seat, head, _) => Told::Next(seat, head, queues.next(&tables.pool, seat, head)),
-    }
+    };
+    Ok(came)
 }
 
 // All of that comes again in this order, where tables of so many slots are new.
@@ -111,7 +128,7 @@ fn expect(rt: &(impl Abort + AllocGlobal), slots: u16, all: &[Told]) -> Result<(
         queues: ProcessQueue::new(rt.alloc(), slots)?,
     };
     for told in all {
-        assert_eq!(rt; again(&mut tables, *told), *told);
+        assert_eq!(rt; again(rt.alloc(), &mut tables, *told)?, *told);
     }
     Ok(())
 }

@@ -1,6 +1,7 @@
 // The exchanges in examples: the rules are proved, and these say what they mean, and that a call succeeds while memory is left.
 ghost use Rattle.std.specs.Prelude.{◌≡◌, ◌∷◌, [], IfOk, OnOk, false};
 
+use boxed::Boxed;
 use bytes::Bytes;
 use change_record::{Change, Making, Parts, Tape};
 use plain::Seat;
@@ -30,17 +31,13 @@ fn turned(parts: &mut Parts, change: &mut Change) -> Result<(), Fail> {
     Ok(())
 }
 
-// A block of letters A.
-fn letters() -> Block {
-    Block::new(Bytes::from_static(&[65; 512]))
-}
-
-// It comes to sector 5.
-fn storing() -> Change {
-    Change::Sector {
+// A block of letters A comes to sector 5.
+fn storing(alloc: Global) -> Result<Change, Fail> {
+    let letters = Block::new(Bytes::from_static(&[65; 512]));
+    Ok(Change::Sector {
         sector: 5,
-        block: Some(letters()),
-    }
+        block: Some(Boxed::new(alloc, letters)?),
+    })
 }
 
 // A block of letters A stands at sector 5.
@@ -57,7 +54,7 @@ fn stores(change: &Change) -> Option<bool> {
         Change::Sector {
             sector: 5,
             block: Some(block),
-        } => Some(block.as_slice() == [65; 512].as_slice()),
+        } => Some(block.get().as_slice() == [65; 512].as_slice()),
         Change::Sector {
             sector: 5,
             block: None,
@@ -185,7 +182,8 @@ fn new_tables(rt: HostRuntime) -> Result<(), Fail> {
         Told::Outbox(15, Some(0)),
         Told::Outbox(16, None),
     ];
-    expect(&rt, &mut storing(), &all)
+    let mut change = storing(rt.alloc())?;
+    expect(&rt, &mut change, &all)
 }
 
 // The block goes in, and the change has what stood there: none. Turned again, the block comes back.
@@ -201,7 +199,8 @@ fn a_turn_and_back(rt: HostRuntime) -> Result<(), Fail> {
         Told::Stores(Some(true)),
         Told::Turns(2),
     ];
-    expect(&rt, &mut storing(), &all)
+    let mut change = storing(rt.alloc())?;
+    expect(&rt, &mut change, &all)
 }
 
 // The three parts of the mode are one place, and what stood there is in the change then.
@@ -273,11 +272,7 @@ fn block_stored(alloc: Global) -> Result<(bool, usize), Fail> {
     let mut parts = opened(alloc)?;
     let mut tape = Tape::new(alloc);
     tape.reserve(1)?;
-    let stored = Change::Sector {
-        sector: 5,
-        block: Some(letters()),
-    };
-    tape.try_exchange(&mut parts, stored)?;
+    tape.try_exchange(&mut parts, storing(alloc)?)?;
     tape.close();
     Ok((is_stored(&parts), tape.len()))
 }
