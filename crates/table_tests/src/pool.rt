@@ -265,3 +265,26 @@ fn first_free_bios_of_the_last_seat(rt: HostRuntime) -> Result<(), Fail> {
     ];
     expect(&rt, 1, &all)
 }
+
+// The seat whose first free bio is wrong where this one has two bios and no other has any, if there is one.
+fn wrong_seat(pool: &RequestPool, taken: u8) -> Option<u8> {
+    for seat in 0..16 {
+        let first = if seat == taken { 2 } else { 0 };
+        if pool.free_bio(seat) != Some(u16::from(seat) * 32 + first) {
+            return Some(seat);
+        }
+    }
+    None
+}
+
+// Bios of one seat leave those of each other one as they are.
+#[test]
+fn bios_of_each_seat(rt: HostRuntime) -> Result<(), Fail> {
+    for seat in 0..16u8 {
+        let mut pool = RequestPool::new(rt.alloc(), 1)?;
+        let from = u16::from(seat) * 32;
+        let _none = put_bios(rt.alloc(), &mut pool, (from, from + 2), 1)?;
+        assert_eq!(rt; (seat, wrong_seat(&pool, seat)), (seat, None));
+    }
+    Ok(())
+}
