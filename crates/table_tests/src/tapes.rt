@@ -31,12 +31,17 @@ fn turned(parts: &mut Parts, change: &mut Change) -> Result<(), Fail> {
     Ok(())
 }
 
-// A block of letters A comes to sector 5.
+// A block of letters A.
+fn letters(alloc: Global) -> Result<Boxed<Block>, Fail> {
+    let block = Block::new(Bytes::from_static(&[65; 512]));
+    Ok(Boxed::new(alloc, block)?)
+}
+
+// It comes to sector 5.
 fn storing(alloc: Global) -> Result<Change, Fail> {
-    let letters = Block::new(Bytes::from_static(&[65; 512]));
     Ok(Change::Sector {
         sector: 5,
-        block: Some(Boxed::new(alloc, letters)?),
+        block: Some(letters(alloc)?),
     })
 }
 
@@ -272,7 +277,11 @@ fn block_stored(alloc: Global) -> Result<(bool, usize), Fail> {
     let mut parts = opened(alloc)?;
     let mut tape = Tape::new(alloc);
     tape.reserve(1)?;
-    tape.try_exchange(&mut parts, storing(alloc)?)?;
+    let stored = Change::Sector {
+        sector: 5,
+        block: Some(letters(alloc)?),
+    };
+    tape.try_exchange(&mut parts, stored)?;
     tape.close();
     Ok((is_stored(&parts), tape.len()))
 }
