@@ -1,7 +1,9 @@
 -- The sectors of a range, one by one: what is read of them, and what is stored into them.
-use Rattle.std.proofs.Common.{◌≡◌, ℕ, suc, ◌+◌, ◌-◌, ◌<◌, ◌≤◌, List, ◌++◌, min, take, drop, replicate, length, sym, ap, ◌∙◌, arith, append_assoc, append-nil}
+use Rattle.std.proofs.Common.{◌≡◌, ℕ, zero, suc, ◌+◌, ◌-◌, ◌*◌, ◌<◌, ◌≤◌, List, ◌++◌, min, take, drop, replicate, length, refl, sym, ap, ◌∙◌, arith, append_assoc, append-nil}
 use Rattle.std.specs.Prelude.{unwrap_or}
+use Rattle.std.proofs.Math.Seq.{take-add}
 use Rattle.std.proofs.lemmas.List.{take_min, drop_min}
+use Rattle.plain.specs.Runs.{IsFree}
 use Rattle.std.specs.FinMap as blocks
 use Rattle.dispatch_core.proofs.Words.{Blocks, Tables, content, with_blocks, with_zeros}
 
@@ -33,6 +35,16 @@ content-more overlay found now rest others all sector end h e f whole =
 pub content-none : (overlay : Blocks) (found rest all : List ℕ) (sector end : ℕ) → end ≤ sector → found ++ content overlay sector (end - sector) rest ≡ all → found ≡ all
 content-none overlay found rest all sector end h whole =
     sym (append-nil found) ∙ ap (λ n. found ++ content overlay sector n rest) (sym (none_more sector end h)) ∙ whole
+
+-- where no sector has a block, the content is the base's
+pub content-free : (overlay : Blocks) (sector count : ℕ) (base : List ℕ) → ((k : ℕ) → sector ≤ k → k < sector + count → IsFree overlay k)
+    → take (512 * count) base ≡ content overlay sector count base
+content-free overlay sector zero base free = refl
+content-free overlay sector (suc count) base free =
+    ap (λ n. take n base) (let e : 512 * suc count ≡ 512 + 512 * count = omega arith in e)
+    ∙ take-add 512 (512 * count) base
+    ∙ ap (λ l. take 512 base ++ l) (content-free overlay (sector + 1) count (drop 512 base) (λ k from to. free k (omega (arith, from)) (omega (arith, to))))
+    ∙ ap (λ o. unwrap_or o (take 512 base) ++ content overlay (sector + 1) count (drop 512 base)) (sym (free sector (omega arith) (omega arith)))
 
 -- the first block is put first
 pub with_blocks-more : (overlay now : Blocks) (block rest others : List ℕ) (sector end : ℕ) (all : Blocks) → sector < end

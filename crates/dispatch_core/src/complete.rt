@@ -1,8 +1,9 @@
 // What becomes of the bios of a finished request.
-ghost use Rattle.std.specs.Prelude.{◌≡◌, ◌+◌, ◌*◌, ◌≤◌, ◌<◌, ◌^◌, [], ◌∷◌, None, IfOk, OnOk, IfSome, IsSome, Some, drop, length, take, unwrap_or};
+ghost use Rattle.std.specs.Prelude.{◌≡◌, ◌+◌, ◌*◌, ◌≤◌, ◌<◌, ◌^◌, [], ◌∷◌, None, IfOk, OnOk, IfSome, IsSome, IsTrue, Some, drop, length, take, unwrap_or, ℕ};
 ghost use Rattle.std.specs.FinMap as blocks;
 ghost use Rattle.change_record.specs.Trail.{KeepsTrail};
 ghost use Rattle.process_queue.specs.Merge.{bios_at};
+ghost use Rattle.plain.specs.Runs.{IsFree};
 ghost use Rattle.plain.specs.Steps.Finish.{content, with_blocks, with_zeros, after_effect, completed, result_of, rest_of_effect};
 ghost use Rattle.dispatch_core.specs.Changes.{with_bios, without_bios};
 ghost use Rattle.dispatch_core.specs.Counts.{blocks_put};
@@ -160,12 +161,7 @@ fn completed_bio(
     ensures { IfOk result (λ done. done ≡ record bio.now { result = Some (result_of effect.now overlay.now bio.now) }) }
 {
     let result = match effect {
-        Effect::Reads(bytes) => BioResult::Read(content_of(
-            alloc,
-            overlay,
-            bio.range,
-            bytes.as_slice(),
-        )?),
+        Effect::Reads(bytes) => BioResult::Read(content_of(alloc, overlay, bio.range, bytes)?),
         Effect::Writes => BioResult::Written,
         Effect::Clears => BioResult::Discarded,
         Effect::Fails(kind) => BioResult::IoError(*kind),
@@ -178,8 +174,38 @@ fn completed_bio(
     })
 }
 
-// The content of some sectors: the overlay's block where it has one, else the bytes of the image.
+// The content of some sectors: the overlay's block where it has one, else the bytes of the image. Where it has none in the whole
+// range the bytes are shared, so that those of a read are kept once.
 fn content_of(
+    alloc: Global,
+    overlay: &Overlay,
+    range: Range,
+    bytes: &Bytes,
+) -> Result<Bytes, OutOfMemory>
+    requires { range.start + range.count < 2 ^ 64 }
+    ensures { IfOk result (λ found. found ≡ content overlay.now range.start range.count bytes.now) }
+{
+    if is_free(overlay, range) {
+        let mut found = bytes.clone()?;
+        found.truncate(SECTOR_BYTES * range.count as usize);
+        return Ok(found);
+    }
+    mixed_content(alloc, overlay, range, bytes.as_slice())
+}
+
+// Whether the overlay has no block in a range.
+fn is_free(overlay: &Overlay, range: Range) -> bool
+    requires { range.start + range.count < 2 ^ 64 }
+    ensures { IsTrue result → (sector : ℕ) → range.start ≤ sector → sector < range.start + range.count → IsFree overlay.now sector }
+{
+    match overlay.next_stored(range.start) {
+        Some(sector) => range.end() <= sector,
+        None => true,
+    }
+}
+
+// Likewise, block by block, into memory of its own.
+fn mixed_content(
     alloc: Global,
     overlay: &Overlay,
     range: Range,

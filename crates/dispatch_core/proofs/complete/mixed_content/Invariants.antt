@@ -1,6 +1,6 @@
 use Rattle.std.proofs.Common.{◌≡◌, ◌-◌, ◌++◌}
 use Rattle.plain.specs.Steps.Finish.{content}
-use Rattle.dispatch_core.proofs.complete.content_of.Given as goal
+use Rattle.dispatch_core.proofs.complete.mixed_content.Given as goal
 
 -- what has been found, and the content of the sectors that are to come
 abbrev pub invariant-loop-sector : goal.invariant-loop-sector
