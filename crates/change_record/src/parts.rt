@@ -394,12 +394,7 @@ fn swap_at<T>(table: &mut Vec<T>, at: u8, value: &mut T)
 }
 
 // Puts a member, or none, at an entity's place in a group's tree, and what stood there into its stead.
-fn exchange_member(
-    trees: &mut Vec<ClassTrees>,
-    group: u8,
-    entity: Entity,
-    member: &mut MemberPlace,
-)
+fn exchange_member(trees: &mut Vec<ClassTrees>, group: u8, entity: Entity, member: &mut MemberPlace)
     ensures trees { trees.new.items ≡ slice_set trees.old.items group (with_member (tree_of trees.old.items group) entity member.old) }
     ensures left { member.new ≡ slice_index_or (tree_of trees.old.items group).members entity member.old }
 {

@@ -1,8 +1,7 @@
 -- Seats, bios and outboxes through each step.
-use Rattle.std.proofs.Common.{◌≡◌, ℕ, ◌+◌, ◌-◌, ◌<◌, ◌≤◌, List, [], ◌∷◌, inl, inr, length, false, Some, set, refl, sym, ap, ◌∙◌, arith}
+use Rattle.std.proofs.Common.{◌≡◌, ℕ, ◌+◌, ◌-◌, ◌<◌, List, ◌∷◌, inl, inr, length, false, Some, set, sym, ap, ◌∙◌, arith}
 use Rattle.std.specs.Option.{option_map, option_map_or}
-use Rattle.std.proofs.lemmas.List.Elements.{All-head}
-use Rattle.dispatch_core.proofs.Words.{Range, Op, Bio, Request, Seat, Tables, bios_at, meaning, outbox_at, put, Limits, with_unreaped, unreaped, at, WellFormed, Seated, Kept, IsCompleted, attached_tables, submitted_tables, reaped_tables, sent_tables}
+use Rattle.dispatch_core.proofs.Words.{Range, Op, Bio, Request, Seat, Tables, bios_at, meaning, put, Limits, with_unreaped, unreaped, at, WellFormed, Seated, Kept, attached_tables, submitted_tables, reaped_tables, sent_tables}
 use Rattle.request_pool.specs.Slots.{seat_slots}
 use Rattle.sector_core.specs.Table.{AllTaken}
 use Rattle.sector_core.specs.declared.class.Class.{Class}

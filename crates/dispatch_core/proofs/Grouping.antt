@@ -1,12 +1,11 @@
 -- Groups: what the steps of groups make of the tables, and what the plain steps say where the code has made its tests.
 use Rattle.std.proofs.Common.{◌≡◌, ◌≢◌, inl, inr, ℕ, zero, suc, ◌+◌, ◌^◌, ◌<◌, ◌≤◌, ◌==◌, List, [], ◌∷◌, length, Option, None, Some, MatchOption, Bool, true, false, cond, not, is_some, nat_le, unwrap_or, get_or, set, refl, sym, ap, ◌∙◌, subst, arith, length-set}
-use Rattle.std.specs.Prelude.{slice_get}
 use Rattle.std.specs.List.{find}
 use Rattle.std.proofs.lemmas.Bool.{cases_eq, eq-eqb, ne_eqb}
 use Rattle.std.proofs.lemmas.Bool.Decides.{nat_tests}
 use Rattle.std.proofs.lemmas.Option.{same_Some}
 use Rattle.sector_core.specs.declared.class.Class.TheVariants.{BestEffort}
-use Rattle.dispatch_core.proofs.Words.{numbers, Member, Tables, after, tree_at, with_member, with_vtimes, same_times, Bfq, Plain, put, bfq_of, meaning, stands, group_of, put_vtime, put_vtimes, Limits, WellFormed, Ruled, entered}
+use Rattle.dispatch_core.proofs.Words.{numbers, Member, Tables, after, tree_at, with_member, with_vtimes, same_times, Bfq, Plain, put, bfq_of, meaning, stands, group_of, put_vtimes, Limits, WellFormed, Ruled, entered}
 use Rattle.plain.specs.Groups.{depth, entity_of, most_levels, parent}
 use Rattle.plain.specs.declared.member.State.TheVariants.{Idle}
 use Rattle.change_record.specs.declared.change.Change.TheVariants.{TreeMember, Vtime, GroupEntry, Pending}

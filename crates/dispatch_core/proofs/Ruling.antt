@@ -5,7 +5,7 @@ use Rattle.std.proofs.lemmas.Bool.{cases_eq, eq-eqb, ne_eqb}
 use Rattle.std.proofs.lemmas.List.{get_or-set_same, get_or-set_other}
 use Rattle.std.proofs.lemmas.Option.{same_Some}
 use Rattle.sector_core.specs.declared.class.Class.{Class}
-use Rattle.dispatch_core.proofs.Words.{Member, InService, Tables, with_member, with_vtimes, Classes, same_times, time_of, tree_at, Bfq, Plain, put, bfq_of, meaning, put_vtime, group_of, put_vtimes, Limits, WellFormed, Ruled, entered, attached_tables}
+use Rattle.dispatch_core.proofs.Words.{Member, InService, Tables, with_member, with_vtimes, Classes, same_times, time_of, tree_at, Bfq, Plain, put, bfq_of, meaning, group_of, put_vtimes, Limits, WellFormed, Ruled, entered, attached_tables}
 use Rattle.plain.specs.declared.member.State.TheVariants.{Idle}
 use Rattle.bfq_select.specs.Service.{IsSized, IsBounded, OnlyServes}
 use Rattle.plain.specs.Entities.{with_entity, without_entity}

@@ -1,7 +1,6 @@
 -- Switch: its tests, and the tables after it.
 use Rattle.std.proofs.Common.{◌≡◌, ℕ, zero, suc, ◌+◌, ◌<◌, ◌≤◌, List, [], ◌∷◌, Option, None, Bool, true, false, cond, is_some, nat_lt, length, get_or, refl, sym, ap, ◌∙◌, subst, arith}
 use Rattle.std.proofs.Math.Path.{fun_ext}
-use Rattle.std.proofs.lemmas.Bool.Decides.{nat_tests}
 use Rattle.std.proofs.lemmas.List.Sums.{sum_by-cons}
 use Rattle.sector_core.specs.declared.config.Scheduler.{Scheduler}
 use Rattle.dispatch_core.proofs.Words.{Tables, Bfq, Plain, bfq_of, meaning, Limits, requests_of, at, one, WellFormed, Ruled, Classes}

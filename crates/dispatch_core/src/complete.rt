@@ -287,12 +287,12 @@ fn clear(parts: &mut Parts, tape: &mut Tape, range: Range) -> Result<(), OutOfMe
     ensures spare { tape.new.spare ≡ tape.old.spare }
 {
     for sector in range.start..range.end() {
-        let block = tape.boxed(Block::zeros())?;
+        let zeros = tape.boxed(Block::zeros())?;
         tape.try_exchange(
             parts,
             Change::Sector {
                 sector,
-                block: Some(block),
+                block: Some(zeros),
             },
         )?;
     }

@@ -60,7 +60,11 @@ fn add_page(
 // Takes out what stands at a place. The page goes with the last block that it has. It is apart for the width of a page on
 // the stack, too.
 #[inline(never)]
-pub(crate) fn take_at(pages: &mut BTreeMap<u64, Page>, number: u64, at: usize) -> Option<Boxed<Block>>
+pub(crate) fn take_at(
+    pages: &mut BTreeMap<u64, Page>,
+    number: u64,
+    at: usize,
+) -> Option<Boxed<Block>>
     requires { at < 8 }
     ensures new { Puts pages.old.entries pages.new.entries number at None }
     ensures old { result ≡ stands pages.old.entries number at }

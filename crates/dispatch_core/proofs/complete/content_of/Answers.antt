@@ -1,4 +1,4 @@
-use Rattle.std.proofs.Common.{◌≡◌, ℕ, ◌*◌, take, ap, ◌∙◌, arith}
+use Rattle.std.proofs.Common.{◌*◌, take, ap, ◌∙◌}
 use Rattle.dispatch_core.proofs.Contents.{content-free}
 use Rattle.dispatch_core.proofs.complete.content_of.Goals as goal
 

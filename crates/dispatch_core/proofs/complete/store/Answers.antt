@@ -1,5 +1,4 @@
-use Rattle.std.proofs.Common.{◌≡◌, ◌≤◌, ap, ◌∙◌, arith, take, length, length-drop}
-use Rattle.std.proofs.lemmas.List.{length-take-le}
+use Rattle.std.proofs.Common.{◌≡◌, ap, ◌∙◌, arith, length, length-drop}
 use Rattle.std.specs.FinMap as blocks
 use Rattle.dispatch_core.proofs.Words.{Tables, with_blocks}
 use Rattle.dispatch_core.proofs.Contents.{with_blocks-more, only_overlay}

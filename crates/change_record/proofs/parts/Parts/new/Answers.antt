@@ -1,4 +1,4 @@
-use Rattle.std.proofs.Common.{◌≡◌, refl}
+use Rattle.std.proofs.Common.{refl}
 use Rattle.change_record.proofs.parts.Parts.new.Goals as goal
 
 pub returns : goal.returns

@@ -1,4 +1,4 @@
-use Rattle.std.proofs.Common.{length, sym, ap, ◌∙◌, arith}
+use Rattle.std.proofs.Common.{length, ap, ◌∙◌, arith}
 use Rattle.change_record.specs.Machine.{outbox_at}
 use Rattle.dispatch_core.proofs.Listing.{few_bios}
 use Rattle.dispatch_core.proofs.machine.View.completed.Goals as goal
