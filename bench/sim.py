@@ -31,9 +31,10 @@ same round taken off. In a round each script runs twice in a row, and the run th
 process, by getrusage, with that of an empty script taken off. Beside each figure that has a bound stands the bound, and the status is 1
 where one is not kept.
 
-With `--against` another build of the program runs in the same rounds, and this one has two figures in each. The time per call of
-60,000 calls is divided by that of the other build. Beside it stands the ratio of this build to itself, that is, of its two
-times the longer divided by the shorter. The bound of 1.05 is kept too where the first ratio is not above the second.
+With `--against` another build of the program runs in the same rounds, and this one has two figures in each. The other build's memory,
+and what it takes to undo and redo, are told. The time per call of 60,000 calls is divided by that of the other build. Beside it stands
+the ratio of this build to itself, that is, of its two times the longer divided by the shorter. The bound of 1.05 is kept too where the
+first ratio is not above the second.
 
 The programs run with the environment as it is. With `--as-started` each has besides what the launcher of its checkout sets for it.
 """
@@ -65,7 +66,7 @@ BACK = 30_000
 
 MOST_GROWTH = 1.3
 MOST_UNDO = 0.5
-MOST_BYTES_PER_CALL = 1024
+MOST_BYTES_PER_CALL = 400
 MOST_AGAINST_NONE = 3
 MOST_AGAINST_OTHER = 1.05
 
@@ -252,6 +253,7 @@ class Workload(namedtuple("Workload", FIELDS)):
             runs[name] = (own, self.scheduler, pairs)
             if against is not None and name in ("nothing", "empty", "many"):
                 runs[f"{name}, again"] = (own, self.scheduler, pairs)
+            if against is not None and name in ("nothing", "empty", "many", "held", "undone", "redone"):
                 runs[f"{name}, against"] = (against, self.scheduler, pairs)
         if self.most_against_none is not None:
             runs["empty, none"] = (own, "none", scripts["empty"])
@@ -380,8 +382,8 @@ class Rounds:
     def per_call(self, name, calls, empty="empty"):
         return self.between(name, empty) / calls
 
-    def bytes_per_call(self, name, calls):
-        return (self.peak(name) - self.peak("empty")) * 1024 / calls
+    def bytes_per_call(self, name, calls, empty="empty"):
+        return (self.peak(name) - self.peak(empty)) * 1024 / calls
 
 
 def show(what, measured, bound, is_kept):
@@ -389,13 +391,18 @@ def show(what, measured, bound, is_kept):
     return is_kept
 
 
-def compare(rounds, opening, many):
-    """Prints what a call takes by this build, by it again, and by the other one. Gives whether the bound is kept."""
+def compare(rounds, opening, many, back, payload):
+    """Prints what a call takes by this build, by it again, and by the other one, and what a step undone or redone takes by the other
+    one. Gives whether the bound is kept."""
     first, again, other = (rounds.per_call(f"many{build}", opening + many, f"empty{build}")
                            for build in ("", ", again", ", against"))
     ratio, own = first / other, max(first / again, again / first)
     print(f"{many:>7,} calls: {first * 1e6:6.3f} us, again {again * 1e6:6.3f} us, {other * 1e6:6.3f} us by the other build; "
           f"this build to itself: {own:.3f}")
+    beyond = rounds.bytes_per_call("many, against", opening + many, "empty, against") - payload
+    undo, redo = (rounds.between(f"{name}, against", f"{before}, against") for name, before in (("undone", "held"), ("redone", "undone")))
+    print(f"by the other build: {beyond:6.0f} bytes per call beyond payload; {back:,} steps undone in {undo * 1e3:.2f} ms, "
+          f"redone in {redo * 1e3:.2f} ms")
     bound = max(MOST_AGAINST_OTHER, own)
     return show("time per call against the other build", f"{ratio:.3f}", f"at most {bound:.3f}", ratio <= bound)
 
@@ -450,7 +457,7 @@ def run(workload, own, against):
         kept.append(show("peak memory per call beyond payload", f"{beyond:.0f} bytes", f"at most {workload.most_bytes}",
                          beyond <= workload.most_bytes))
     if against is not None:
-        kept.append(compare(rounds, opening, many))
+        kept.append(compare(rounds, opening, many, back, payload))
     return all(kept)
 
 
