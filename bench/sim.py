@@ -268,7 +268,7 @@ WORKLOADS = [
     Workload("reads in groups", "bfq", list(groups_and_seats()), grouped_read_cycle, 128, 32, None, MOST_AGAINST_NONE, False, [], False),
     # With the scheduler none the first switch would be refused.
     Workload("all kinds of steps", "bfq", ONE_ATTACH, all_steps_cycle, 23, 3, None, None, False, [], False),
-    Workload("reads of an image", "none", ONE_ATTACH, image_read_cycle, 4, BLOCK_SECTORS, None, None, True, [], False),
+    Workload("reads of an image", "none", ONE_ATTACH, image_read_cycle, 4, BLOCK_SECTORS, MOST_BYTES_PER_CALL, None, True, [], False),
     Workload("stores over stored sectors", "none", list(all_stored()), store_again_cycle, 4, RUN_SECTORS, None, None, False,
              ["--sectors", str(STORED_SECTORS)], True),
 ]
