@@ -3,8 +3,8 @@ use Rattle.std.specs.Prelude.{ℕ, List, [], Option, None, slice_index_or}
 use Rattle.std.specs.List.{filter_map}
 use Rattle.std.specs.Option.{option_map, option_and_then}
 use Rattle.arrayvec.specs.ArrayVec.{ArrayVec}
-use Rattle.sector_core.specs.declared.bio.Bio.{Bio}
-use Rattle.request_pool.specs.declared.Request.{Request}
+use Rattle.sector_core.specs.declared.bio.BioFields.{BioFields as Bio}
+use Rattle.request_pool.specs.declared.RequestFields.{RequestFields as Request}
 use Rattle.plain.specs.Machine.{WholeRequest, Bfq, Plain}
 use Rattle.process_queue.specs.Queue.{queue_slots}
 use Rattle.process_queue.specs.Merge.{bios_at}

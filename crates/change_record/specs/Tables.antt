@@ -2,9 +2,9 @@
 use Rattle.std.specs.Prelude.{ℕ, Bool, false, List, [], ◌++◌, Option, None, replicate}
 use Rattle.std.specs.FinMap as map
 use Rattle.arrayvec.specs.ArrayVec.{ArrayVec}
-use Rattle.sector_core.specs.declared.bio.Bio.{Bio}
+use Rattle.sector_core.specs.declared.bio.BioFields.{BioFields as Bio}
 use Rattle.sector_core.specs.declared.config.Scheduler.{Scheduler}
-use Rattle.request_pool.specs.declared.Request.{Request}
+use Rattle.request_pool.specs.declared.RequestFields.{RequestFields as Request}
 use Rattle.tag_set.specs.declared.Issue.{Issue}
 use Rattle.process_queue.specs.declared.Link.{Link}
 use Rattle.plain.specs.Classes.{Classes}

@@ -1,6 +1,5 @@
 // One exchange on one place.
 use crate::{MemberPlace, Outbox};
-use boxed::Boxed;
 use plain::{InService, Seat, Vtimes};
 use process_queue::Link;
 use request_pool::Request;
@@ -27,23 +26,23 @@ pub struct Making {
 
 /// An exchange: a place of the tables, and the value that is to stand there, or after a turn the one that stood there.
 ///
-/// A wide value stands in a box of its own, which goes from the tape to the tables and back.
+/// A block, a request and a bio are one word wide: what goes from the tape to the tables and back is that word.
 #[derive(Drop)]
 pub enum Change {
     /// The overlay at a sector.
     Sector {
         sector: u64,
-        block: Option<Boxed<Block>>,
+        block: Option<Block>,
     },
     /// A slot of the requests.
     RequestSlot {
         slot: Slot,
-        request: Option<Boxed<Request>>,
+        request: Option<Request>,
     },
     /// A slot of the bios.
     BioSlot {
         slot: Slot,
-        bio: Option<Boxed<Bio>>,
+        bio: Option<Bio>,
     },
     /// What a tag bears.
     Tag {

@@ -5,7 +5,9 @@
 //! |---|---|
 //! | [`Parts::turn`] | the exchange of one place: the new value goes in, the old one stays in its stead |
 //! | [`Parts::turns`] | how many exchanges were made |
+//! | [`MemberPlace::of`], [`Outbox::joined`] | a place of a group's tree, and a seat's outbox, as narrow as an exchange needs them |
 //! | [`Tape::reserve`] | room for some pushes, which then take no memory |
+//! | [`Tape::boxed`] | a box for a request or a bio, from the memory that the tape grows in |
 //! | [`Tape::push`] | one more exchange of the step under way |
 //! | [`Tape::back`] | turns a step's exchanges in reverse order; it cannot fail |
 //! | [`Tape::forth`] | turns a step's exchanges in order again |

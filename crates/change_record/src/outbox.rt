@@ -5,7 +5,8 @@ use sector_core::{OutOfMemory, Slot};
 use std::alloc::Global;
 use std::marker::Model;
 
-/// The slots of a seat's completed bios, the first to be reaped first. It takes memory for as many as it has.
+/// The slots of a seat's completed bios, the first to be reaped first. It takes memory for as many as it has: an
+/// outbox stands in the tape for each bio that is delivered or reaped, and seldom has many of the 32 that it may have.
 #[derive(Drop)]
 pub struct Outbox {
     slots: Vec<Slot>,

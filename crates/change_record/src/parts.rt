@@ -9,7 +9,6 @@ ghost use Rattle.change_record.specs.Exchange.{IsBesideOverlay, after, left_by, 
 ghost use Rattle.plain.specs.Classes.{with_member, with_vtimes};
 
 use crate::{Change, Making, MemberPlace, Outbox};
-use boxed::Boxed;
 use class_trees::ClassTrees;
 use group_tree::GroupTree;
 use overlay::Overlay;
@@ -333,7 +332,7 @@ impl Parts {
 fn exchange_block(
     overlay: &mut Overlay,
     sector: u64,
-    block: &mut Option<Boxed<Block>>,
+    block: &mut Option<Block>,
 ) -> Result<(), OutOfMemory>
     ensures overlay { OnOk result (overlay.new ≡ exchanged overlay.old sector block.old) }
     ensures left { OnOk result (block.new ≡ map.get overlay.old sector) }
@@ -355,7 +354,7 @@ fn exchange_block(
 }
 
 // Puts a request, or none, at a slot, and what stood there into its stead. If there is no such slot nothing changes.
-fn swap_request(pool: &mut RequestPool, slot: Slot, request: &mut Option<Boxed<Request>>)
+fn swap_request(pool: &mut RequestPool, slot: Slot, request: &mut Option<Request>)
     ensures pool { pool.new ≡ record pool.old { requests = slice_set pool.old.requests slot request.old } }
     ensures left { request.new ≡ slice_index_or pool.old.requests slot request.old }
 {
@@ -364,7 +363,7 @@ fn swap_request(pool: &mut RequestPool, slot: Slot, request: &mut Option<Boxed<R
 }
 
 // Puts a bio, or none, at a slot, and what stood there into its stead. If there is no such slot nothing changes.
-fn swap_bio(pool: &mut RequestPool, slot: Slot, bio: &mut Option<Boxed<Bio>>)
+fn swap_bio(pool: &mut RequestPool, slot: Slot, bio: &mut Option<Bio>)
     ensures pool { pool.new ≡ record pool.old { bios = slice_set pool.old.bios slot bio.old } }
     ensures left { bio.new ≡ slice_index_or pool.old.bios slot bio.old }
 {

@@ -3,8 +3,8 @@ pub use Rattle.change_record.specs.Tables.{Loose, Tables, empty_tables}
 pub use Rattle.change_record.specs.Machine.{bfq_of, meaning, outbox_at, whole_at}
 pub use Rattle.plain.specs.Machine.{Bfq, Blocks, Flight, Plain, WholeRequest, put}
 pub use Rattle.plain.specs.Opening.{Limits, empty_service, opening, opening_bfq}
-pub use Rattle.request_pool.specs.declared.Request.{Request}
-pub use Rattle.sector_core.specs.declared.bio.Bio.{Bio}
+pub use Rattle.request_pool.specs.declared.RequestFields.{RequestFields as Request}
+pub use Rattle.sector_core.specs.declared.bio.BioFields.{BioFields as Bio}
 pub use Rattle.sector_core.specs.declared.bio.Op.{Op}
 pub use Rattle.sector_core.specs.declared.bio.Outcome.{Outcome}
 pub use Rattle.sector_core.specs.declared.bio.Effect.{Effect}

@@ -3,10 +3,10 @@ use Rattle.std.specs.Prelude.{ℕ, ◌+◌, ◌-◌, nat_le, Bool, true, false, 
 use Rattle.std.specs.Option.{option_map_or}
 use Rattle.sector_core.specs.declared.range.Range.{Range}
 use Rattle.sector_core.specs.declared.bio.Op.{Op}
-use Rattle.sector_core.specs.declared.bio.Bio.{Bio}
+use Rattle.sector_core.specs.declared.bio.BioFields.{BioFields as Bio}
 use Rattle.sector_core.specs.declared.bio.Effect.{Effect}
 use Rattle.sector_core.specs.declared.class.Class.{Class}
-use Rattle.request_pool.specs.declared.Request.{Request}
+use Rattle.request_pool.specs.declared.RequestFields.{RequestFields as Request}
 use Rattle.plain.specs.declared.seat.Seat.{Seat}
 use Rattle.change_record.specs.Tables.{Tables}
 use Rattle.change_record.specs.Exchange.{tree_at}

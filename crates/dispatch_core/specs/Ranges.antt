@@ -1,6 +1,6 @@
 -- The sectors of a request, read off the slots of its bios.
 use Rattle.std.specs.Prelude.{ℕ, ◌≤◌, List, [], ◌∷◌, Option, None, Some, sum_by, slice_index_or}
-use Rattle.sector_core.specs.declared.bio.Bio.{Bio}
+use Rattle.sector_core.specs.declared.bio.BioFields.{BioFields as Bio}
 
 abbrev pub start_of_bio : Option Bio → ℕ
 start_of_bio None = 0

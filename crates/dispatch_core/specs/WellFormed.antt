@@ -2,8 +2,8 @@
 use Rattle.std.specs.Prelude.{◌≡◌, ℕ, ◌+◌, ◌*◌, ◌<◌, ◌≤◌, ◌==◌, Bool, ◌^◌, true, false, List, [], length, sum_by, count_by, Option, None, Some, is_some, IsSome, All, slice_index_or, if◌then◌else◌}
 use Rattle.std.specs.Option.{option_map_or}
 use Rattle.sector_core.specs.declared.bio.Op.{Op}
-use Rattle.sector_core.specs.declared.bio.Bio.{Bio}
-use Rattle.request_pool.specs.declared.Request.{Request}
+use Rattle.sector_core.specs.declared.bio.BioFields.{BioFields as Bio}
+use Rattle.request_pool.specs.declared.RequestFields.{RequestFields as Request}
 use Rattle.request_pool.specs.Slots.{seat_slots}
 use Rattle.tag_set.specs.declared.Issue.{Issue}
 use Rattle.process_queue.specs.declared.Link.{Link}

@@ -11,12 +11,11 @@ ghost use Rattle.dispatch_core.specs.Ranges.{total_count};
 ghost use Rattle.dispatch_core.specs.Ready.{IsReady, HasBytes, HasPayload};
 ghost use Rattle.dispatch_core.specs.WellFormed.{at};
 
-use boxed::Boxed;
 use bytes::Bytes;
 use change_record::{Change, Parts, Tape};
 use overlay::Overlay;
 use plain::SECTOR_BYTES;
-use sector_core::{Bio, BioResult, Block, Effect, OutOfMemory, Range, Slot};
+use sector_core::{BioFields, BioResult, Block, Effect, OutOfMemory, Range, Slot};
 use std::alloc::Global;
 
 /// Gives every bio in these slots its result, and puts the blocks of a store or a discard.
@@ -91,14 +90,14 @@ pub fn drop_all(
 }
 
 // The bio in a slot, without its result.
-fn bio_without_result(parts: &Parts, slot: Slot) -> Result<Bio, OutOfMemory>
+fn bio_without_result(parts: &Parts, slot: Slot) -> Result<BioFields, OutOfMemory>
     requires { IsSome (at parts.now.tables.bios slot) }
     ensures { IfOk result (λ copy. IfSome (at parts.now.tables.bios slot) (λ bio. copy ≡ record bio { result = None })) }
 {
     let Some(bio) = parts.pool().bio(slot) else {
         unreachable!()
     };
-    Ok(Bio {
+    Ok(BioFields {
         serial: bio.serial,
         range: bio.range,
         payload: bio.payload.clone()?,
@@ -107,7 +106,12 @@ fn bio_without_result(parts: &Parts, slot: Slot) -> Result<Bio, OutOfMemory>
 }
 
 // The bio in a slot, with its result.
-fn done_bio(alloc: Global, parts: &Parts, slot: Slot, effect: &Effect) -> Result<Bio, OutOfMemory>
+fn done_bio(
+    alloc: Global,
+    parts: &Parts,
+    slot: Slot,
+    effect: &Effect,
+) -> Result<BioFields, OutOfMemory>
     requires taken { IsSome (at parts.now.tables.bios slot) }
     requires ends { IfSome (at parts.now.tables.bios slot) (λ bio. bio.range.start + bio.range.count < 2 ^ 64) }
     ensures { IfOk result (λ done. IfSome (at parts.now.tables.bios slot) (λ bio. done ≡ record bio { result = Some (result_of effect.now parts.now.tables.overlay bio) })) }
@@ -123,7 +127,7 @@ fn done_bio(alloc: Global, parts: &Parts, slot: Slot, effect: &Effect) -> Result
 fn put_blocks(
     parts: &mut Parts,
     tape: &mut Tape,
-    bio: &Bio,
+    bio: &BioFields,
     effect: &Effect,
 ) -> Result<(), OutOfMemory>
     requires ends { bio.now.range.start + bio.now.range.count < 2 ^ 64 }
@@ -154,9 +158,9 @@ fn put_blocks(
 fn completed_bio(
     alloc: Global,
     overlay: &Overlay,
-    bio: &Bio,
+    bio: &BioFields,
     effect: &Effect,
-) -> Result<Bio, OutOfMemory>
+) -> Result<BioFields, OutOfMemory>
     requires { bio.now.range.start + bio.now.range.count < 2 ^ 64 }
     ensures { IfOk result (λ done. done ≡ record bio.now { result = Some (result_of effect.now overlay.now bio.now) }) }
 {
@@ -166,7 +170,7 @@ fn completed_bio(
         Effect::Clears => BioResult::Discarded,
         Effect::Fails(kind) => BioResult::IoError(*kind),
     };
-    Ok(Bio {
+    Ok(BioFields {
         serial: bio.serial,
         range: bio.range,
         payload: bio.payload.clone()?,
@@ -265,14 +269,14 @@ fn store(
     Ok(())
 }
 
-// Takes the block of the first sector off some bytes, into a box; its bytes are shared.
-fn first_block(tape: &Tape, bytes: &mut Bytes) -> Result<Boxed<Block>, OutOfMemory>
+// Takes the block of the first sector off some bytes; its bytes are shared.
+fn first_block(tape: &Tape, bytes: &mut Bytes) -> Result<Block, OutOfMemory>
     requires { 512 ≤ length bytes.old }
     ensures block { IfOk result (λ block. block ≡ take 512 bytes.old) }
     ensures rest { OnOk result (bytes.new ≡ drop 512 bytes.old) }
 {
-    let block = Block::new(bytes.split_to(SECTOR_BYTES)?);
-    Ok(tape.boxed(block)?)
+    let first = bytes.split_to(SECTOR_BYTES)?;
+    Block::new(tape.allocator(), first)
 }
 
 // Puts blocks of zeros into the overlay.
@@ -287,7 +291,7 @@ fn clear(parts: &mut Parts, tape: &mut Tape, range: Range) -> Result<(), OutOfMe
     ensures spare { tape.new.spare ≡ tape.old.spare }
 {
     for sector in range.start..range.end() {
-        let zeros = tape.boxed(Block::zeros())?;
+        let zeros = Block::zeros(tape.allocator())?;
         tape.try_exchange(
             parts,
             Change::Sector {

@@ -19,13 +19,12 @@ ghost use Rattle.dispatch_core.specs.WellFormed.{WellFormed};
 use crate::{Answer, Cause, Code, Reply, Sizes};
 use arrayvec::ArrayVec;
 use bfq_select::{VtimeFull, activate};
-use boxed::Boxed;
 use bytes::Bytes;
 use change_record::{Change, Parts, Tape};
 use plain::Seat;
 use process_queue::Link;
-use request_pool::Request;
-use sector_core::{Bio, Op, OutOfMemory, Range, Scheduler, Slot};
+use request_pool::{Request, RequestFields};
+use sector_core::{Bio, BioFields, Op, OutOfMemory, Range, Scheduler, Slot};
 
 /// The end of Submit where the bio joins no request: it needs one that is free, which goes to the end of the queue.
 pub fn submit_new(
@@ -116,24 +115,24 @@ pub fn boxed_bio(
     serial: u64,
     range: Range,
     payload: &Bytes,
-) -> Result<Boxed<Bio>, OutOfMemory>
+) -> Result<Bio, OutOfMemory>
     ensures { IfOk result (λ bio. bio ≡ record { serial = serial; range = range; payload = payload.now; result = None }) }
 {
-    Ok(tape.boxed(Bio {
+    tape.boxed(BioFields {
         serial,
         range,
         payload: payload.clone()?,
         result: None,
-    })?)
+    })
 }
 
 // A request of one bio, by its slot.
-fn request_of(session: u64, op: Op, place: Slot) -> Request
+fn request_of(session: u64, op: Op, place: Slot) -> RequestFields
     ensures { result ≡ record { session = session; op = op; bios = record { items = place ∷ [] } } }
 {
     let mut bios = ArrayVec::new();
     bios.push(place);
-    Request { session, op, bios }
+    RequestFields { session, op, bios }
 }
 
 // Puts the bio and its request into their slots, and the request at the end of the seat's queue.
@@ -144,8 +143,8 @@ fn insert(
     entry: Seat,
     slot: Slot,
     place: Slot,
-    request: Boxed<Request>,
-    bio: Boxed<Bio>,
+    request: Request,
+    bio: Bio,
 )
     requires room { 4 ≤ tape.old.room }
     requires few { entry.unreaped < 32 }

@@ -16,12 +16,11 @@ ghost use Rattle.dispatch_core.specs.WellFormed.{WellFormed};
 use crate::slots::list_joined;
 use crate::submit_alone::boxed_bio;
 use crate::{Answer, Code, Reply, Sizes};
-use boxed::Boxed;
 use bytes::Bytes;
 use change_record::{Change, Parts, Tape};
 use plain::Seat;
 use process_queue::Place;
-use request_pool::Request;
+use request_pool::{Request, RequestFields};
 use sector_core::{Bio, Op, OutOfMemory, Range, Slot};
 
 /// The end of Submit where the bio joins a request: that one keeps its place in the queue, and no other is needed.
@@ -62,7 +61,7 @@ pub fn submit_joined(
 }
 
 // A request with the slot of one more bio, at the front or at the end.
-fn with_slot(request: &Request, place: Slot, front: bool) -> Request
+fn with_slot(request: &RequestFields, place: Slot, front: bool) -> RequestFields
     requires { length request.now.bios.items < 32 }
     ensures { result ≡ joined_request front place request.now }
 {
@@ -72,7 +71,7 @@ fn with_slot(request: &Request, place: Slot, front: bool) -> Request
     } else {
         list_joined(slots, &[place])
     };
-    Request {
+    RequestFields {
         session: request.session,
         op: request.op,
         bios,
@@ -87,8 +86,8 @@ fn put_bio(
     entry: Seat,
     slot: Slot,
     place: Slot,
-    request: Boxed<Request>,
-    bio: Boxed<Bio>,
+    request: Request,
+    bio: Bio,
 )
     requires room { 3 ≤ tape.old.room }
     requires few { entry.unreaped < 32 }

@@ -2,7 +2,7 @@
 use Rattle.std.proofs.Common.{ℕ, List, [], ◌∷◌, ◌++◌, Option, Some, None, Bool, true, false, cond}
 use Rattle.plain.specs.Lists.{first_of}
 use Rattle.sector_core.specs.declared.bio.Outcome.{Outcome}
-use Rattle.sector_core.specs.declared.bio.Bio.{Bio}
+use Rattle.sector_core.specs.declared.bio.BioFields.{BioFields as Bio}
 use Rattle.plain.specs.Machine.{Plain, Flight, WholeRequest}
 use Rattle.plain.specs.declared.seat.InService.{InService}
 use Rattle.plain.specs.declared.answer.Answer.{Answer}

@@ -8,6 +8,7 @@ use change_record::push_within;
 use dispatch_core::Step;
 use plain::Call;
 use std::marker::Model;
+use std::mem::size_of;
 
 /// A place of the line: the serial of its step, and the number of the journal's entry that is this step.
 // A history holds fewer than 2^32 calls, so 32 bits are enough for both.
@@ -16,6 +17,9 @@ pub struct Place {
     pub serial: u32,
     pub entry: u32,
 }
+
+// The line holds one for each step that stands, beside the journal's entry of that step.
+const _: () = prove!(size_of::<Place>() <= 8);
 
 /// A step of the line, with its serial.
 #[derive(Drop)]

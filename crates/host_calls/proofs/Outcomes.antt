@@ -1,7 +1,7 @@
 -- Every step leaves results in outboxes alone.
 use Rattle.std.proofs.Common.{◌≡◌, ℕ, List, [], ◌∷◌, ◌++◌, Some, None, All, refl, sym}
 use Rattle.std.proofs.lemmas.List.Elements.{All-nil, All-cons, All-append, All-same, All-tail}
-use Rattle.sector_core.specs.declared.bio.Bio.{Bio}
+use Rattle.sector_core.specs.declared.bio.BioFields.{BioFields as Bio}
 use Rattle.sector_core.specs.declared.bio.Op.{Op}
 use Rattle.sector_core.specs.declared.bio.Effect.{Effect}
 use Rattle.sector_core.specs.declared.range.Range.{Range}

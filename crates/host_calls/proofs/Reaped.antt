@@ -1,7 +1,7 @@
 -- A reap tells the result of the first bio in the outbox.
 use Rattle.std.proofs.Common.{true, false, Bool, ◌≡◌, inl, inr, ℕ, ◌+◌, ◌==◌, List, [], ◌∷◌, ◌++◌, All, Option, Some, None, cond, unwrap_or, refl, sym, subst, ap}
 use Rattle.std.proofs.lemmas.List.Elements.{All-head}
-use Rattle.sector_core.specs.declared.bio.Bio.{Bio}
+use Rattle.sector_core.specs.declared.bio.BioFields.{BioFields as Bio}
 use Rattle.sector_core.specs.declared.bio.BioResult.{BioResult}
 use Rattle.sector_core.specs.declared.bio.BioResult.TheVariants.{Written}
 use Rattle.plain.specs.Machine.{Plain}

@@ -1,7 +1,7 @@
 -- How many bytes blocks, payloads and results have: 512 for each of their sectors.
 use Rattle.std.specs.Prelude.{◌≡◌, ℕ, ◌*◌, List, length, All, Option, None, Some}
 use Rattle.std.specs.FinMap as blocks
-use Rattle.sector_core.specs.declared.bio.Bio.{Bio}
+use Rattle.sector_core.specs.declared.bio.BioFields.{BioFields as Bio}
 use Rattle.sector_core.specs.declared.bio.Op.{Op}
 use Rattle.sector_core.specs.declared.bio.BioResult.{BioResult}
 use Rattle.sector_core.specs.declared.bio.BioResult.TheVariants.{Read, Written, Discarded, IoError}

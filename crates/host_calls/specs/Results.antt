@@ -1,6 +1,6 @@
 -- Which bios have a result, and who is told of it.
 use Rattle.std.specs.Prelude.{◌≡◌, ℕ, true, List, ◌∷◌, All, Some, None, is_some}
-use Rattle.sector_core.specs.declared.bio.Bio.{Bio}
+use Rattle.sector_core.specs.declared.bio.BioFields.{BioFields as Bio}
 use Rattle.sector_core.specs.declared.bio.BioResult.{BioResult}
 use Rattle.plain.specs.Machine.{WholeRequest, Plain}
 use Rattle.plain.specs.declared.answer.Reply.TheVariants.{Completed}

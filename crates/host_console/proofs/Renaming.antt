@@ -7,7 +7,7 @@ use Rattle.std.specs.Fmt.{decimal}
 use Rattle.std.proofs.lemmas.List.Concat.{flat_map-cons}
 use Rattle.std.proofs.lemmas.Bool.{cases_Bool}
 use Rattle.std.proofs.lemmas.Bool.Decides.{nat_tests}
-use Rattle.sector_core.specs.declared.bio.Bio.{Bio}
+use Rattle.sector_core.specs.declared.bio.BioFields.{BioFields as Bio}
 use Rattle.plain.specs.Lists.{numbers, seats}
 use Rattle.plain.specs.declared.seat.Seat.{Seat}
 use Rattle.plain.specs.Machine.{WholeRequest, Bfq, Plain}

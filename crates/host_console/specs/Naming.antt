@@ -1,7 +1,7 @@
 -- Machines that differ in names alone (our profile): sessions, serials, issues and tags.
 use Rattle.std.specs.Prelude.{◌≡◌, ℕ, true, List, [], ◌∷◌, is_some, map}
 use Rattle.std.specs.Option.{option_map}
-use Rattle.sector_core.specs.declared.bio.Bio.{Bio}
+use Rattle.sector_core.specs.declared.bio.BioFields.{BioFields as Bio}
 use Rattle.plain.specs.declared.seat.Seat.{Seat}
 use Rattle.plain.specs.Machine.{WholeRequest, Plain}
 use Rattle.plain.specs.Rules.{stands}

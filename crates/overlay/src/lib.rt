@@ -21,7 +21,6 @@ ghost use Rattle.std.specs.FinMap as map;
 ghost use Rattle.plain.specs.Machine.{Blocks};
 ghost use Rattle.overlay.specs.Blocks.{exchanged};
 
-use boxed::Boxed;
 use page::{PAGE, Page};
 use pages::{put_at, take_at};
 use sector_core::{Block, OutOfMemory};
@@ -74,8 +73,8 @@ impl Overlay {
     pub fn exchange(
         &mut self,
         sector: u64,
-        block: Option<Boxed<Block>>,
-    ) -> Result<Option<Boxed<Block>>, (Option<Boxed<Block>>, OutOfMemory)>
+        block: Option<Block>,
+    ) -> Result<Option<Block>, (Option<Block>, OutOfMemory)>
         ensures ok { OnOk result (self.new ≡ exchanged self.old sector block) }
         ensures old { IfOk result (λ left. left ≡ map.get self.old sector) }
         ensures err { OnErr result (self.new ≡ self.old) }

@@ -3,7 +3,6 @@ ghost use Rattle.std.specs.Prelude.{◌≡◌, ℕ, ◌+◌, ◌^◌, ◌<◌, �
 ghost use Rattle.std.specs.Option.{option_copied};
 ghost use Rattle.overlay.specs.Pages.{HasBlock, HasNone};
 
-use boxed::Boxed;
 use sector_core::Block;
 use std::marker::Model;
 
@@ -15,7 +14,7 @@ pub const PAGE: u64 = 8;
 pub struct Page {
     // The bit of each place that has a block, the lowest bit that of the first place.
     mask: u8,
-    blocks: [Option<Boxed<Block>>; 8],
+    blocks: [Option<Block>; 8],
 }
 
 impl Model for Page {
@@ -31,7 +30,7 @@ impl Model for Page {
 
 impl Page {
     /// A page with one block.
-    pub fn new(at: usize, block: Boxed<Block>) -> Page
+    pub fn new(at: usize, block: Block) -> Page
         requires { at < 8 }
         ensures { (k : ℕ) → slice_index_or result k None ≡ cond (k == at) (Some block) None }
     {
@@ -48,14 +47,13 @@ impl Page {
         ensures { option_copied result ≡ slice_index_or self.now at None }
     {
         match self.blocks.get(at) {
-            Some(Some(boxed)) => Some(boxed.get()),
-            Some(None) => None,
+            Some(place) => place.as_ref(),
             None => None,
         }
     }
 
     /// Puts a block at a place, and hands back what stood there.
-    pub fn put(&mut self, at: usize, block: Boxed<Block>) -> Option<Boxed<Block>>
+    pub fn put(&mut self, at: usize, block: Block) -> Option<Block>
         requires { at < 8 }
         ensures new { (k : ℕ) → slice_index_or self.new k None ≡ cond (k == at) (Some block) (slice_index_or self.old k None) }
         ensures old { result ≡ slice_index_or self.old at None }
@@ -77,7 +75,7 @@ impl Page {
     }
 
     /// Takes out what stands at a place, where another has a block: a page is never left empty.
-    pub fn take(&mut self, at: usize) -> Option<Boxed<Block>>
+    pub fn take(&mut self, at: usize) -> Option<Block>
         requires at { at < 8 }
         requires other { HasBlock (slice_set self.old at None) }
         ensures new { (k : ℕ) → slice_index_or self.new k None ≡ cond (k == at) None (slice_index_or self.old k None) }
@@ -122,7 +120,7 @@ impl Page {
     }
 
     /// What stands at a place of a page that is no longer needed.
-    pub fn into_block(self, at: usize) -> Option<Boxed<Block>>
+    pub fn into_block(self, at: usize) -> Option<Block>
         requires { at < 8 }
         ensures { result ≡ slice_index_or self at None }
     {

@@ -3,7 +3,6 @@ ghost use Rattle.std.specs.Prelude.{◌≡◌, ◌<◌, ◌^◌, IfOk, IfErr, On
 ghost use Rattle.overlay.specs.Pages.{IsNumbered, Puts, has_page, stands};
 
 use crate::page::Page;
-use boxed::Boxed;
 use sector_core::Block;
 use std::collections::BTreeMap;
 
@@ -13,8 +12,8 @@ pub(crate) fn put_at(
     pages: &mut BTreeMap<u64, Page>,
     number: u64,
     at: usize,
-    block: Boxed<Block>,
-) -> Result<Option<Boxed<Block>>, Option<Boxed<Block>>>
+    block: Block,
+) -> Result<Option<Block>, Option<Block>>
     requires at { at < 8 }
     requires number { number < 2 ^ 61 }
     ensures new { OnOk result (Puts pages.old.entries pages.new.entries number at (Some block)) }
@@ -41,8 +40,8 @@ fn add_page(
     pages: &mut BTreeMap<u64, Page>,
     number: u64,
     at: usize,
-    block: Boxed<Block>,
-) -> Result<(), Option<Boxed<Block>>>
+    block: Block,
+) -> Result<(), Option<Block>>
     requires at { at < 8 }
     requires number { number < 2 ^ 61 }
     requires absent { has_page pages.old.entries number ≡ false }
@@ -60,11 +59,7 @@ fn add_page(
 // Takes out what stands at a place. The page goes with the last block that it has. It is apart for the width of a page on
 // the stack, too.
 #[inline(never)]
-pub(crate) fn take_at(
-    pages: &mut BTreeMap<u64, Page>,
-    number: u64,
-    at: usize,
-) -> Option<Boxed<Block>>
+pub(crate) fn take_at(pages: &mut BTreeMap<u64, Page>, number: u64, at: usize) -> Option<Block>
     requires { at < 8 }
     ensures new { Puts pages.old.entries pages.new.entries number at None }
     ensures old { result ≡ stands pages.old.entries number at }

@@ -4,7 +4,7 @@ use Rattle.std.specs.List.{count_by, filter, filter_map}
 use Rattle.std.specs.Option.{option_map, option_map_or}
 use Rattle.plain.specs.Lists.{numbers, seats, is_empty}
 use Rattle.sector_core.specs.declared.range.Range.{Range}
-use Rattle.sector_core.specs.declared.bio.Bio.{Bio}
+use Rattle.sector_core.specs.declared.bio.BioFields.{BioFields as Bio}
 use Rattle.plain.specs.Machine.{WholeRequest, Plain}
 use Rattle.plain.specs.declared.shape.Shape.{Shape}
 use Rattle.plain.specs.Merge.{shape_of}

@@ -2,7 +2,7 @@
 use Rattle.std.proofs.Common.{true, false, Bool, ◌≡◌, inl, inr, ℕ, List, ◌∷◌, Option, Some, None, All, sym, subst}
 use Rattle.std.proofs.lemmas.Bool.{cases_eq}
 use Rattle.std.proofs.lemmas.List.Elements.{All-cons, All-same, All-head, All-tail, All-push}
-use Rattle.sector_core.specs.declared.bio.Bio.{Bio}
+use Rattle.sector_core.specs.declared.bio.BioFields.{BioFields as Bio}
 use Rattle.plain.specs.Machine.{WholeRequest, Flight, Plain, put}
 use Rattle.plain.specs.Steps.Submit.{with_bio}
 use Rattle.plain_laws.proofs.Puts.{put_here, put_other, put_cases, some_is}

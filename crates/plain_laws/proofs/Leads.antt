@@ -3,7 +3,7 @@
 use Rattle.std.proofs.Common.{true, false, Bool, ◌≡◌, ℕ, zero, suc, ◌+◌, ◌-◌, ◌<◌, ◌≤◌, nat_le, nat_lt, ◌==◌, ◌||◌, not, List, [], ◌∷◌, length, Option, Some, None, is_some, refl, subst, arith, unwrap_or, eqb-true}
 use Rattle.std.specs.Option.{option_map, is_none}
 use Rattle.std.proofs.lemmas.Bool.{not-false, leb-false, ltb-false, or_parts}
-use Rattle.sector_core.specs.declared.bio.Bio.{Bio}
+use Rattle.sector_core.specs.declared.bio.BioFields.{BioFields as Bio}
 use Rattle.sector_core.specs.declared.bio.BioResult.TheVariants.{Written}
 use Rattle.sector_core.specs.declared.bio.Op.{Op}
 use Rattle.sector_core.specs.declared.bio.Outcome.{Outcome}

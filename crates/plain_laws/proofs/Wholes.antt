@@ -3,7 +3,7 @@ use Rattle.std.proofs.Common.{true, false, Bool, ◌≡◌, ℕ, ◌+◌, ◌<�
 use Rattle.std.proofs.lemmas.List.{length_push}
 use Rattle.std.proofs.lemmas.List.Elements.{All-nil, All-cons, All-append}
 use Rattle.std.proofs.lemmas.List.Sums.{sum_by-cons}
-use Rattle.sector_core.specs.declared.bio.Bio.{Bio}
+use Rattle.sector_core.specs.declared.bio.BioFields.{BioFields as Bio}
 use Rattle.sector_core.specs.declared.bio.Op.{Op}
 use Rattle.plain.specs.Merge.{shape_of, joins_at}
 use Rattle.plain.specs.Machine.{WholeRequest, Plain}

@@ -1,6 +1,6 @@
 -- What every request of a machine is: a few bios, each from the sector where the one before it ends.
 use Rattle.std.specs.Prelude.{◌≡◌, ℕ, ◌+◌, ◌≤◌, Bool, List, [], ◌∷◌, length, All, Some}
-use Rattle.sector_core.specs.declared.bio.Bio.{Bio}
+use Rattle.sector_core.specs.declared.bio.BioFields.{BioFields as Bio}
 use Rattle.plain.specs.Machine.{WholeRequest, Flight, Plain}
 use Rattle.plain.specs.declared.step.Step.{Step}
 use Rattle.plain.specs.declared.call.Call.{Call}

@@ -1,7 +1,7 @@
 -- The pool as two lists of slots, each with a value or none (blk-mq: requests are allocated once, by number).
 use Rattle.std.specs.Prelude.{◌≡◌, ℕ, ◌*◌, ◌/◌, ◌%◌, ◌<◌, ◌≤◌, List, Option, None, IsSome, length, take, drop, slice_index_or}
-use Rattle.sector_core.specs.declared.bio.Bio.{Bio}
-use Rattle.request_pool.specs.declared.Request.{Request}
+use Rattle.sector_core.specs.declared.bio.BioFields.{BioFields as Bio}
+use Rattle.request_pool.specs.declared.RequestFields.{RequestFields as Request}
 
 pub record Slots : Type 0 where
   pub requests : List (Option Request)

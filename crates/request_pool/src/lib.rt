@@ -21,7 +21,7 @@ ghost use Rattle.request_pool.specs.Slots.{AreTaken, seat_slots};
 
 use arrayvec::ArrayVec;
 use boxed::Boxed;
-use sector_core::{Bio, Op, OutOfMemory, Slot, empty_table};
+use sector_core::{Bio, BioFields, Op, OutOfMemory, Slot, empty_table};
 use std::alloc::Global;
 use std::marker::Model;
 use std::mem;
@@ -32,9 +32,12 @@ pub const SEATS: u8 = 16;
 /// How many bios of a session may be submitted and not yet reaped: each seat has as many slots.
 pub const BIOS_PER_SEAT: u16 = 32;
 
-/// What is sent to the device as one: bios of one session and operation, each beginning where the one before ends.
+/// What is sent to the device as one, one word wide: its fields stand in a box of their own. In contracts it is its fields.
+pub type Request = Boxed<RequestFields>;
+
+/// What a request has: bios of one session and operation, each beginning where the one before ends.
 #[derive(Drop)]
-pub struct Request {
+pub struct RequestFields {
     /// The session that submitted its bios.
     pub session: u64,
     /// What all of its bios ask for.
@@ -46,8 +49,8 @@ pub struct Request {
 /// The slots of requests and of bios.
 #[derive(Drop)]
 pub struct RequestPool {
-    requests: Vec<Option<Boxed<Request>>>,
-    bios: Vec<Option<Boxed<Bio>>>,
+    requests: Vec<Option<Request>>,
+    bios: Vec<Option<Bio>>,
     // Each request below this slot is taken.
     lowest_request: usize,
     // Of each seat: so many of its first bios are taken.
@@ -78,7 +81,7 @@ impl RequestPool {
     }
 
     /// The request in a slot, if there is one.
-    pub fn request(&self, slot: Slot) -> Option<&Request>
+    pub fn request(&self, slot: Slot) -> Option<&RequestFields>
         ensures { option_copied result ≡ slice_index_or self.now.requests slot None }
     {
         match self.requests.get(usize::from(slot)) {
@@ -89,7 +92,7 @@ impl RequestPool {
     }
 
     /// The bio in a slot, if there is one.
-    pub fn bio(&self, slot: Slot) -> Option<&Bio>
+    pub fn bio(&self, slot: Slot) -> Option<&BioFields>
         ensures { option_copied result ≡ slice_index_or self.now.bios slot None }
     {
         match self.bios.get(usize::from(slot)) {
@@ -127,11 +130,7 @@ impl RequestPool {
     }
 
     /// Puts a request, or none, in a slot and hands back what stood there.
-    pub fn exchange_request(
-        &mut self,
-        slot: Slot,
-        request: Option<Boxed<Request>>,
-    ) -> Option<Boxed<Request>>
+    pub fn exchange_request(&mut self, slot: Slot, request: Option<Request>) -> Option<Request>
         ensures new { self.new ≡ record self.old { requests = slice_set self.old.requests slot request } }
         ensures old { result ≡ slice_index_or self.old.requests slot request }
     {
@@ -147,7 +146,7 @@ impl RequestPool {
     }
 
     /// Puts a bio, or none, in a slot and hands back what stood there.
-    pub fn exchange_bio(&mut self, slot: Slot, bio: Option<Boxed<Bio>>) -> Option<Boxed<Bio>>
+    pub fn exchange_bio(&mut self, slot: Slot, bio: Option<Bio>) -> Option<Bio>
         ensures new { self.new ≡ record self.old { bios = slice_set self.old.bios slot bio } }
         ensures old { result ≡ slice_index_or self.old.bios slot bio }
     {

@@ -1,5 +1,6 @@
 // Bios, and what becomes of them.
 use crate::Range;
+use boxed::Boxed;
 use bytes::Bytes;
 
 /// The number of a slot in a fixed table.
@@ -65,9 +66,12 @@ pub enum Effect {
     Fails(FailKind),
 }
 
-/// One request of a client: a serial, a range, the bytes of a store, and its result once it is completed.
+/// One request of a client, one word wide: its fields stand in a box of their own. In contracts it is its fields.
+pub type Bio = Boxed<BioFields>;
+
+/// What a bio has: a serial, a range, the bytes of a store, and its result once it is completed.
 #[derive(Debug, Drop)]
-pub struct Bio {
+pub struct BioFields {
     /// The serial of the step that submitted it.
     pub serial: u64,
     /// Its sectors, 1 to 64 of them.

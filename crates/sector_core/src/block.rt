@@ -1,16 +1,19 @@
 // The bytes of one sector.
-ghost use Rattle.std.specs.Prelude.{◌≡◌, length, replicate, List, ℕ};
+ghost use Rattle.std.specs.Prelude.{◌≡◌, length, replicate, IfOk, List, ℕ};
 
+use crate::OutOfMemory;
+use boxed::Boxed;
 use bytes::Bytes;
+use std::alloc::Global;
 use std::marker::Model;
 
 /// The size of a sector in bytes (block layer: a sector has 512 bytes, whatever the device).
 pub const SECTOR_BYTES: usize = 512;
 
-/// The 512 bytes of one sector, shared with the payload that they were cut from.
+/// The 512 bytes of one sector, one word wide: they are shared with the payload that they were cut from.
 #[derive(Debug, Drop)]
 pub struct Block {
-    bytes: Bytes,
+    bytes: Boxed<Bytes>,
 }
 
 impl Model for Block {
@@ -23,20 +26,27 @@ impl Model for Block {
 
 impl Block {
     /// The block that has these bytes.
-    pub fn new(bytes: Bytes) -> Block
+    ///
+    /// # Errors
+    ///
+    /// There is no memory for the word that it is held by.
+    pub fn new(alloc: Global, bytes: Bytes) -> Result<Block, OutOfMemory>
         requires { length bytes ≡ 512 }
-        ensures { result ≡ bytes }
+        ensures { IfOk result (λ block. block ≡ bytes) }
     {
-        Block { bytes }
+        let bytes = Boxed::new(alloc, bytes)?;
+        Ok(Block { bytes })
     }
 
-    /// The block of zeros. All such blocks share their bytes, so it takes no memory.
-    pub fn zeros() -> Block
-        ensures { result ≡ replicate 512 0 }
+    /// The block of zeros. All such blocks share their bytes.
+    ///
+    /// # Errors
+    ///
+    /// There is no memory for the word that it is held by.
+    pub fn zeros(alloc: Global) -> Result<Block, OutOfMemory>
+        ensures { IfOk result (λ block. block ≡ replicate 512 0) }
     {
-        Block {
-            bytes: Bytes::from_static(&[0; SECTOR_BYTES]),
-        }
+        Block::new(alloc, Bytes::from_static(&[0; SECTOR_BYTES]))
     }
 
     /// Its bytes, all 512.
@@ -44,6 +54,6 @@ impl Block {
         ensures bytes { result.now ≡ self.now }
         ensures size { length result.now ≡ 512 }
     {
-        self.bytes.as_slice()
+        self.bytes.get().as_slice()
     }
 }

@@ -6,7 +6,7 @@
 //! | `Config::check` | every number within its limits, or the first that is not, in a fixed order |
 //! | `Range::end` | the sector after the range |
 //! | `Block::new` | a block has exactly 512 bytes |
-//! | `Block::zeros` | 512 zeros, which take no memory |
+//! | `Block::zeros` | 512 zeros |
 
 mod bio;
 mod block;
@@ -16,7 +16,7 @@ mod memory;
 mod range;
 mod table;
 
-pub use bio::{Bio, BioResult, Effect, Entity, FailKind, Op, Outcome, Slot};
+pub use bio::{Bio, BioFields, BioResult, Effect, Entity, FailKind, Op, Outcome, Slot};
 pub use block::{Block, SECTOR_BYTES};
 pub use class::Class;
 pub use config::{Config, ConfigDraft, ConfigFault, Scheduler};

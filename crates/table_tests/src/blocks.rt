@@ -1,16 +1,15 @@
 // What no clause says: that a block can be added while memory is left. A block is told by its letter.
-use boxed::Boxed;
 use bytes::Bytes;
 use overlay::Overlay;
-use sector_core::Block;
+use sector_core::{Block, OutOfMemory};
 use std::alloc::Global;
 use std::test::Fail;
 
-fn storing(letter: u8) -> Block {
+fn storing(alloc: Global, letter: u8) -> Result<Block, OutOfMemory> {
     if letter == b'A' {
-        Block::new(Bytes::from_static(&[65; 512]))
+        Block::new(alloc, Bytes::from_static(&[65; 512]))
     } else {
-        Block::new(Bytes::from_static(&[66; 512]))
+        Block::new(alloc, Bytes::from_static(&[66; 512]))
     }
 }
 
@@ -39,11 +38,11 @@ fn put(
     letter: Option<u8>,
 ) -> Result<Option<u8>, Fail> {
     let block = match letter {
-        Some(letter) => Some(Boxed::new(alloc, storing(letter))?),
+        Some(letter) => Some(storing(alloc, letter)?),
         None => None,
     };
     match overlay.exchange(sector, block) {
-        Ok(Some(old)) => Ok(Some(letter_of(old.get()))),
+        Ok(Some(old)) => Ok(Some(letter_of(&old))),
         Ok(None) => Ok(None),
         Err(_) => Err(Fail::from("memory for a block")),
     }

@@ -5,8 +5,8 @@ use boxed::Boxed;
 use bytes::Bytes;
 use group_tree::GroupTree;
 use process_queue::{Link, ProcessQueue};
-use request_pool::{Request, RequestPool};
-use sector_core::{Bio, Op, Range, Slot};
+use request_pool::{RequestFields, RequestPool};
+use sector_core::{BioFields, Op, Range, Slot};
 use std::alloc::Global;
 use std::test::Fail;
 
@@ -68,18 +68,18 @@ fn start_of(slot: Slot) -> Option<u64> {
     }
 }
 
-fn request(slot: Slot) -> Request {
+fn request(slot: Slot) -> RequestFields {
     let mut bios = ArrayVec::new();
     let _ = bios.try_push(slot);
-    Request {
+    RequestFields {
         session: 1,
         op: Op::Fetch,
         bios,
     }
 }
 
-fn bio(start: u64) -> Bio {
-    Bio {
+fn bio(start: u64) -> BioFields {
+    BioFields {
         serial: 1,
         range: Range { start, count: 1 },
         payload: Bytes::new(),

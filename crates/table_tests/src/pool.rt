@@ -3,8 +3,8 @@
 use arrayvec::ArrayVec;
 use boxed::Boxed;
 use bytes::Bytes;
-use request_pool::{Request, RequestPool};
-use sector_core::{Bio, Op, Range, Slot};
+use request_pool::{Request, RequestFields, RequestPool};
+use sector_core::{Bio, BioFields, Op, Range, Slot};
 use std::alloc::Global;
 use std::process::Abort;
 use std::test::Fail;
@@ -28,8 +28,8 @@ enum Told {
     NoSuchSeat,
 }
 
-fn request_of(alloc: Global, session: u64) -> Result<Boxed<Request>, Fail> {
-    let request = Request {
+fn request_of(alloc: Global, session: u64) -> Result<Request, Fail> {
+    let request = RequestFields {
         session,
         op: Op::Fetch,
         bios: ArrayVec::new(),
@@ -37,8 +37,8 @@ fn request_of(alloc: Global, session: u64) -> Result<Boxed<Request>, Fail> {
     Ok(Boxed::new(alloc, request)?)
 }
 
-fn fetch(alloc: Global, serial: u64) -> Result<Boxed<Bio>, Fail> {
-    let bio = Bio {
+fn fetch(alloc: Global, serial: u64) -> Result<Bio, Fail> {
+    let bio = BioFields {
         serial,
         range: Range { start: 0, count: 1 },
         payload: Bytes::new(),
@@ -47,28 +47,28 @@ fn fetch(alloc: Global, serial: u64) -> Result<Boxed<Bio>, Fail> {
     Ok(Boxed::new(alloc, bio)?)
 }
 
-fn session_of(request: Option<&Request>) -> Option<u64> {
+fn session_of(request: Option<&RequestFields>) -> Option<u64> {
     match request {
         Some(request) => Some(request.session),
         None => None,
     }
 }
 
-fn serial_of(bio: Option<&Bio>) -> Option<u64> {
+fn serial_of(bio: Option<&BioFields>) -> Option<u64> {
     match bio {
         Some(bio) => Some(bio.serial),
         None => None,
     }
 }
 
-fn session_in(request: &Option<Boxed<Request>>) -> Option<u64> {
+fn session_in(request: &Option<Request>) -> Option<u64> {
     match request {
         Some(boxed) => Some(boxed.get().session),
         None => None,
     }
 }
 
-fn serial_in(bio: &Option<Boxed<Bio>>) -> Option<u64> {
+fn serial_in(bio: &Option<Bio>) -> Option<u64> {
     match bio {
         Some(boxed) => Some(boxed.get().serial),
         None => None,

@@ -4,8 +4,8 @@ use arrayvec::ArrayVec;
 use boxed::Boxed;
 use bytes::Bytes;
 use process_queue::{Link, Place, ProcessQueue};
-use request_pool::{Request, RequestPool};
-use sector_core::{Bio, Op, Range, Slot};
+use request_pool::{RequestFields, RequestPool};
+use sector_core::{BioFields, Op, Range, Slot};
 use std::alloc::Global;
 use std::process::Abort;
 use std::test::Fail;
@@ -46,8 +46,8 @@ struct Tables {
     queues: ProcessQueue,
 }
 
-fn bio(range: Range) -> Bio {
-    Bio {
+fn bio(range: Range) -> BioFields {
+    BioFields {
         serial: 1,
         range,
         payload: Bytes::new(),
@@ -79,7 +79,7 @@ fn put(
             count: all.each,
         };
     }
-    let request = Request {
+    let request = RequestFields {
         session: 1,
         op: Op::Fetch,
         bios,

@@ -139,15 +139,16 @@ fn texts(rt: HostRuntime) -> Result<(), Fail> {
 }
 
 // A block of letters A has them.
-fn is_kept() -> bool {
-    let block = Block::new(Bytes::from_static(&[65; 512]));
-    block.as_slice() == [65; SECTOR_BYTES].as_slice()
+fn is_kept(alloc: Global) -> Result<bool, Fail> {
+    let block = Block::new(alloc, Bytes::from_static(&[65; 512]))?;
+    Ok(block.as_slice() == [65; SECTOR_BYTES].as_slice())
 }
 
 #[test]
-fn range_and_block(rt: HostRuntime) {
+fn range_and_block(rt: HostRuntime) -> Result<(), Fail> {
     let range = Range { start: 4, count: 2 };
-    assert_eq!(rt; (range.end(), is_kept()), (6, true));
+    assert_eq!(rt; (range.end(), is_kept(rt.alloc())?), (6, true));
+    Ok(())
 }
 
 // A new table of three places, and the first free one where none is taken, where all but place 1 are, and where all are.

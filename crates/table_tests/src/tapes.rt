@@ -1,7 +1,6 @@
 // The exchanges in examples: the rules are proved, and these say what they mean, and that a call succeeds while memory is left.
 ghost use Rattle.std.specs.Prelude.{◌≡◌, ◌∷◌, [], IfOk, OnOk, false};
 
-use boxed::Boxed;
 use bytes::Bytes;
 use change_record::{Change, Making, Parts, Tape};
 use plain::Seat;
@@ -32,9 +31,8 @@ fn turned(parts: &mut Parts, change: &mut Change) -> Result<(), Fail> {
 }
 
 // A block of letters A.
-fn letters(alloc: Global) -> Result<Boxed<Block>, Fail> {
-    let block = Block::new(Bytes::from_static(&[65; 512]));
-    Ok(Boxed::new(alloc, block)?)
+fn letters(alloc: Global) -> Result<Block, Fail> {
+    Ok(Block::new(alloc, Bytes::from_static(&[65; 512]))?)
 }
 
 // It comes to sector 5.

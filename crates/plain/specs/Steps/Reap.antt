@@ -1,7 +1,7 @@
 -- Reap: the first completed bio of the session is handed out (our profile).
 use Rattle.std.specs.Prelude.{ℕ, ◌+◌, ◌-◌, ◌==◌, Bool, List, [], ◌∷◌, ◌++◌, unwrap_or}
 use Rattle.std.specs.Option.{option_map}
-use Rattle.sector_core.specs.declared.bio.Bio.{Bio}
+use Rattle.sector_core.specs.declared.bio.BioFields.{BioFields as Bio}
 use Rattle.sector_core.specs.declared.bio.BioResult.TheVariants.{Written}
 use Rattle.plain.specs.Machine.{Plain, put}
 use Rattle.plain.specs.declared.answer.Code.TheVariants.{NothingOwed}

@@ -5,7 +5,7 @@ use Rattle.plain.specs.Lists.{is_empty}
 use Rattle.sector_core.specs.declared.range.Range.{Range}
 use Rattle.sector_core.specs.declared.bio.Op.{Op}
 use Rattle.sector_core.specs.declared.bio.Op.TheVariants.{Fetch, Store, Discard}
-use Rattle.sector_core.specs.declared.bio.Bio.{Bio}
+use Rattle.sector_core.specs.declared.bio.BioFields.{BioFields as Bio}
 use Rattle.plain.specs.Machine.{WholeRequest, Plain, put}
 use Rattle.plain.specs.Merge.{merge_of, joins_at}
 use Rattle.plain.specs.Opening.{Limits}

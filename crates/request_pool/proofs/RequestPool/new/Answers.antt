@@ -1,7 +1,7 @@
 use Rattle.std.proofs.Common.{◌≡◌, ℕ, zero, suc, ◌/◌, ◌%◌, ◌<◌, ◌≤◌, Option, None, length, replicate, get_or, refl, ap, ◌∙◌, sym, subst, arith}
 use Rattle.std.proofs.lemmas.List.{length-replicate}
-use Rattle.sector_core.specs.declared.bio.Bio.{Bio}
-use Rattle.request_pool.specs.declared.Request.{Request}
+use Rattle.sector_core.specs.declared.bio.BioFields.{BioFields as Bio}
+use Rattle.request_pool.specs.declared.RequestFields.{RequestFields as Request}
 use Rattle.request_pool.proofs.RequestPool.new.Goals as goal
 
 -- a list of zeros has nothing else at any place, nor behind its end
