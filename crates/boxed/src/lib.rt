@@ -4,7 +4,7 @@
 //! | call | rule that it meets |
 //! |---|---|
 //! | [`Boxed::new`] | a box of its own for a value, if there is memory for one |
-//! | [`Boxed::get`] | the value in it |
+//! | `*boxed`, `boxed.field` | the value in it |
 //!
 //! In contracts a box is the value in it: who reads them need not know where the value stands.
 
@@ -12,6 +12,7 @@ ghost use Rattle.std.specs.Prelude.{◌≡◌, IfOk};
 
 use std::alloc::{AllocError, Global};
 use std::marker::Model;
+use std::ops::Deref;
 
 /// A value in a box of its own.
 #[derive(Debug, Drop)]
@@ -25,11 +26,13 @@ impl<T> Model for Boxed<T> {
     ghost view = { λ b. b.inner.value };
 }
 
-impl<T> Boxed<T> {
-    /// The value that is in the box.
-    pub fn get(&self) -> &T
-        ensures { result.now ≡ self.now }
-    {
+/// The value that is in the box.
+impl<T> Deref for Boxed<T> {
+    type Target = T;
+
+    ghost deref_gives = { λ boxed value. value ≡ boxed };
+
+    fn deref(&self) -> &T {
         &*self.inner
     }
 }

@@ -160,7 +160,7 @@ fn insert(
     ensures left { tape.old.room ≤ tape.new.room + 4 }
     ensures spare { tape.new.spare ≡ tape.old.spare }
 {
-    let serial = bio.get().serial;
+    let serial = bio.serial;
     let entry = Seat {
         unreaped: entry.unreaped + 1,
         ..entry

@@ -6,7 +6,7 @@ ghost use Rattle.plain.specs.Merge.{first_merge, has_room, joins, joins_at, may_
 
 use crate::ProcessQueue;
 use plain::Shape;
-use request_pool::{RequestFields, RequestPool};
+use request_pool::{Request, RequestPool};
 use sector_core::{Op, Range, Slot};
 
 // How many sectors a request has at most.
@@ -33,7 +33,7 @@ fn sectors(range: Range) -> u64
 }
 
 // What a merge asks of a request, read from the last of its bios to the first.
-pub(crate) fn shape_of(pool: &RequestPool, request: &RequestFields) -> Shape
+pub(crate) fn shape_of(pool: &RequestPool, request: &Request) -> Shape
     ensures { result ≡ shape_of request.now.session request.now.op (bios_at pool.now.bios request.now.bios.items) }
 {
     let slots = request.bios.as_slice();

@@ -20,8 +20,8 @@ abbrev pub AreTakenOfSeats : {A : Type 0} → List (Option A) → List ℕ → T
 AreTakenOfSeats table bounds = (k : ℕ) → k % 32 < slice_index_or bounds (k / 32) 0 → IsSome (slice_index_or table k None)
 
 -- a pool: numbers of slots fit a `Slot`, each seat of 16 has 32 slots for bios, and no slot below a bound is free
-pub record IsPool (requests : List (Option Request)) (bios : List (Option Bio)) (lowest_request : ℕ) (lowest_bios : List ℕ) : Type 0 where
+pub record IsPool (requests : List (Option Request)) (bios : List (Option Bio)) (request_bound : ℕ) (bio_bounds : List ℕ) : Type 0 where
   pub numbered : length requests ≤ 65535
   pub seated : length bios ≡ 512
-  pub requests_taken : AreTaken requests 0 lowest_request
-  pub bios_taken : AreTakenOfSeats bios lowest_bios
+  pub requests_taken : AreTaken requests 0 request_bound
+  pub bios_taken : AreTakenOfSeats bios bio_bounds

@@ -21,7 +21,7 @@ ghost use Rattle.request_pool.specs.Slots.{AreTaken, seat_slots};
 
 use arrayvec::ArrayVec;
 use boxed::Boxed;
-use sector_core::{Bio, BioFields, Op, OutOfMemory, Slot, empty_table};
+use sector_core::{Bio, Op, OutOfMemory, Slot, empty_table};
 use std::alloc::Global;
 use std::marker::Model;
 use std::mem;
@@ -52,9 +52,9 @@ pub struct RequestPool {
     requests: Vec<Option<Request>>,
     bios: Vec<Option<Bio>>,
     // Each request below this slot is taken.
-    lowest_request: usize,
+    request_bound: usize,
     // Of each seat: so many of its first bios are taken.
-    lowest_bios: [u8; 16],
+    bio_bounds: [u8; 16],
 }
 
 impl Model for RequestPool {
@@ -64,7 +64,7 @@ impl Model for RequestPool {
 
     ghost view = { λ p. record { requests = p.requests.items; bios = p.bios.items } };
 
-    ghost invariant = { λ p. IsPool p.requests.items p.bios.items p.lowest_request p.lowest_bios };
+    ghost invariant = { λ p. IsPool p.requests.items p.bios.items p.request_bound p.bio_bounds };
 }
 
 impl RequestPool {
@@ -75,29 +75,27 @@ impl RequestPool {
         Ok(RequestPool {
             requests: empty_table(alloc, usize::from(requests))?,
             bios: empty_table(alloc, 512)?,
-            lowest_request: 0,
-            lowest_bios: [0; 16],
+            request_bound: 0,
+            bio_bounds: [0; 16],
         })
     }
 
     /// The request in a slot, if there is one.
-    pub fn request(&self, slot: Slot) -> Option<&RequestFields>
+    pub fn request(&self, slot: Slot) -> Option<&Request>
         ensures { option_copied result ≡ slice_index_or self.now.requests slot None }
     {
         match self.requests.get(usize::from(slot)) {
-            Some(Some(boxed)) => Some(boxed.get()),
-            Some(None) => None,
+            Some(place) => place.as_ref(),
             None => None,
         }
     }
 
     /// The bio in a slot, if there is one.
-    pub fn bio(&self, slot: Slot) -> Option<&BioFields>
+    pub fn bio(&self, slot: Slot) -> Option<&Bio>
         ensures { option_copied result ≡ slice_index_or self.now.bios slot None }
     {
         match self.bios.get(usize::from(slot)) {
-            Some(Some(boxed)) => Some(boxed.get()),
-            Some(None) => None,
+            Some(place) => place.as_ref(),
             None => None,
         }
     }
@@ -107,7 +105,7 @@ impl RequestPool {
         ensures { MatchOption result (AllTaken self.now.requests) (λ slot. IsFirstFree self.now.requests slot) }
     {
         let end = self.requests.len();
-        match first_free_in(self.requests.as_slice(), self.lowest_request, end) {
+        match first_free_in(self.requests.as_slice(), self.request_bound, end) {
             Some(slot) => Some(slot as u16),
             None => None,
         }
@@ -122,7 +120,7 @@ impl RequestPool {
     {
         let start = usize::from(seat) * 32;
         let end = start + 32;
-        let from = start + usize::from(self.lowest_bios[usize::from(seat)]);
+        let from = start + usize::from(self.bio_bounds[usize::from(seat)]);
         match first_free_in(self.bios.as_slice(), from, end) {
             Some(place) => Some(place as u16),
             None => None,
@@ -138,7 +136,7 @@ impl RequestPool {
         let taken = request.is_some();
         match self.requests.get_mut(slot) {
             Some(place) => {
-                self.lowest_request = bound_after(self.lowest_request, slot, taken);
+                self.request_bound = bound_after(self.request_bound, slot, taken);
                 mem::replace(place, request)
             }
             None => request,
@@ -154,7 +152,7 @@ impl RequestPool {
         let taken = bio.is_some();
         match self.bios.get_mut(slot) {
             Some(place) => {
-                let lowest = &mut self.lowest_bios[slot / 32];
+                let lowest = &mut self.bio_bounds[slot / 32];
                 *lowest = bound_after(usize::from(*lowest), slot % 32, taken) as u8;
                 mem::replace(place, bio)
             }

@@ -10,7 +10,7 @@ use std::marker::Model;
 /// The size of a sector in bytes (block layer: a sector has 512 bytes, whatever the device).
 pub const SECTOR_BYTES: usize = 512;
 
-/// The 512 bytes of one sector, one word wide: they are shared with the payload that they were cut from.
+/// The 512 bytes of one sector, in a box: it is one word wide. They are shared with the payload that they were cut from.
 #[derive(Debug, Drop)]
 pub struct Block {
     bytes: Boxed<Bytes>,
@@ -29,7 +29,7 @@ impl Block {
     ///
     /// # Errors
     ///
-    /// There is no memory for the word that it is held by.
+    /// There is no memory for the box.
     pub fn new(alloc: Global, bytes: Bytes) -> Result<Block, OutOfMemory>
         requires { length bytes ≡ 512 }
         ensures { IfOk result (λ block. block ≡ bytes) }
@@ -42,7 +42,7 @@ impl Block {
     ///
     /// # Errors
     ///
-    /// There is no memory for the word that it is held by.
+    /// There is no memory for the box.
     pub fn zeros(alloc: Global) -> Result<Block, OutOfMemory>
         ensures { IfOk result (λ block. block ≡ replicate 512 0) }
     {
@@ -54,6 +54,6 @@ impl Block {
         ensures bytes { result.now ≡ self.now }
         ensures size { length result.now ≡ 512 }
     {
-        self.bytes.get().as_slice()
+        self.bytes.as_slice()
     }
 }

@@ -57,7 +57,7 @@ fn stores(change: &Change) -> Option<bool> {
         Change::Sector {
             sector: 5,
             block: Some(block),
-        } => Some(block.get().as_slice() == [65; 512].as_slice()),
+        } => Some(block.as_slice() == [65; 512].as_slice()),
         Change::Sector {
             sector: 5,
             block: None,

@@ -23,7 +23,7 @@ pub returns-in-None-clause-slot : goal.returns-in-None-clause-slot
 returns-in-None-clause-slot c k within =
     let start : ℕ = c.from-start.result * 32 in
     let bios : List (Option Bio) = c.self.inside.bios.items in
-    let bounds : List ℕ = c.self.inside.lowest_bios in
+    let bounds : List ℕ = c.self.inside.bio_bounds in
     let at : start ≡ 32 * c.args.seat = omega (arith, c.from-start.ensures) in
     let index : c.from.result ≡ c.args.seat = c.from.ensures in
     let bound : c.from-2.result ≡ slice_index_or bounds c.args.seat 0 = c.from-2.ensures ∙ ap (λ n. slice_index_or bounds n 0) index in
