@@ -42,8 +42,9 @@ pub(crate) fn shape_of(pool: &RequestPool, request: &Request) -> Shape
     let mut bios = 0;
     for i in (0..slots.len()).rev() {
         if let Some(bio) = pool.bio(slots[i]) {
-            start = bio.range.start;
-            size += sectors(bio.range);
+            let range = bio.range;
+            start = range.start;
+            size += sectors(range);
             bios += 1;
         }
     }
