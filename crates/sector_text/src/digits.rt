@@ -3,6 +3,7 @@ ghost use Rattle.std.specs.Prelude.{◌≡◌, ◌++◌, ◌<◌, OnOk, false, f
 ghost use Rattle.std.specs.Fmt.{digit_glyph};
 ghost use Rattle.sector_text.specs.Hex.{hex_byte};
 
+use hex::encode_to_slice;
 use std::alloc::AllocError;
 
 // The digit of a number below 16, in lower case.
@@ -21,12 +22,36 @@ pub fn put_byte(out: &mut Vec<u8>, byte: u8) -> Result<(), AllocError>
     out.extend_from_slice(pair.as_slice())
 }
 
-/// Appends the two digits of each byte.
-pub fn put_bytes(out: &mut Vec<u8>, bytes: &[u8]) -> Result<(), AllocError>
+// Appends the two digits of each byte, a byte at a time.
+fn put_each(out: &mut Vec<u8>, bytes: &[u8]) -> Result<(), AllocError>
     ensures { OnOk result (out.new.items ≡ out.old.items ++ flat_map hex_byte bytes.now) }
 {
     for byte in bytes {
         put_byte(out, *byte)?;
     }
     Ok(())
+}
+
+// Appends the 64 digits of 32 bytes at once.
+fn put_block(out: &mut Vec<u8>, block: &[u8; 32]) -> Result<(), AllocError>
+    ensures { OnOk result (out.new.items ≡ out.old.items ++ flat_map hex_byte block.now) }
+{
+    let mut digits = [0; 64];
+    match encode_to_slice(block.as_slice(), &mut digits) {
+        Ok(()) => out.extend_from_slice(digits.as_slice()),
+        // It refuses only another number of digits than two for each byte.
+        Err(_) => unreachable!(),
+    }
+}
+
+/// Appends the two digits of each byte. A sector is 16 blocks of 32 bytes, and what is no whole block goes byte by byte.
+pub fn put_bytes(out: &mut Vec<u8>, bytes: &[u8]) -> Result<(), AllocError>
+    ensures { OnOk result (out.new.items ≡ out.old.items ++ flat_map hex_byte bytes.now) }
+{
+    let mut rest = bytes;
+    while let Some((block, others)) = rest.split_first_chunk::<32>() {
+        put_block(out, block)?;
+        rest = others;
+    }
+    put_each(out, rest)
 }

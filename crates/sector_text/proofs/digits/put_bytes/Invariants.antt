@@ -1,6 +1,9 @@
-use Rattle.std.proofs.Common.{◌≡◌, ◌++◌, take, flat_map}
+use Rattle.std.proofs.Common.{◌≡◌, ◌++◌, flat_map, length}
 use Rattle.sector_text.specs.Hex.{hex_byte}
 use Rattle.sector_text.proofs.digits.put_bytes.Given as goal
 
-abbrev pub invariant-loop-byte : goal.invariant-loop-byte
-invariant-loop-byte l = l.out.items ≡ l.fn.out.items ++ flat_map hex_byte (take l.byte-index l.bytes)
+abbrev pub invariant-loop-block : goal.invariant-loop-block
+invariant-loop-block l = l.out.items ++ flat_map hex_byte l.rest ≡ l.fn.out.items ++ flat_map hex_byte l.bytes
+
+abbrev pub decreases-loop-block : goal.decreases-loop-block
+decreases-loop-block l = length l.rest
