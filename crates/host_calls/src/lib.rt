@@ -54,6 +54,7 @@ mod operator;
 mod ring;
 mod ring_text;
 mod seat;
+mod words;
 
 pub use answer::put_answer;
 pub use client::ClientCall;
