@@ -32,7 +32,7 @@ fn put_each(out: &mut Vec<u8>, bytes: &[u8]) -> Result<(), AllocError>
     Ok(())
 }
 
-// Appends the 64 digits of 32 bytes at once.
+// Appends the 64 digits of 32 bytes, so that room is asked for once and not at each byte.
 fn put_block(out: &mut Vec<u8>, block: &[u8; 32]) -> Result<(), AllocError>
     ensures { OnOk result (out.new.items ≡ out.old.items ++ flat_map hex_byte block.now) }
 {
@@ -44,7 +44,8 @@ fn put_block(out: &mut Vec<u8>, block: &[u8; 32]) -> Result<(), AllocError>
     }
 }
 
-/// Appends the two digits of each byte. A sector is 16 blocks of 32 bytes, and what is no whole block goes byte by byte.
+/// Appends the two digits of each byte, 32 bytes at a time. A sector is 16 such blocks, and bytes past the last block go
+/// one by one.
 pub fn put_bytes(out: &mut Vec<u8>, bytes: &[u8]) -> Result<(), AllocError>
     ensures { OnOk result (out.new.items ≡ out.old.items ++ flat_map hex_byte bytes.now) }
 {
