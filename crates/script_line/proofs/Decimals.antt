@@ -1,13 +1,13 @@
 -- What words spell numbers.
-use Rattle.std.proofs.Common.{◌≡◌, ◌≢◌, ℕ, ◌+◌, ◌<◌, ◌^◌, ◌%◌, List, [], ◌∷◌, ◌++◌, refl, sym, ap, subst, ◌∙◌, arith, ◌⊎◌, inl, inr, suc, zero, lit<}
-use Rattle.std.specs.Prelude.{Result, Ok, Err}
+use Rattle.std.proofs.Common.{◌≡◌, ◌≢◌, ℕ, ◌+◌, ◌*◌, ◌<◌, ◌≤◌, ◌^◌, ◌%◌, List, [], ◌∷◌, ◌++◌, refl, sym, ap, subst, ◌∙◌, arith, ◌⊎◌, inl, inr, suc, zero, lit<, length, get_or, take}
+use Rattle.std.specs.Char.{digit_value}
+use Rattle.std.specs.Int.{IsInRange}
 use Rattle.std.specs.Fmt.{decimal}
-use Rattle.std.specs.Str.{IsUtf8}
-use Rattle.std.specs.Str.Parse.{AllDigits, digits_value, ParsesUnsigned}
-use Rattle.std.proofs.lemmas.Fmt.{decimal_nonempty, first_decimal, decimal_digit, decimal_by_steps, IsAscii-decimal, decimal-digits_value}
-use Rattle.std.proofs.lemmas.Str.{IsUtf8-from_ascii}
-use Rattle.std.proofs.lemmas.Str.Parse.{IsNumeralModel, numerals_by_value, tells_digits, parse_plain}
-use Rattle.std.proofs.lemmas.Result.{OkIff-at_ok}
+use Rattle.std.specs.Str.Parse.{AllDigits, digits_value}
+use Rattle.std.proofs.lemmas.Fmt.{decimal_nonempty, first_decimal, decimal_digit, decimal_by_steps, decimal-digits_value, digits_decimal, digits_value-decimal}
+use Rattle.std.proofs.lemmas.Int.Digits.{digits_more, digits_value_more}
+use Rattle.std.proofs.lemmas.Str.{digit_value_digit}
+use Rattle.std.proofs.lemmas.Str.Parse.{IsNumeralModel, numerals_by_value, tells_digits, digit_at, digits_value-take-le}
 use Rattle.script_line.specs.Words.{IsPlain, HasNoSpace}
 
 own : IsNumeralModel (AllDigits 10) (digits_value 10)
@@ -29,15 +29,33 @@ plain_decimal n fits (inr more) =
 pub IsPlain-decimal : (n : ℕ) (word : List ℕ) → n < 2 ^ 64 → word ≡ decimal n → IsPlain word
 IsPlain-decimal n word fits e = subst IsPlain (sym e) (plain_decimal n fits (zero_or_more n))
 
-pub IsUtf8-decimal : (n : ℕ) (word : List ℕ) → n < 2 ^ 64 → word ≡ decimal n → IsUtf8 word
-IsUtf8-decimal n word fits e = subst IsUtf8 (sym e) (IsUtf8-from_ascii (decimal n) (IsAscii-decimal n fits))
+-- the number so far, with one digit more
+pub digits_so_far : (word : List ℕ) (i n m : ℕ) → i < length word → AllDigits 10 (take i word) → n ≡ digits_value 10 (take i word)
+    → digit_value (get_or word i 0) < 10 → m ≡ n * 10 + digit_value (get_or word i 0)
+    → AllDigits 10 (take (i + 1) word) × (m ≡ digits_value 10 (take (i + 1) word))
+digits_so_far word i n m within digits value digit more = (
+  digits_more 10 word i within digits digit,
+  omega (arith, digits_value_more 10 word i within),
+)
 
--- a plain word that parses spells what it parses to
-pub parsed : (word : List ℕ) (n : ℕ) {E : Type 0} (r : Result ℕ E) → ParsesUnsigned 64 10 word r → IsPlain word → r ≡ Ok n → word ≡ decimal n
-parsed word n r h plain e =
-    let told = OkIff-at_ok r _ _ n (parse_plain own 64 word r h plain.1) e in
-    let back = decimal-digits_value own word told.0.0 plain.0 plain.2 told.0.2 in
-    sym back ∙ ap decimal (sym told.1)
+-- where the next byte is no digit, or is one by which the number does not fit, the word spells no number
+pub no_decimal : (word : List ℕ) (i n : ℕ) → i < length word → n ≡ digits_value 10 (take i word)
+    → (((digit_value (get_or word i 0) < 10) × (n * 10 + digit_value (get_or word i 0) < 2 ^ 64)) → ⊥)
+    → (m : ℕ) → m < 2 ^ 64 → word ≡ decimal m → ⊥
+no_decimal word i n within value none m fits e =
+    let digits : AllDigits 10 word = subst (AllDigits 10) (sym e) (digits_decimal own m fits) in
+    let range : IsInRange 48 57 (get_or word i 0) = digit_at word i digits within in
+    let digit = digit_value_digit (get_or word i 0) range in
+    let whole : digits_value 10 word ≡ m = ap (digits_value 10) e ∙ digits_value-decimal own m fits in
+    none (
+      omega (arith, digit, range.0, range.1),
+      omega (arith, digits_value-take-le 10 word (i + 1) (omega arith), digits_value_more 10 word i within),
+    )
+
+-- a plain word of digits spells their value
+pub whole_decimal : (word : List ℕ) (n : ℕ) → IsPlain word → AllDigits 10 word → n ≡ digits_value 10 word → n < 2 ^ 64 → word ≡ decimal n
+whole_decimal word n plain digits value fits =
+    sym (decimal-digits_value own word digits plain.0 plain.2 (omega arith)) ∙ ap decimal (sym value)
 
 pub HasNoSpace-push : (c : ℕ) (cs : List ℕ) → HasNoSpace cs → c ≢ 32 → HasNoSpace (cs ++ (c ∷ []))
 HasNoSpace-push c [] h k = (k, tt)
@@ -48,6 +66,3 @@ HasNoSpace-decimal n fits = decimal_by_steps (λ _ ds. HasNoSpace ds)
     (λ m small. (omega arith, tt))
     (λ m ds big h. HasNoSpace-push (48 + m % 10) ds h (omega arith))
     n fits
-
-pub not_err : {E : Type 0} {n : ℕ} {e : E} {r : Result ℕ E} → r ≡ Ok n → r ≡ Err e → ⊥
-not_err p q = cc
