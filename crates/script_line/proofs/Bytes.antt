@@ -1,10 +1,13 @@
 -- Bytes taken and appended one after another, and lines one after another.
-use Rattle.std.proofs.Common.{◌≡◌, ℕ, List, [], ◌∷◌, ◌++◌, refl, sym, ap, subst, ◌∙◌, append_assoc, append-nil, drop, drop-cons, add-one, get_or, length, ◌<◌, ◌+◌}
-use Rattle.std.specs.Prelude.{None, Some, Option, MatchOption, IfNone}
+use Rattle.std.proofs.Common.{◌≡◌, ℕ, List, [], ◌∷◌, ◌++◌, refl, sym, ap, subst, ◌∙◌, append_assoc, append-nil, take, drop, drop-cons, take-append-drop, add-one, get_or, length, ◌<◌, ◌≤◌, ◌+◌, zero, suc, arith, true, false}
+use Rattle.std.proofs.Math.Nat.{lt_of_not-le}
+use Rattle.std.proofs.lemmas.Bool.{false≢true}
+use Rattle.std.specs.Prelude.{None, Some, Option, MatchOption, IfNone, Result, Ok, Err, OnOk}
+use Rattle.std.specs.Result.{is_ok, is_err}
 use Rattle.std.specs.List.{AllByRecursion}
 use Rattle.std.specs.Io.KnownBytes.{Appends, Consumes, Keeps}
 use Rattle.script_line.specs.declared.line.Line.{Line}
-use Rattle.script_line.specs.Script.{Known, Step, Runs, ended}
+use Rattle.script_line.specs.Script.{Known, HasNoEnd, Step, Runs, ended}
 
 pub Appends-none : (w : Known) → Appends w w []
 Appends-none None = tt
@@ -71,3 +74,40 @@ Match-weaker (Some x) N P P' Q n f h = h
 
 pub drop-front : (s : List ℕ) (i : ℕ) → i < length s → drop i s ≡ get_or s i 0 ∷ drop (i + 1) s
 drop-front s i h = drop-cons s i 0 h ∙ ap (λ k. get_or s i 0 ∷ drop k s) (sym (add-one i))
+
+-- a front in which no byte is 0A
+pub no_end_before : (s : List ℕ) (k : ℕ) → ((i : ℕ) → i < k → get_or s i 0 ≡ 10 → ⊥) → HasNoEnd (take k s)
+no_end_before s zero h = tt
+no_end_before [] (suc k) h = tt
+no_end_before (b ∷ bs) (suc k) h = (h 0 (omega arith), no_end_before bs k (λ i below. h (suc i) (omega arith)))
+
+-- a byte and what stands behind it
+pub cut_at : (s : List ℕ) (k : ℕ) → k < length s → get_or s k 0 ≡ 10 → s ≡ take k s ++ (10 ∷ drop (k + 1) s)
+cut_at s k within here =
+    sym (take-append-drop k s) ∙ ap (λ l. take k s ++ l) (drop-front s k within ∙ ap (λ b. b ∷ drop (k + 1) s) here)
+
+-- a line that is cut off is followed by a rest, which may be empty
+pub cut_rest : {X : Type 0} (now : X → List ℕ) (o : Option X) (whole front : List ℕ)
+    → MatchOption o (whole ≡ front) (λ x. whole ≡ front ++ (10 ∷ now x)) → (after : List ℕ) × (whole ≡ front ++ after)
+cut_rest now None whole front h = ([], h ∙ sym (append-nil front))
+cut_rest now (Some x) whole front h = (10 ∷ now x, h)
+
+-- what a call ensures where it succeeds, and what it means that it fails
+pub where_ok : {T E : Type 0} (r : Result T E) (P : Type 0) → is_err r ≡ false → OnOk r P → P
+where_ok (Ok x) P e h = h
+where_ok (Err x) P e h = absurd (cc)
+
+pub where_err : {T E : Type 0} (r : Result T E) (n m : ℕ) → is_err r ≡ true → (n ≤ m → is_ok r ≡ true) → m < n
+where_err (Ok x) n m e h = absurd (cc)
+where_err (Err x) n m e h = lt_of_not-le (λ few. false≢true (h few))
+
+-- what holds of each byte of two texts, one behind the other
+pub All-append : (P : ℕ → Type 0) (xs ys : List ℕ) → AllByRecursion P xs → AllByRecursion P ys → AllByRecursion P (xs ++ ys)
+All-append P [] ys h k = k
+All-append P (x ∷ xs) ys h k = (h.0, All-append P xs ys h.1 k)
+
+-- what holds of each byte of a text holds of those of a front
+pub All-front : (P : ℕ → Type 0) (n : ℕ) (xs : List ℕ) → AllByRecursion P xs → AllByRecursion P (take n xs)
+All-front P zero xs h = tt
+All-front P (suc n) [] h = tt
+All-front P (suc n) (x ∷ xs) h = (h.0, All-front P n xs h.1)

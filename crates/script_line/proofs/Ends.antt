@@ -1,13 +1,13 @@
 -- How a run goes on, and how it ends, over plain variables.
-use Rattle.std.proofs.Common.{◌≡◌, ℕ, ◌+◌, ◌<◌, ◌≤◌, List, [], ◌∷◌, ◌++◌, length, refl, sym, ap, subst, ◌∙◌, append_assoc, append-nil, length-append, arith, inl, inr}
+use Rattle.std.proofs.Common.{◌≡◌, ℕ, ◌+◌, ◌<◌, ◌≤◌, List, [], ◌∷◌, ◌++◌, length, refl, sym, ap, subst, ◌∙◌, append_assoc, append-nil, length-append, length-take, take, drop, take-append-drop, arith, inl, inr}
 use Rattle.std.specs.Io.KnownBytes.{Appends, Consumes, Keeps, IsAtEnd}
 use Rattle.script_line.specs.declared.line.Line.{Line}
-use Rattle.script_line.specs.Script.{Known, IsLine, IsSilent, IsBad, IsWhole, IsNext, IsBadNext, Step, MayHaveRun, ended, bad_text, EndsBy, IsEnd, too_many, too_long, no_line}
+use Rattle.script_line.specs.Script.{Known, HasNoEnd, IsLine, IsSilent, IsBad, IsWhole, IsNext, IsBadNext, Step, MayHaveRun, ended, bad_text, EndsBy, IsEnd, too_many, too_long, no_line}
 use Rattle.byte_writing.specs.Written.{IsCut}
 use Rattle.script_line.specs.Steps.{IsBadEnd, IsReadEnd, IsLineEnd, IsLastEnd, SoFar, OneMore}
 use Rattle.script_line.specs.declared.ending.ScriptEnd.{ScriptEnd}
 use Rattle.script_line.specs.declared.ending.ScriptEnd.TheVariants.{Done, BadLine, ReadFault, WriteFault, OutOfMemory}
-use Rattle.script_line.proofs.Bytes.{Appends-none, Appends-more, Consumes-none, Consumes-more, Consumes-kept, Appends-kept, All-push, ended-push, Runs-push}
+use Rattle.script_line.proofs.Bytes.{Appends-none, Appends-more, Consumes-none, Consumes-more, Consumes-kept, Appends-kept, All-push, All-append, All-front, ended-push, Runs-push}
 
 -- the line that has begun is the next, once it is whole
 pub is_next : {C : Type 0} (prints : C → Line → List ℕ → C → Type 0) (r0 r1 w0 w1 : Known) (c0 c1 : C) (count : ℕ) (line after : List ℕ)
@@ -116,22 +116,50 @@ stops_bad prints r0 r1 w0 w1 w2 c0 c1 c2 count begun waiting s bad same OutOfMem
     }
 
 -- one line too many
-pub stops_many : {C : Type 0} (prints : C → Line → List ℕ → C → Type 0) (r0 r1 w0 w1 w2 : Known) (c0 c1 : C) (count : ℕ) (begun : List ℕ) (byte : ℕ) (waiting : List ℕ)
-    → SoFar prints r0 r1 w0 w1 c0 c1 count begun (byte ∷ waiting) → count ≡ 1048576
+pub stops_many : {C : Type 0} (prints : C → Line → List ℕ → C → Type 0) (r0 r1 w0 w1 w2 : Known) (c0 c1 : C) (count : ℕ) (begun waiting : List ℕ)
+    → SoFar prints r0 r1 w0 w1 c0 c1 count begun waiting → 0 < length waiting → count ≡ 1048576
     → (why : ScriptEnd) → IsBadEnd w1 w2 (count + 1) why → IsEnd prints r0 r1 w0 w2 c0 c1 why
-stops_many prints r0 r1 w0 w1 w2 c0 c1 count begun byte waiting s full =
-    stops_bad prints r0 r1 w0 w1 w2 c0 c1 c1 count begun (byte ∷ waiting) s
-    (too_many (omega (arith, length-append begun (byte ∷ waiting))) (sym s.counted ∙ full)) refl
+stops_many prints r0 r1 w0 w1 w2 c0 c1 count begun waiting s some full =
+    stops_bad prints r0 r1 w0 w1 w2 c0 c1 c1 count begun waiting s
+    (too_many (omega (arith, length-append begun waiting)) (sym s.counted ∙ full)) refl
 
--- one byte too many
-pub stops_long : {C : Type 0} (prints : C → Line → List ℕ → C → Type 0) (r0 r1 w0 w1 w2 : Known) (c0 c1 : C) (count : ℕ) (begun : List ℕ) (byte : ℕ) (waiting : List ℕ)
-    → SoFar prints r0 r1 w0 w1 c0 c1 count begun (byte ∷ waiting) → (byte ≡ 10 → ⊥) → 256 ≤ length begun
+-- a byte too many, or more
+pub stops_long : {C : Type 0} (prints : C → Line → List ℕ → C → Type 0) (r0 r1 w0 w1 w2 : Known) (c0 c1 : C) (count : ℕ) (begun waiting front after : List ℕ)
+    → SoFar prints r0 r1 w0 w1 c0 c1 count begun waiting → waiting ≡ front ++ after → HasNoEnd front → 256 < length begun + length front
     → (why : ScriptEnd) → IsBadEnd w1 w2 (count + 1) why → IsEnd prints r0 r1 w0 w2 c0 c1 why
-stops_long prints r0 r1 w0 w1 w2 c0 c1 count begun byte waiting s other full =
-    let short = s.is_line.1 in
-    stops_bad prints r0 r1 w0 w1 w2 c0 c1 c1 count begun (byte ∷ waiting) s
-    (too_long (begun ++ (byte ∷ [])) waiting (sym (append_assoc begun (byte ∷ []) waiting))
-    (All-push (λ b. b ≡ 10 → ⊥) begun byte s.is_line.0 other) (omega (arith, length-append begun (byte ∷ [])))) refl
+stops_long prints r0 r1 w0 w1 w2 c0 c1 count begun waiting front after s whole other long =
+    let line : List ℕ = begun ++ front in
+    let size : 256 < length line = omega (arith, length-append begun front) in
+    let parts : begun ++ waiting ≡ take 257 line ++ (drop 257 line ++ after) =
+    ap (λ l. begun ++ l) whole ∙ sym (append_assoc begun front after)
+    ∙ ap (λ l. l ++ after) (sym (take-append-drop 257 line)) ∙ append_assoc (take 257 line) (drop 257 line) after in
+    stops_bad prints r0 r1 w0 w1 w2 c0 c1 c1 count begun waiting s
+    (too_long (take 257 line) (drop 257 line ++ after) parts
+    (All-front (λ b. b ≡ 10 → ⊥) 257 line (All-append (λ b. b ≡ 10 → ⊥) begun front s.is_line.0 other))
+    (omega (arith, length-take 257 line))) refl
+
+-- bytes of the line that has begun, which are in it then
+pub begun_more : {C : Type 0} (prints : C → Line → List ℕ → C → Type 0) (r0 r1 w0 w1 : Known) (c0 c1 : C) (count : ℕ) (begun waiting front after now : List ℕ)
+    → SoFar prints r0 r1 w0 w1 c0 c1 count begun waiting → waiting ≡ front ++ after → HasNoEnd front → now ≡ begun ++ front → length now ≤ 256
+    → (count ≡ 1048576 → ⊥) → SoFar prints r0 r1 w0 w1 c0 c1 count now after
+begun_more prints r0 r1 w0 w1 c0 c1 count begun waiting front after now s whole other is short fewer =
+    let R : List ℕ → Type 0 = λ bytes. Consumes r0 r1 (ended s.lines ++ bytes) in
+    let same : begun ++ waiting ≡ now ++ after =
+    ap (λ l. begun ++ l) whole ∙ sym (append_assoc begun front after) ∙ ap (λ l. l ++ after) (sym is) in
+    let few = s.few in
+    record {
+      lines = s.lines;
+      text = s.text;
+      read = subst R same s.read;
+      near = (let near = s.near in omega (arith, near, ap length whole, length-append front after));
+      each = s.each;
+      counted = s.counted;
+      few = s.few;
+      is_line = (subst HasNoEnd (sym is) (All-append (λ b. b ≡ 10 → ⊥) begun front s.is_line.0 other), short);
+      room = λ _. omega arith;
+      runs = s.runs;
+      wrote = s.wrote;
+    }
 
 -- no line
 pub stops_unread : {C : Type 0} (prints : C → Line → List ℕ → C → Type 0) (r0 r1 w0 w1 w2 : Known) (c0 c1 c2 : C) (count : ℕ) (line after : List ℕ)
