@@ -15,7 +15,7 @@ use bytes::Bytes;
 use change_record::{Change, Parts, Tape};
 use overlay::Overlay;
 use plain::SECTOR_BYTES;
-use sector_core::{Bio, BioFields, BioResult, Block, Effect, OutOfMemory, Range, Slot};
+use sector_core::{BioFields, BioResult, Block, Effect, OutOfMemory, Range, Slot};
 use std::alloc::Global;
 
 /// Gives every bio in these slots its result, and puts the blocks of a store or a discard.
@@ -158,7 +158,7 @@ fn put_blocks(
 fn completed_bio(
     alloc: Global,
     overlay: &Overlay,
-    bio: &Bio,
+    bio: &BioFields,
     effect: &Effect,
 ) -> Result<BioFields, OutOfMemory>
     requires { bio.now.range.start + bio.now.range.count < 2 ^ 64 }

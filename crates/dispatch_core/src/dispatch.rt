@@ -17,7 +17,7 @@ ghost use Rattle.dispatch_core.specs.WellFormed.{WellFormed};
 use crate::dispatch_by_bfq::send_by_bfq;
 use crate::{Answer, Code, Reply, Sizes};
 use change_record::{Change, Parts, Tape};
-use request_pool::{Request, RequestPool};
+use request_pool::{RequestFields, RequestPool};
 use sector_core::{OutOfMemory, Range, Scheduler, Slot};
 use tag_set::Issue;
 
@@ -155,7 +155,7 @@ fn send_first(
 }
 
 /// The sectors of a request, from its first bio to its last.
-pub fn range_of_request(pool: &RequestPool, request: &Request) -> Range
+pub fn range_of_request(pool: &RequestPool, request: &RequestFields) -> Range
     ensures start { result.start ≡ first_start pool.now.bios request.now.bios.items }
     ensures count { HasFewSectors pool.now.bios → result.count ≡ total_count pool.now.bios request.now.bios.items }
     ensures small { HasFewSectors pool.now.bios → result.count ≤ 2048 }

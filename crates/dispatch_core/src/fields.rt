@@ -9,7 +9,7 @@ use crate::listed::{Flying, Listed, nth_bio};
 use crate::machine::View;
 use crate::slots::outbox_slots;
 use plain::{InService, Seat};
-use sector_core::{Bio, Entity, Range, Slot};
+use sector_core::{BioFields, Entity, Range, Slot};
 
 // No longer run is told at once.
 const MOST_STORED: u32 = 65536;
@@ -113,7 +113,7 @@ impl<'a> View<'a> {
     }
 
     /// The completed bio at a place of a seat's outbox, the first to be reaped first.
-    pub fn completed(&self, seat: u8, place: usize) -> Option<&'a Bio>
+    pub fn completed(&self, seat: u8, place: usize) -> Option<&'a BioFields>
         ensures bio { option_copied result ≡ slice_get ((plain_of self.now).outbox seat) place }
         ensures few { length ((plain_of self.now).outbox seat) ≤ 32 }
     {

@@ -5,15 +5,15 @@ ghost use Rattle.process_queue.specs.Merge.{bios_at};
 ghost use Rattle.plain.specs.Requests.{size_of};
 
 use crate::dispatch::count_of;
-use request_pool::{Request, RequestPool};
-use sector_core::{Bio, Op, Slot};
+use request_pool::{RequestFields, RequestPool};
+use sector_core::{BioFields, Op, Slot};
 use std::marker::Model;
 
 /// A request that stands somewhere in a machine. Its bios are in the order of their sectors.
 #[derive(Drop)]
 pub struct Listed<'a> {
     pub(crate) pool: &'a RequestPool,
-    pub(crate) request: &'a Request,
+    pub(crate) request: &'a RequestFields,
 }
 
 impl<'a> Model for Listed<'a> {
@@ -47,7 +47,7 @@ impl<'a> Listed<'a> {
     }
 
     /// The bio at a place, counted from 0 in the order of their sectors.
-    pub fn bio(&self, place: usize) -> Option<&'a Bio>
+    pub fn bio(&self, place: usize) -> Option<&'a BioFields>
         ensures bio { option_copied result ≡ slice_get self.now.bios place }
         ensures few { length self.now.bios ≤ 32 }
     {
@@ -108,7 +108,7 @@ fn size_of(pool: &RequestPool, slots: &[Slot]) -> u64
 }
 
 /// The bio at a place of those in these slots.
-pub fn nth_bio<'a>(pool: &'a RequestPool, slots: &[Slot], place: usize) -> Option<&'a Bio>
+pub fn nth_bio<'a>(pool: &'a RequestPool, slots: &[Slot], place: usize) -> Option<&'a BioFields>
     ensures { option_copied result ≡ slice_get (bios_at pool.now.bios slots.now) place }
 {
     let mut left = place;

@@ -14,7 +14,7 @@ use crate::slots::outbox_slots;
 use crate::{Answer, Cause, Code, Reply, Sizes};
 use change_record::{Change, Outbox, Parts, Tape};
 use plain::{SEATS, Seat};
-use sector_core::{Bio, BioResult, OutOfMemory, Slot};
+use sector_core::{BioFields, BioResult, OutOfMemory, Slot};
 
 /// The session's bios come in the order in which they were completed.
 pub fn run_reap(
@@ -87,7 +87,7 @@ fn found_bio(
 }
 
 // What became of a completed bio.
-fn result_of_bio(bio: &Bio) -> Result<BioResult, OutOfMemory>
+fn result_of_bio(bio: &BioFields) -> Result<BioResult, OutOfMemory>
     ensures { IfOk result (λ copy. copy ≡ unwrap_or bio.now.result Written) }
 {
     match &bio.result {

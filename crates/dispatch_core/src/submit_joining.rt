@@ -61,7 +61,7 @@ pub fn submit_joined(
 }
 
 // A request with the slot of one more bio, at the front or at the end.
-fn with_slot(request: &Request, place: Slot, front: bool) -> RequestFields
+fn with_slot(request: &RequestFields, place: Slot, front: bool) -> RequestFields
     requires { length request.now.bios.items < 32 }
     ensures { result ≡ joined_request front place request.now }
 {

@@ -6,7 +6,7 @@ ghost use Rattle.plain.specs.Merge.{first_merge, has_room, joins, joins_at, may_
 
 use crate::ProcessQueue;
 use plain::Shape;
-use request_pool::{Request, RequestPool};
+use request_pool::{RequestFields, RequestPool};
 use sector_core::{Op, Range, Slot};
 
 // How many sectors a request has at most.
@@ -33,7 +33,7 @@ fn sectors(range: Range) -> u64
 }
 
 // What a merge asks of a request, read from the last of its bios to the first.
-pub(crate) fn shape_of(pool: &RequestPool, request: &Request) -> Shape
+pub(crate) fn shape_of(pool: &RequestPool, request: &RequestFields) -> Shape
     ensures { result ≡ shape_of request.now.session request.now.op (bios_at pool.now.bios request.now.bios.items) }
 {
     let slots = request.bios.as_slice();
@@ -42,9 +42,8 @@ pub(crate) fn shape_of(pool: &RequestPool, request: &Request) -> Shape
     let mut bios = 0;
     for i in (0..slots.len()).rev() {
         if let Some(bio) = pool.bio(slots[i]) {
-            let range = bio.range;
-            start = range.start;
-            size += sectors(range);
+            start = bio.range.start;
+            size += sectors(bio.range);
             bios += 1;
         }
     }

@@ -4,7 +4,7 @@ use crate::told::{add_numbers, add_step, add_work, class_number, scheduler_numbe
 use dispatch_core::{Flying, Listed, View};
 use history::KeeperView;
 use plain::{EntityView, RequestView, SectorView, State};
-use sector_core::{Bio, Class};
+use sector_core::{BioFields, Class};
 
 const SEATS: u8 = 16;
 
@@ -151,7 +151,7 @@ fn add_request(to: &mut Digest, request: &Listed<'_>) {
     }
 }
 
-fn add_bio(to: &mut Digest, bio: &Bio) {
+fn add_bio(to: &mut Digest, bio: &BioFields) {
     to.add(bio.serial);
     to.add_range(bio.range);
     to.add_bytes(bio.payload.as_slice());

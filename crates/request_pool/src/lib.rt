@@ -21,7 +21,7 @@ ghost use Rattle.request_pool.specs.Slots.{AreTaken, seat_slots};
 
 use arrayvec::ArrayVec;
 use boxed::Boxed;
-use sector_core::{Bio, Op, OutOfMemory, Slot, empty_table};
+use sector_core::{Bio, BioFields, Op, OutOfMemory, Slot, empty_table};
 use std::alloc::Global;
 use std::marker::Model;
 use std::mem;
@@ -81,21 +81,23 @@ impl RequestPool {
     }
 
     /// The request in a slot, if there is one.
-    pub fn request(&self, slot: Slot) -> Option<&Request>
+    pub fn request(&self, slot: Slot) -> Option<&RequestFields>
         ensures { option_copied result ≡ slice_index_or self.now.requests slot None }
     {
         match self.requests.get(usize::from(slot)) {
-            Some(place) => place.as_ref(),
+            Some(Some(request)) => Some(&**request),
+            Some(None) => None,
             None => None,
         }
     }
 
     /// The bio in a slot, if there is one.
-    pub fn bio(&self, slot: Slot) -> Option<&Bio>
+    pub fn bio(&self, slot: Slot) -> Option<&BioFields>
         ensures { option_copied result ≡ slice_index_or self.now.bios slot None }
     {
         match self.bios.get(usize::from(slot)) {
-            Some(place) => place.as_ref(),
+            Some(Some(bio)) => Some(&**bio),
+            Some(None) => None,
             None => None,
         }
     }

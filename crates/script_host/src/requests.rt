@@ -7,7 +7,7 @@ ghost use Rattle.plain.specs.Steps.Finish.{seat_of};
 ghost use Rattle.host_console.specs.Views.{op_text, next_text, bios_text, listed_text, queued_text, queue_look, owner_text, owned_text, again_text, requeued_look};
 
 use dispatch_core::{Listed, View};
-use sector_core::{Bio, Op};
+use sector_core::{BioFields, Op};
 use std::io::{self, Write};
 
 /// No request has more bios.
@@ -175,7 +175,7 @@ fn put_others(request: &Listed<'_>, out: &mut Vec<u8>) -> io::Result<()>
 }
 
 // Appends the serial of a bio after a comma.
-fn put_next(bio: &Bio, out: &mut Vec<u8>) -> io::Result<()>
+fn put_next(bio: &BioFields, out: &mut Vec<u8>) -> io::Result<()>
     ensures { OnOk result (out.new.items ≡ out.old.items ++ next_text bio.now) }
 {
     let serial = bio.serial;

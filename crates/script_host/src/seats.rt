@@ -7,7 +7,7 @@ ghost use Rattle.host_console.specs.Views.{presence_text, sitting_text, seat_loo
 
 use dispatch_core::View;
 use plain::Seat;
-use sector_core::{Bio, BioResult, FailKind};
+use sector_core::{BioFields, BioResult, FailKind};
 use std::io::{self, Write};
 
 /// No outbox has more bios.
@@ -81,7 +81,7 @@ fn put_completed(view: &View<'_>, seat: u8, out: &mut Vec<u8>) -> io::Result<()>
 }
 
 // Appends a completed bio after one space.
-fn put_bio(bio: &Bio, out: &mut Vec<u8>) -> io::Result<()>
+fn put_bio(bio: &BioFields, out: &mut Vec<u8>) -> io::Result<()>
     ensures { OnOk result (out.new.items ≡ out.old.items ++ completed_text bio.now) }
 {
     let serial = bio.serial;
@@ -90,7 +90,7 @@ fn put_bio(bio: &Bio, out: &mut Vec<u8>) -> io::Result<()>
 }
 
 /// What became of a bio.
-pub fn result_word(bio: &Bio) -> &'static str
+pub fn result_word(bio: &BioFields) -> &'static str
     ensures { result.now ≡ result_text bio.now.result }
 {
     match &bio.result {

@@ -47,14 +47,14 @@ fn fetch(alloc: Global, serial: u64) -> Result<Bio, Fail> {
     Ok(Boxed::new(alloc, bio)?)
 }
 
-fn session_of(request: Option<&Request>) -> Option<u64> {
+fn session_of(request: Option<&RequestFields>) -> Option<u64> {
     match request {
         Some(request) => Some(request.session),
         None => None,
     }
 }
 
-fn serial_of(bio: Option<&Bio>) -> Option<u64> {
+fn serial_of(bio: Option<&BioFields>) -> Option<u64> {
     match bio {
         Some(bio) => Some(bio.serial),
         None => None,

@@ -4,11 +4,11 @@ ghost use Rattle.host_console.specs.State.{became_text, bio_text, bytes_text, do
 
 use crate::seats::result_word;
 use checksum::{crc32, put_sum};
-use sector_core::{Bio, BioResult, Range};
+use sector_core::{BioFields, BioResult, Range};
 use std::io::{self, Write};
 
 /// Appends a bio: its sectors, and the sum of the bytes that it stores. It fails only for want of memory.
-pub fn put_bio(bio: &Bio, out: &mut Vec<u8>) -> io::Result<()>
+pub fn put_bio(bio: &BioFields, out: &mut Vec<u8>) -> io::Result<()>
     ensures { OnOk result (out.new.items ≡ out.old.items ++ bio_text bio.now) }
 {
     let Range { start, count } = bio.range;
@@ -28,7 +28,7 @@ fn put_bytes(bytes: &[u8], out: &mut Vec<u8>) -> io::Result<()>
 }
 
 /// Appends a completed bio after one space: what became of it, with the sum of the bytes that it read. It fails only for want of memory.
-pub fn put_done(bio: &Bio, out: &mut Vec<u8>) -> io::Result<()>
+pub fn put_done(bio: &BioFields, out: &mut Vec<u8>) -> io::Result<()>
     ensures { OnOk result (out.new.items ≡ out.old.items ++ done_text bio.now) }
 {
     write!(out, " ")?;
@@ -38,7 +38,7 @@ pub fn put_done(bio: &Bio, out: &mut Vec<u8>) -> io::Result<()>
 }
 
 // Appends what became of a bio.
-fn put_became(bio: &Bio, out: &mut Vec<u8>) -> io::Result<()>
+fn put_became(bio: &BioFields, out: &mut Vec<u8>) -> io::Result<()>
     ensures { OnOk result (out.new.items ≡ out.old.items ++ became_text bio.now.result) }
 {
     let word = result_word(bio);

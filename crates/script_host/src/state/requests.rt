@@ -7,7 +7,7 @@ ghost use Rattle.host_console.specs.State.{again_text, bios_text, next_text, own
 use super::bios::put_bio;
 use crate::requests::{MOST_BIOS, op_word, put_owner, seat_of};
 use dispatch_core::{Listed, View};
-use sector_core::Bio;
+use sector_core::BioFields;
 use std::io::{self, Write};
 
 /// Appends a request after one space. It fails only for want of memory.
@@ -71,7 +71,7 @@ fn put_others(request: &Listed<'_>, out: &mut Vec<u8>) -> io::Result<()>
 }
 
 // Appends a bio after a comma.
-fn put_next(bio: &Bio, out: &mut Vec<u8>) -> io::Result<()>
+fn put_next(bio: &BioFields, out: &mut Vec<u8>) -> io::Result<()>
     ensures { OnOk result (out.new.items ≡ out.old.items ++ next_text bio.now) }
 {
     write!(out, ",")?;

@@ -14,7 +14,7 @@ loop-sector-preserved c =
     record {
       blocks = with_zeros-more c.loop-sector.parts.tables.overlay c.try_exchange.new.parts.tables.overlay c.in_ok-zeros.zeros c.loop-sector.sector c.end-sector-end.result
           (with_zeros c.args.parts.now.tables.overlay c.args.range.start c.args.range.count)
-          c.loop-sector-test.true (c.in_ok-zeros.ensures ∙ c.zeros.ensures) put c.loop-sector.invariant.blocks;
+          c.loop-sector-test.true c.in_ok-zeros.ensures put c.loop-sector.invariant.blocks;
       others = only_overlay c.args.parts.now.tables c.loop-sector.parts.tables c.try_exchange.new.parts.tables (blocks.insert c.loop-sector.parts.tables.overlay c.loop-sector.sector c.in_ok-zeros.zeros) c.loop-sector.invariant.others c.in_ok-try_exchange.ensures.tables;
       trail = λ o h. c.try_exchange.ensures.trail o (c.loop-sector.invariant.trail o h);
       steps = c.try_exchange.ensures.steps ∙ c.loop-sector.invariant.steps;
