@@ -2,6 +2,7 @@
 ghost use Rattle.std.specs.Prelude.{◌≡◌, length};
 ghost use Rattle.host_core.specs.Seats.{staged, collected};
 
+use crate::threads::{ask_four, pause};
 use host_calls::{ClientCall, RingReply};
 use host_core::{Bell, ClientReplies, Desk, Patience, Seat, open_seat};
 use plain::{Answer, Code};
@@ -14,12 +15,18 @@ use std::thread::{self, Threads};
 const CALLS: u64 = 1000;
 
 // Refuses so many calls, and then says that the core has ended. After so many looks that found none it sleeps.
-fn refuse_all<R: Wait>(rt: &R, mut desk: Desk<ClientCall, ClientReplies>, bell: &Bell, looks: u32) {
+fn refuse_all<R: Wait>(
+    rt: &R,
+    mut desk: Desk<ClientCall, ClientReplies>,
+    bell: &Bell,
+    calls: u64,
+    looks: u32,
+) {
     let mut refused = 0u64;
     let mut patience = Patience::new(looks);
     for _ in rt.forever() {
         desk.take();
-        if desk.is_closed() || refused == CALLS {
+        if desk.is_closed() || refused == calls {
             break;
         }
         if desk.waiting().is_some() {
@@ -60,7 +67,7 @@ fn asked<R: Threads + Wait + Copy + Drop + Send + 'static>(
     let core = Bell::new(alloc)?;
     let bell = core.shared()?;
     let (seat, desk) = open_seat::<ClientCall, ClientReplies>(alloc, &core, 0, looks)?;
-    let host = thread::spawn(&rt, move || refuse_all(&rt, desk, &bell, looks))?;
+    let host = thread::spawn(&rt, move || refuse_all(&rt, desk, &bell, CALLS, looks))?;
     let result = ask_all(&rt, seat);
     let _ = host.join(&rt);
     Ok(result)
@@ -72,5 +79,31 @@ fn each_call_is_answered(rt: HostRuntime) -> Result<(), Fail> {
     for looks in [0, 1, 100] {
         assert_eq!(rt; asked(rt, rt.alloc(), looks)?, (CALLS, true));
     }
+    Ok(())
+}
+
+// Four calls at once, made by who sleeps when the first of them is answered. Gives whether all are answered.
+fn asked_asleep<R: Threads + Wait + Copy + Drop + Send + 'static>(
+    rt: R,
+    alloc: Global,
+) -> Result<bool, Fail> {
+    let core = Bell::new(alloc)?;
+    let bell = core.shared()?;
+    let (mut seat, desk) = open_seat::<ClientCall, ClientReplies>(alloc, &core, 0, 0)?;
+    let host = thread::spawn(&rt, move || {
+        // The calls are there, and with no look who made them sleeps soon.
+        bell.rest(&rt, true);
+        pause();
+        refuse_all(&rt, desk, &bell, 4, 0);
+    })?;
+    let are_answered = ask_four(&rt, &mut seat, false);
+    let _ = host.join(&rt);
+    Ok(are_answered)
+}
+
+// Behind the third answer the fourth call waits for a place. Who sleeps is woken there.
+#[test]
+fn a_seat_without_a_place_is_woken(rt: HostRuntime) -> Result<(), Fail> {
+    assert_eq!(rt; asked_asleep(rt, rt.alloc())?, true);
     Ok(())
 }

@@ -24,8 +24,8 @@ fn attach() -> ClientCall {
     }
 }
 
-// Waits until the core is likely to sleep.
-fn pause() {
+// Waits until another thread that has nothing to do is likely to sleep.
+pub fn pause() {
     for _ in 0..YIELDS {
         thread::yield_now();
     }
@@ -89,7 +89,7 @@ fn collect<R: Wait>(rt: &R, seat: &mut Caller) -> bool
 
 // Stages four calls while the core sleeps, and collects the four replies. Between, it waits until the core sleeps again, if it is to. Gives
 // whether all are answers.
-fn ask_four<R: Wait>(rt: &R, seat: &mut Caller, sleeps_between: bool) -> bool
+pub fn ask_four<R: Wait>(rt: &R, seat: &mut Caller, sleeps_between: bool) -> bool
     requires { IsIdle seat.old }
 {
     pause();
